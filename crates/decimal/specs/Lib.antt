@@ -1,0 +1,2 @@
+-- Scaled numbers.
+pub mod Number

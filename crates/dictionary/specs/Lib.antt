@@ -1,0 +1,5 @@
+-- The house dictionary and its records.
+pub mod Format
+pub mod Dictionary
+pub mod Names
+pub mod Record

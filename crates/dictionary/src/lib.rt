@@ -1,0 +1,1 @@
+// The house dictionary and its records.

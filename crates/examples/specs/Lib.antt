@@ -1,0 +1,2 @@
+-- Answers in the numbers of document 01.
+pub mod Answers

@@ -1,0 +1,130 @@
+-- 01: "Kinds are number, text, date."
+use Prim.Native.Nat.{ℕ}
+use mathlib.Core.Path.{_≡_}
+use mathlib.Core.Bool.{Bool, true, false, cond, _&&_}
+use mathlib.Core.Option.{Option, none, some, Option·map}
+use lib.IntN.{ℤ, pos, negsuc, _+ℤ_, _-ℤ_}
+use lib.Signed.{ltZ, leZ}
+use Rattle.wire.specs.Words.{signed}
+use Rattle.wire.specs.Lists.{isSome}
+use Rattle.wire.specs.declared.codes.Operator.{Operator}
+use Rattle.wire.specs.declared.codes.Operator.the-variants.{Add, Subtract, Multiply, Divide}
+use Rattle.wire.specs.declared.codes.DataType.the-variants as Data
+use Rattle.wire.specs.declared.codes.FieldType.{FieldType}
+use Rattle.wire.specs.declared.codes.FieldType.the-variants.{Plain, Reading}
+use Rattle.dictionary.specs.Format.{Format}
+use Rattle.grammar.specs.declared.Kind.{Kind}
+use Rattle.grammar.specs.declared.Kind.the-variants.{Number, Text, Date}
+use Rattle.grammar.specs.Tree.{Literal, Reference, field, parameter, parameter2, Value, literal, reference, arithmetic, negate}
+use Rattle.grammar.specs.Names.{Environment, Scope, parameterFormat, fieldFormat}
+
+-- ---- the kind of a value, if its parts fit
+
+abbrev pub typeKind : FieldType → ℕ → Kind
+typeKind (Plain (Data.Number w)) scale = Number (signed 1 scale)
+typeKind (Plain Data.Date) scale = Date
+typeKind (Plain (Data.Chars t)) scale = Text
+typeKind Reading scale = Number (signed 1 scale)
+
+unfoldable pub formatKind : Format → Kind
+formatKind f = typeKind (f .type) (f .scale)
+
+unfoldable pub literalKind : Literal → Kind
+literalKind (Literal.number w scale n) = Number (signed 1 scale)
+literalKind (Literal.text t) = Text
+
+-- 01: "a flag a number"
+abbrev pub flagged : Option Kind → Option Kind → Option Kind
+flagged (some (Number s)) k = k
+flagged (some Text) k = none
+flagged (some Date) k = none
+flagged none k = none
+
+abbrev pub parameterKind : Environment → ℕ → ℕ → Option Kind
+parameterKind e m i = Option·map formatKind (parameterFormat e m i)
+
+unfoldable pub referenceKind : Environment → Scope → Reference → Option Kind
+referenceKind e sc (field c n) = Option·map formatKind (fieldFormat sc c n)
+referenceKind e sc (parameter m i) = parameterKind e m i
+referenceKind e sc (parameter2 m i flag) = flagged (parameterKind e m flag) (parameterKind e m i)
+
+-- 01: "Add and subtract take the smaller scale, multiply the sum, divide first minus second."
+abbrev pub resultScale : Operator → ℤ → ℤ → ℤ
+resultScale Add a b = cond (ltZ a b) a b
+resultScale Subtract a b = cond (ltZ a b) a b
+resultScale Multiply a b = a +ℤ b
+resultScale Divide a b = a -ℤ b
+
+-- 01: "arithmetic -18 to 0"
+abbrev pub arithmeticRange : ℤ → Option Kind
+arithmeticRange s = cond (leZ (negsuc 17) s && leZ s (pos 0)) (some (Number s)) none
+
+-- 01: "arithmetic numbers"
+abbrev pub negatedKind : Option Kind → Option Kind
+negatedKind (some (Number s)) = some (Number s)
+negatedKind (some Text) = none
+negatedKind (some Date) = none
+negatedKind none = none
+
+abbrev pub secondOperand : Operator → ℤ → Option Kind → Option Kind
+secondOperand o a (some (Number b)) = arithmeticRange (resultScale o a b)
+secondOperand o a (some Text) = none
+secondOperand o a (some Date) = none
+secondOperand o a none = none
+
+unfoldable pub arithmeticKind : Operator → Option Kind → Option Kind → Option Kind
+arithmeticKind o (some (Number a)) k = secondOperand o a k
+arithmeticKind o (some Text) k = none
+arithmeticKind o (some Date) k = none
+arithmeticKind o none k = none
+
+unfoldable pub kindOf : Environment → Scope → Value → Option Kind
+kindOf e sc (literal l) = some (literalKind l)
+kindOf e sc (reference r) = referenceKind e sc r
+kindOf e sc (arithmetic o v w) = arithmeticKind o (kindOf e sc v) (kindOf e sc w)
+kindOf e sc (negate v) = negatedKind (kindOf e sc v)
+
+-- ---- tests, which reading makes too
+
+abbrev pub alike : Kind → Kind → Bool
+alike (Number a) (Number b) = true
+alike (Number a) Text = false
+alike (Number a) Date = false
+alike Text (Number b) = false
+alike Text Text = true
+alike Text Date = false
+alike Date (Number b) = false
+alike Date Text = false
+alike Date Date = true
+
+-- 01: "Comparisons and between want one kind"; "an assignment one kind"
+unfoldable pub oneKind : Option Kind → Option Kind → Bool
+oneKind (some a) (some b) = alike a b
+oneKind (some a) none = false
+oneKind none b = false
+
+-- 01: "53–55 text"
+unfoldable pub bothText : Option Kind → Option Kind → Bool
+bothText a b = oneKind a (some Text) && oneKind b (some Text)
+
+unfoldable pub allOneKind : Option Kind → Option Kind → Option Kind → Bool
+allOneKind a b c = oneKind a b && oneKind a c
+
+-- ---- the rules
+
+-- the parts of a value fit
+abbrev pub Fits : Environment → Scope → Value → Type 0
+Fits e sc v = isSome (kindOf e sc v) ≡ true
+
+abbrev pub OneKind : Environment → Scope → Value → Value → Type 0
+OneKind e sc v w = oneKind (kindOf e sc v) (kindOf e sc w) ≡ true
+
+abbrev pub BothText : Environment → Scope → Value → Value → Type 0
+BothText e sc v w = bothText (kindOf e sc v) (kindOf e sc w) ≡ true
+
+abbrev pub AllOneKind : Environment → Scope → Value → Value → Value → Type 0
+AllOneKind e sc v w x = allOneKind (kindOf e sc v) (kindOf e sc w) (kindOf e sc x) ≡ true
+
+-- the flag of a target fits, and the target is of the kind of the value assigned
+abbrev pub Assigned : Environment → Scope → Value → Reference → Type 0
+Assigned e sc v t = oneKind (kindOf e sc v) (referenceKind e sc t) ≡ true

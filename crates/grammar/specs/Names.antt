@@ -1,0 +1,102 @@
+-- What the names in a request stand for: contexts, messages, parameters and fields.
+use Prim.Native.Nat.{ℕ}
+use mathlib.Core.Bool.{Bool, true, false}
+use mathlib.Core.List.{List, [], _∷_, _++_, map}
+use mathlib.Core.Option.{Option, none, some, Option·map}
+use lib.Dec.{eqb}
+use lib.ListN.{length, getElem?}
+use Rattle.wire.specs.Lists.{find, _andThen_}
+use Rattle.wire.specs.declared.codes.DataType.the-variants.{Number, Date, Chars}
+use Rattle.wire.specs.declared.codes.FieldType.the-variants.{Plain}
+use Rattle.dictionary.specs.Format.{Format, widthBytes}
+use Rattle.dictionary.specs.Dictionary.{Relation}
+use Rattle.dictionary.specs.Names.{Name, relationOf, fieldOf, formatOf}
+use Rattle.grammar.specs.declared.Opener.{Opener}
+use Rattle.grammar.specs.declared.Opener.the-variants as Opener
+use Rattle.grammar.specs.Tree.{Descriptor, Message, Stream, Heading, loop, modify, handler, receive, send, store, label, Rse, rse}
+
+-- what stands around all statements: the relations of the dictionary and the messages of the request
+pub record Environment : Type 0 where
+  pub relations : List Relation
+  pub messages : List Message
+
+-- a context: its number, its relation if that is known, and what opened it
+pub record Context : Type 0 where
+  pub number : ℕ
+  pub relation : Option Relation
+  pub opener : Opener
+
+-- what is in scope at a place: contexts in the order of their declarations, the context that a field target names, the messages being
+-- sent, the labels around, and whether a store or a modify is around
+pub record Scope : Type 0 where
+  pub contexts : List Context
+  pub target : Option ℕ
+  pub sends : List ℕ
+  pub labels : List ℕ
+  pub updates : Bool
+
+abbrev pub outermost : Scope
+outermost = record { contexts = []; target = none; sends = []; labels = []; updates = false }
+
+-- 01: "Context numbers, message numbers and label numbers are three countings: a 1 in one is never a 1 in another."
+unfoldable pub contextOf : Scope → ℕ → Option Context
+contextOf sc c = find (λ x. eqb (x .number) c) (sc .contexts)
+
+unfoldable pub messageOf : Environment → ℕ → Option Message
+messageOf e m = find (λ x. eqb (x .number) m) (e .messages)
+
+abbrev pub relationIn : Context → Option Relation
+relationIn x = x .relation
+
+-- the relation of a context
+unfoldable pub relationOfContext : Scope → ℕ → Option Relation
+relationOfContext sc c = contextOf sc c andThen relationIn
+
+-- ---- scopes
+
+abbrev pub streamContext : List Relation → Opener → Stream → Context
+streamContext d by s = record { number = s .context; relation = relationOf d (s .relation); opener = by }
+
+abbrev pub withContexts : Scope → List Context → Scope
+withContexts sc xs =
+    record { contexts = sc .contexts ++ xs; target = sc .target; sends = sc .sends; labels = sc .labels; updates = sc .updates }
+
+-- 01: "A context of an rse is in scope from the byte after its last stream to the end of its for"
+unfoldable pub underStreams : List Relation → Scope → List Stream → Scope
+underStreams d sc ss = withContexts sc (map (streamContext d Opener.For) ss)
+
+unfoldable pub underRse : List Relation → Scope → Rse → Scope
+underRse d sc (rse ss cs) = underStreams d sc ss
+
+-- 01: "that of store or a modify's to-ctx, throughout its substatement"
+abbrev pub underUpdate : Scope → Context → Scope
+underUpdate sc x =
+    record { contexts = sc .contexts ++ (x ∷ []); target = some (x .number); sends = sc .sends; labels = sc .labels; updates = true }
+
+-- 01: "relation id (modify: of its from-ctx)"
+abbrev pub modifyContext : Scope → ℕ → ℕ → Context
+modifyContext sc from to = record { number = to; relation = relationOfContext sc from; opener = Opener.Modify }
+
+unfoldable pub underHeading : List Relation → Scope → Heading → Scope
+underHeading d sc loop = sc
+underHeading d sc (modify from to) = underUpdate sc (modifyContext sc from to)
+underHeading d sc handler = sc
+underHeading d sc (receive m) = sc
+underHeading d sc (send m) =
+    record { contexts = sc .contexts; target = sc .target; sends = m ∷ sc .sends; labels = sc .labels; updates = sc .updates }
+underHeading d sc (store s) = underUpdate sc (streamContext d Opener.Store s)
+underHeading d sc (label n) =
+    record { contexts = sc .contexts; target = sc .target; sends = sc .sends; labels = n ∷ sc .labels; updates = sc .updates }
+
+-- ---- fields and parameters
+
+unfoldable pub descriptorFormat : Descriptor → Format
+descriptorFormat (Descriptor.number w scale) = record { type = Plain (Number w); scale = scale; size = widthBytes w }
+descriptorFormat Descriptor.date = record { type = Plain Date; scale = 0; size = 8 }
+descriptorFormat (Descriptor.text t n) = record { type = Plain (Chars t); scale = 0; size = n }
+
+unfoldable pub parameterFormat : Environment → ℕ → ℕ → Option Format
+parameterFormat e m i = messageOf e m andThen λ x. Option·map descriptorFormat (getElem? (x .descriptors) i)
+
+unfoldable pub fieldFormat : Scope → ℕ → Name → Option Format
+fieldFormat sc c n = relationOfContext sc c andThen λ r. fieldOf r n andThen formatOf r

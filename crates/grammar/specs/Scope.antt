@@ -1,0 +1,93 @@
+-- 01, "Scope and kind": the rules of scope for each part of a request, and that every name stands for something.
+use Prim.Native.Nat.{ℕ}
+use mathlib.Core.Path.{_≡_}
+use mathlib.Core.Bool.{Bool, true, false}
+use mathlib.Core.List.{List, [], _∷_}
+use mathlib.Core.Option.{Option, none, some}
+use lib.Dec.{eqb}
+use Rattle.wire.specs.Lists.{among, isSome}
+use Rattle.dictionary.specs.Dictionary.{Relation}
+use Rattle.dictionary.specs.Names.{relationOf}
+use Rattle.grammar.specs.declared.Opener.{Opener}
+use Rattle.grammar.specs.declared.Opener.the-variants as Opener
+use Rattle.grammar.specs.Tree.{Message, Stream, Reference, field, parameter, parameter2, Heading, loop, modify, handler, receive, send, store, label, Receives, last, more}
+use Rattle.grammar.specs.Names.{Environment, Context, Scope, contextOf, messageOf, parameterFormat, fieldFormat}
+
+-- ---- tests, which reading makes too
+
+unfoldable pub inScope : Scope → ℕ → Bool
+inScope sc c = isSome (contextOf sc c)
+
+unfoldable pub declared : Environment → ℕ → Bool
+declared e m = isSome (messageOf e m)
+
+abbrev pub openedByFor : Option Context → Bool
+openedByFor none = false
+openedByFor (some x) = byFor (x .opener)
+  where
+    byFor : Opener → Bool
+    byFor Opener.For = true
+    byFor Opener.Store = false
+    byFor Opener.Modify = false
+
+-- 01: "Erase and modify name a context from a for."
+unfoldable pub ofFor : Scope → ℕ → Bool
+ofFor sc c = openedByFor (contextOf sc c)
+
+abbrev pub isNumber : Option ℕ → ℕ → Bool
+isNumber none c = false
+isNumber (some x) c = eqb x c
+
+-- 01: "A field target names the context of the nearest enclosing modify or store; a parameter target stands inside a send of its message."
+unfoldable pub fieldTarget : Scope → ℕ → Bool
+fieldTarget sc c = isNumber (sc .target) c
+
+unfoldable pub parameterTarget : Scope → ℕ → Bool
+parameterTarget sc m = among m (sc .sends)
+
+-- ---- the rules
+
+abbrev pub Known : Environment → Scope → Reference → Type 0
+Known e sc (field c n) = isSome (fieldFormat sc c n) ≡ true
+Known e sc (parameter m i) = isSome (parameterFormat e m i) ≡ true
+Known e sc (parameter2 m i flag) = (isSome (parameterFormat e m i) ≡ true) × (isSome (parameterFormat e m flag) ≡ true)
+
+abbrev pub Target : Scope → Reference → Type 0
+Target sc (field c n) = fieldTarget sc c ≡ true
+Target sc (parameter m i) = parameterTarget sc m ≡ true
+Target sc (parameter2 m i flag) = parameterTarget sc m ≡ true
+
+-- 01: "A number already in scope cannot be declared again, nor twice among the streams of one rse (11); after its scope it can."
+abbrev pub StreamScoped : List Relation → Scope → List ℕ → Stream → Type 0
+StreamScoped d sc before s =
+    (isSome (relationOf d (s .relation)) ≡ true) × (inScope sc (s .context) ≡ false) × (among (s .context) before ≡ false)
+
+abbrev pub StreamsScoped : List Relation → Scope → List ℕ → List Stream → Type 0
+StreamsScoped d sc before [] = Unit {0}
+StreamsScoped d sc before (s ∷ ss) = StreamScoped d sc before s × StreamsScoped d sc (s .context ∷ before) ss
+
+-- 01: "Store and modify contain no send or receive."
+abbrev pub Exchanged : Environment → Scope → ℕ → Type 0
+Exchanged e sc m = (sc .updates ≡ false) × (declared e m ≡ true)
+
+abbrev pub HeadingScoped : Environment → Scope → Heading → Type 0
+HeadingScoped e sc loop = Unit {0}
+HeadingScoped e sc (modify from to) = (ofFor sc from ≡ true) × (inScope sc to ≡ false)
+HeadingScoped e sc handler = Unit {0}
+HeadingScoped e sc (receive m) = Exchanged e sc m
+HeadingScoped e sc (send m) = Exchanged e sc m
+HeadingScoped e sc (store s) = StreamScoped (e .relations) sc [] s
+HeadingScoped e sc (label n) = Unit {0}
+
+-- 01: "Leave stands inside a label of its number and means the nearest; labels may repeat."
+abbrev pub Labelled : Scope → ℕ → Type 0
+Labelled sc n = among n (sc .labels) ≡ true
+
+-- 01: "select 13, one or more receive statements of different messages"
+abbrev pub Selected : Environment → Scope → List ℕ → ℕ → Type 0
+Selected e sc before m = Exchanged e sc m × (among m before ≡ false)
+
+-- no message is declared twice
+abbrev pub Distinct : List ℕ → List Message → Type 0
+Distinct before [] = Unit {0}
+Distinct before (m ∷ ms) = (among (m .number) before ≡ false) × Distinct (m .number ∷ before) ms

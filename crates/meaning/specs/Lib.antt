@@ -1,0 +1,6 @@
+-- The meaning of a condition, and the answer of evaluation.
+pub mod Decoding
+pub mod Data
+pub mod Inputs
+pub mod Meaning
+pub mod Evaluation

@@ -1,0 +1,8 @@
+// The meaning of a condition.
+
+// What a condition comes out as.
+pub enum Truth {
+    True,
+    False,
+    Missing,
+}

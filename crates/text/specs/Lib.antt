@@ -1,0 +1,3 @@
+-- Texts.
+pub mod Value
+pub mod Tests

@@ -1,0 +1,5 @@
+-- Bytes, words, lists and codes.
+pub mod Words
+pub mod Lists
+pub mod Codes
+pub mod Classes

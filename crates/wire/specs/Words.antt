@@ -1,0 +1,30 @@
+-- Numbers in bytes.
+use Prim.Native.Nat.{ℕ, _+_, _*_, _-_, _^_, _/_, _%_}
+use mathlib.Core.List.{List, [], _∷_, _++_}
+use mathlib.Core.Bool.{cond}
+use lib.Dec.{ltb}
+use lib.ListN.{getD}
+use lib.IntN.{ℤ, pos, _-ℤ_}
+
+-- the byte at a place; 0 past the end
+abbrev pub byteAt : List ℕ → ℕ → ℕ
+byteAt s p = getD s p 0
+
+-- 01: "Words are little-endian."
+abbrev pub wordAt : List ℕ → ℕ → ℕ
+wordAt s p = byteAt s p + 256 * byteAt s (p + 1)
+
+-- four bytes
+abbrev pub longAt : List ℕ → ℕ → ℕ
+longAt s p = wordAt s p + 65536 * wordAt s (p + 2)
+
+-- the bytes of a word, and of a four-byte number
+abbrev pub wordBytes : ℕ → List ℕ
+wordBytes n = n % 256 ∷ n / 256 ∷ []
+
+abbrev pub longBytes : ℕ → List ℕ
+longBytes n = wordBytes (n % 65536) ++ wordBytes (n / 65536)
+
+-- a number of w bytes, signed: two's complement, over the width
+unfoldable pub signed : ℕ → ℕ → ℤ
+signed w n = cond (ltb n (2 ^ (8 * w - 1))) (pos n) (pos n -ℤ pos (2 ^ (8 * w)))

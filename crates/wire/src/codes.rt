@@ -1,0 +1,114 @@
+// What a code says at the kind of place where it is due.
+pub enum StatementCode {
+    Assignment,
+    Begin,
+    Erase,
+    For,
+    Loop,
+    Modify,
+    Handler,
+    Receive,
+    Send,
+    Store,
+    Label,
+    Leave,
+    If,
+    Select,
+}
+
+// What a value or a target names.
+pub enum ReferenceCode {
+    Field,
+    Fid,
+    Parameter,
+    Parameter2,
+}
+
+pub enum Operator {
+    Add,
+    Subtract,
+    Multiply,
+    Divide,
+}
+
+pub enum ValueCode {
+    Literal,
+    Reference(ReferenceCode),
+    Arithmetic(Operator),
+    Negate,
+}
+
+pub enum Comparison {
+    Eql,
+    Neq,
+    Gtr,
+    Geq,
+    Lss,
+    Leq,
+}
+
+pub enum TextSearch {
+    Containing,
+    Matching,
+    Starting,
+}
+
+pub enum Connective {
+    Or,
+    And,
+}
+
+pub enum BooleanCode {
+    Compare(Comparison),
+    Search(TextSearch),
+    Between,
+    Connect(Connective),
+    Not,
+    Missing,
+}
+
+pub enum StreamCode {
+    Relation,
+    Rid,
+}
+
+pub enum ClauseCode {
+    Boolean,
+    Sort,
+    End,
+}
+
+pub enum Direction {
+    Ascending,
+    Descending,
+}
+
+// The two widths of a number in a message, a literal or a field.
+pub enum Width {
+    Short,
+    Long,
+}
+
+pub enum TextType {
+    Text,
+    Varying,
+    Cstring,
+}
+
+// The types of a descriptor.
+pub enum DataType {
+    Number(Width),
+    Date,
+    Chars(TextType),
+}
+
+pub enum LiteralType {
+    NumberLiteral(Width),
+    TextLiteral,
+}
+
+// The types of a field of the dictionary: those of a descriptor, and the house reading.
+pub enum FieldType {
+    Plain(DataType),
+    Reading,
+}

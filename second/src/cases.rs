@@ -1,0 +1,80 @@
+//! Cases as lines: the input, `=`, and the outcome.
+//!
+//! `read DICTIONARY REQUEST LENGTHS.. = accepted S P C | rows ; .. | rows ; .. | rows ; ..`,
+//! `evaluate DICTIONARY REQUEST CONDITION MESSAGES RECORDS = true`, or `= refused NUMBER PLACE`.
+//! A table without rows has nothing between its bars.
+
+use crate::evaluator::{evaluate, Answer};
+use crate::generate::Case;
+use crate::hex;
+use crate::reader;
+use crate::refusal::Refusal;
+
+/// A case and its outcome.
+pub fn line(case: &Case) -> String {
+    format!("{} = {}", input(case), outcome(case))
+}
+
+/// The input of a case.
+pub fn input(case: &Case) -> String {
+    match case {
+        Case::Read { dictionary, request, lengths } => {
+            let lengths = lengths.map(|length| length.to_string()).join(" ");
+            format!("read {} {} {lengths}", hex::write(dictionary), hex::write(request))
+        }
+        Case::Evaluate { dictionary, request, condition, messages, records } => {
+            let [dictionary, request, messages, records] =
+                [dictionary, request, messages, records].map(|bytes| hex::write(bytes));
+            format!("evaluate {dictionary} {request} {condition} {messages} {records}")
+        }
+    }
+}
+
+/// The outcome of a case.
+pub fn outcome(case: &Case) -> String {
+    let result = match case {
+        Case::Read { dictionary, request, lengths } => read(dictionary, request, *lengths),
+        Case::Evaluate { dictionary, request, condition, messages, records } => {
+            let result = evaluate(request, dictionary, *condition, messages, records);
+            result.map(|answer| answer_name(answer).to_string())
+        }
+    };
+    result.unwrap_or_else(|refusal| format!("refused {} {}", refusal.number, refusal.place))
+}
+
+/// The name of an answer.
+pub fn answer_name(answer: Answer) -> &'static str {
+    match answer {
+        Answer::True => "true",
+        Answer::False => "false",
+        Answer::Missing => "missing",
+    }
+}
+
+/// The counts and rows of an accepted request.
+fn read(dictionary: &[u8], request: &[u8], lengths: [usize; 3]) -> Result<String, Refusal> {
+    let [mut statements, mut parameters, mut contexts] = lengths.map(|length| vec![0; length]);
+    let counts =
+        reader::read(request, dictionary, &mut statements, &mut parameters, &mut contexts)?;
+    let numbers = [counts.statements, counts.parameters, counts.contexts];
+    let mut line = format!("accepted {} {} {}", numbers[0], numbers[1], numbers[2]);
+    for (table, width, count) in [
+        (&statements, 4, counts.statements),
+        (&parameters, 6, counts.parameters),
+        (&contexts, 5, counts.contexts),
+    ] {
+        line.push_str(" |");
+        line.push_str(&rows(table, width, count));
+    }
+    Ok(line)
+}
+
+/// The first rows of a table, each with a blank before it.
+fn rows(table: &[u32], width: usize, count: u32) -> String {
+    let row = |row: &[u32]| {
+        let numbers: Vec<String> = row.iter().map(u32::to_string).collect();
+        format!(" {}", numbers.join(" "))
+    };
+    let rows: Vec<String> = table.chunks(width).take(count as usize).map(row).collect();
+    rows.join(" ;")
+}

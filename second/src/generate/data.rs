@@ -1,0 +1,140 @@
+//! Data of all types: numbers with the ends of their ranges, texts with blanks and pattern bytes,
+//! dates, message images and records.
+
+use super::rng::Rng;
+use crate::datatype::DataType;
+use crate::dictionary::{Dictionary, Relation};
+use crate::reader::parsed::{Condition, Parsed};
+use crate::wire::{CSTRING, DATE, LONG, READING, SHORT, VARYING};
+
+/// Bytes of texts: few letters in both cases, so that texts are often equal, and what the tests
+/// treat apart.
+const TEXT_BYTES: &[u8] = b"aaaAbbB   **??\x1f~";
+
+/// A short, often an end of the range or a number near zero.
+pub fn short(rng: &mut Rng) -> i16 {
+    let usual = [0, 0, 1, -1, 2, 3, -7, 10, 30, 300, i16::MAX, i16::MIN];
+    if rng.one_in(4) {
+        return (rng.bits() % 65536) as u16 as i16;
+    }
+    rng.pick(&usual)
+}
+
+/// A long, often an end of the range or a number near zero.
+pub fn long(rng: &mut Rng) -> i32 {
+    let usual = [0, 0, 1, -1, 2, -7, 30, 300, 1_000_000_000, i32::MAX, i32::MIN];
+    if rng.one_in(4) {
+        return (rng.bits() >> 32) as u32 as i32;
+    }
+    rng.pick(&usual)
+}
+
+/// A text of n bytes.
+pub fn text(rng: &mut Rng, n: usize) -> Vec<u8> {
+    let mut bytes: Vec<u8> = (0..n).map(|_| rng.pick(TEXT_BYTES)).collect();
+    let blanks = rng.below(n + 1).min(rng.below(4));
+    bytes[n - blanks..].fill(b' ');
+    bytes
+}
+
+/// A reading, often one at an end of the range.
+fn reading(rng: &mut Rng) -> u16 {
+    let usual = [0, 1, 3, 30, 300, 301, 65534, 65535];
+    if rng.one_in(4) {
+        return (rng.bits() % 65536) as u16;
+    }
+    rng.pick(&usual)
+}
+
+/// A date: signed day, unsigned fraction.
+fn date(rng: &mut Rng) -> Vec<u8> {
+    let day: i32 = rng.pick(&[0, 0, 1, -1, 50_000, i32::MAX, i32::MIN]);
+    let fraction: u32 = rng.pick(&[0, 0, 1, 863_999_999, 1 << 31, u32::MAX]);
+    [day.to_le_bytes(), fraction.to_le_bytes()].concat()
+}
+
+/// A varying of n+2 bytes; malformed if its length is above n.
+pub fn varying(rng: &mut Rng, n: usize, malformed: bool) -> Vec<u8> {
+    let length = if malformed { rng.pick(&[n + 1, n + 256, 65535]) } else { rng.between(0, n) };
+    let mut bytes = (length as u16).to_le_bytes().to_vec();
+    bytes.extend(text(rng, n));
+    bytes
+}
+
+/// A cstring of n bytes; malformed if it has no zero.
+pub fn cstring(rng: &mut Rng, n: usize, malformed: bool) -> Vec<u8> {
+    let mut bytes = text(rng, n);
+    if !malformed {
+        let zero = rng.below(n);
+        bytes[zero] = 0;
+    }
+    bytes
+}
+
+/// The bytes of a parameter or field; a varying or cstring is malformed once in `malformed` times.
+pub fn stored(rng: &mut Rng, data: DataType, malformed: usize) -> Vec<u8> {
+    let n = usize::from(data.size);
+    match data.code {
+        SHORT => short(rng).to_le_bytes().to_vec(),
+        LONG => long(rng).to_le_bytes().to_vec(),
+        READING => reading(rng).to_le_bytes().to_vec(),
+        DATE => date(rng),
+        VARYING => {
+            let malformed = rng.one_in(malformed);
+            varying(rng, n, malformed)
+        }
+        CSTRING => {
+            let malformed = rng.one_in(malformed);
+            cstring(rng, n, malformed)
+        }
+        _ => text(rng, n),
+    }
+}
+
+/// The images of all messages. Half of the numbers that could be flags are zero.
+pub fn messages(rng: &mut Rng, parsed: &Parsed, malformed: usize) -> Vec<u8> {
+    let parameters = parsed.messages.iter().flat_map(|message| &message.parameters);
+    let mut bytes = Vec::new();
+    for data in parameters {
+        let is_number = matches!(data.code, SHORT | LONG);
+        if is_number && rng.one_in(3) {
+            bytes.extend(vec![0; data.held()]);
+        } else {
+            bytes.extend(stored(rng, *data, malformed));
+        }
+    }
+    bytes
+}
+
+/// A proper record of a relation; a field's bit is set once in six times.
+pub fn record(rng: &mut Rng, relation: &Relation, malformed: usize) -> Vec<u8> {
+    let mut bits = vec![0u8; relation.fields.len().div_ceil(8)];
+    let mut fields = Vec::new();
+    for (index, field) in relation.fields.iter().enumerate() {
+        if rng.one_in(6) {
+            bits[index / 8] |= 1 << (index % 8);
+        }
+        fields.extend(stored(rng, field.data, malformed));
+    }
+    let length = relation.entry_length() as u16;
+    let mut entry = [length.to_le_bytes(), 3u16.to_le_bytes(), relation.id.to_le_bytes()].concat();
+    entry.extend(bits);
+    entry.extend(fields);
+    entry
+}
+
+/// Proper records for the contexts in scope at a condition, each apart.
+pub fn records(
+    rng: &mut Rng,
+    parsed: &Parsed,
+    dictionary: &Dictionary,
+    condition: &Condition,
+    malformed: usize,
+) -> Vec<Vec<u8>> {
+    let mut records = Vec::new();
+    for context in &condition.contexts {
+        let relation = &dictionary.relations[parsed.contexts[*context].relation];
+        records.push(record(rng, relation, malformed));
+    }
+    records
+}

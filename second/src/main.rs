@@ -1,0 +1,84 @@
+//! The command line of the second program.
+
+use second::cases;
+use second::count::Tally;
+use second::evaluator::evaluate;
+use second::generate::{self, Size};
+use second::hex;
+use second::listing::listing;
+use std::io::{self, BufWriter, Read, Write};
+use std::process::ExitCode;
+
+const USAGE: &str = "usage:
+  second listing < INPUT
+  second evaluate DICTIONARYHEX REQUESTHEX CONDITION MESSAGESHEX RECORDSHEX
+  second cases small|mixed SEED COUNT
+  second count small|mixed SEED COUNT
+";
+
+fn main() -> ExitCode {
+    let arguments: Vec<String> = std::env::args().skip(1).collect();
+    let words: Vec<&str> = arguments.iter().map(String::as_str).collect();
+    let done = match words.as_slice() {
+        ["listing"] => list(),
+        ["evaluate", dictionary, request, condition, messages, records] => {
+            evaluate_hex([dictionary, request, messages, records], condition)
+        }
+        ["cases", size, seed, count] => print_cases(size, seed, count),
+        ["count", size, seed, count] => print_count(size, seed, count),
+        _ => None,
+    };
+    match done {
+        Some(Ok(())) => ExitCode::SUCCESS,
+        Some(Err(error)) => {
+            eprintln!("{error}");
+            ExitCode::FAILURE
+        }
+        None => {
+            eprint!("{USAGE}");
+            ExitCode::FAILURE
+        }
+    }
+}
+
+/// The listing of the standard input.
+fn list() -> Option<io::Result<()>> {
+    let mut input = Vec::new();
+    let read = io::stdin().read_to_end(&mut input);
+    Some(read.and_then(|_| io::stdout().write_all(listing(&input).as_bytes())))
+}
+
+/// The outcome of one evaluation; nothing if an argument cannot be read.
+fn evaluate_hex(strings: [&str; 4], condition: &str) -> Option<io::Result<()>> {
+    let mut bytes = Vec::new();
+    for string in strings {
+        bytes.push(hex::read(string)?);
+    }
+    let condition: usize = condition.parse().ok()?;
+    let outcome = match evaluate(&bytes[1], &bytes[0], condition, &bytes[2], &bytes[3]) {
+        Ok(answer) => cases::answer_name(answer).to_string(),
+        Err(refusal) => format!("refused {} at {}", refusal.number, refusal.place),
+    };
+    Some(writeln!(io::stdout(), "{outcome}"))
+}
+
+/// The size, seed and count of a run; nothing if an argument cannot be read.
+fn run(size: &str, seed: &str, count: &str) -> Option<impl Iterator<Item = generate::Case>> {
+    let size = Size::named(size)?;
+    Some(generate::cases(size, seed.parse().ok()?, count.parse().ok()?))
+}
+
+fn print_cases(size: &str, seed: &str, count: &str) -> Option<io::Result<()>> {
+    let mut output = BufWriter::new(io::stdout());
+    for case in run(size, seed, count)? {
+        if let Err(error) = writeln!(output, "{}", cases::line(&case)) {
+            return Some(Err(error));
+        }
+    }
+    Some(output.flush())
+}
+
+fn print_count(size: &str, seed: &str, count: &str) -> Option<io::Result<()>> {
+    let tally = Tally::of(run(size, seed, count)?);
+    Some(write!(io::stdout(), "{}", tally.table()))
+}

@@ -1,0 +1,79 @@
+//! Record selection expressions.
+//!
+//! Document 01: "Rse: 67, stream count, streams, at most one each of boolean 71 and sort 70 (count,
+//! then 72 or 73 before each value) in either order, 255. Stream: relation 74, counted name, ctx;
+//! or rid 75, id word, ctx." "A context of an rse is in scope from the byte after its last stream".
+
+use super::parsed::Role;
+use super::Reader;
+use crate::refusal::{self, refuse, Refusal};
+use crate::wire::{
+    ASCENDING, BOOLEAN, DESCENDING, END, LEFT_OUT_CLAUSES, LEFT_OUT_STREAMS, RELATION, RSE, SORT,
+    STREAMS,
+};
+
+impl Reader<'_> {
+    /// The rse of a for; its values and its boolean are at `level`. Gives the number of streams,
+    /// whose contexts are left in scope.
+    pub fn rse(&mut self, level: usize) -> Result<usize, Refusal> {
+        self.due(RSE)?;
+        let count = self.cursor.count()?;
+        let first = self.parsed.contexts.len();
+        for _ in 0..count {
+            self.stream(first, true)?;
+        }
+        self.open_scope(first);
+        self.clauses(level)?;
+        Ok(usize::from(count))
+    }
+
+    /// One stream; contexts declared from `first` on are of the same rse.
+    pub fn stream(&mut self, first: usize, is_of_for: bool) -> Result<usize, Refusal> {
+        let place = self.cursor.place();
+        let code = self.cursor.code(&STREAMS, &LEFT_OUT_STREAMS)?;
+        self.room_for_context(place)?;
+        let relation = self.relation(code)?;
+        let number = self.new_context(first)?;
+        self.note(Role::Stream, code);
+        Ok(self.declare(number, place, relation, is_of_for))
+    }
+
+    /// The name or id of a relation: 12 at its count byte or its word.
+    fn relation(&mut self, code: u8) -> Result<usize, Refusal> {
+        let place = self.cursor.place();
+        let found = match code {
+            RELATION => self.dictionary.relation_by_name(self.cursor.counted_name()?),
+            _ => self.dictionary.relation_by_id(self.cursor.word()?),
+        };
+        match found {
+            Some(relation) => Ok(relation),
+            None => refuse(refusal::UNKNOWN_NAME, place),
+        }
+    }
+
+    /// Clauses up to the 255; one that was read is not due again.
+    fn clauses(&mut self, level: usize) -> Result<(), Refusal> {
+        let mut due = vec![END, BOOLEAN, SORT];
+        loop {
+            let code = self.cursor.code(&due, &LEFT_OUT_CLAUSES)?;
+            match code {
+                END => return Ok(()),
+                BOOLEAN => self.condition(level)?,
+                _ => self.sort(level)?,
+            }
+            self.note(Role::Clause, code);
+            due.retain(|other| *other != code);
+        }
+    }
+
+    /// The sort count and its values.
+    fn sort(&mut self, level: usize) -> Result<(), Refusal> {
+        let count = self.cursor.count()?;
+        for _ in 0..count {
+            let order = self.cursor.code(&[ASCENDING, DESCENDING], &[])?;
+            self.note(Role::Order, order);
+            self.value(level)?;
+        }
+        Ok(())
+    }
+}

@@ -1,0 +1,164 @@
+//! Values and targets.
+//!
+//! Document 01: values 21, 23, 24, 25, 41 and arithmetic 34 to 38; targets 23, 24, 25, 41, any
+//! other code in their place being 6. "Arithmetic numbers ... a flag a number. Add and subtract
+//! take the smaller scale, multiply the sum, divide first minus second"; 13 stands at the operator
+//! or at 41. "A field target names the context of the nearest enclosing modify or store; a
+//! parameter target stands inside a send of its message": 14 at the assignment, after the tests of
+//! the ctx or message byte.
+
+use super::parsed::{Form, Role, Shape, Value};
+use super::Reader;
+use crate::datatype::Kind;
+use crate::decimal;
+use crate::refusal::{self, refuse, Refusal};
+use crate::wire::{
+    self, ADD, FID, FIELD, LEFT_OUT_LITERALS, LEFT_OUT_VALUES, LITERAL, LITERALS, LONG, MULTIPLY,
+    NEGATE, PARAMETER, PARAMETER2, SHORT, SUBTRACT, TARGETS, VALUES,
+};
+
+const TEXT_SHAPE: Shape = Shape { kind: Kind::Text, scale: 0 };
+
+/// The shape of a number.
+fn number(scale: i8) -> Shape {
+    Shape { kind: Kind::Number, scale }
+}
+
+impl Reader<'_> {
+    /// One value at a level.
+    pub fn value(&mut self, level: usize) -> Result<Value, Refusal> {
+        let place = self.cursor.place();
+        let code = self.cursor.code(&VALUES, &LEFT_OUT_VALUES)?;
+        self.level(place, level)?;
+        self.note(Role::Value, code);
+        match code {
+            LITERAL => self.literal(place),
+            FIELD | FID => {
+                let context = self.context_in_scope()?;
+                self.field(place, code, context)
+            }
+            PARAMETER | PARAMETER2 => {
+                let message = self.declared_message()?;
+                self.parameter(place, code, message)
+            }
+            NEGATE => self.negate(place, level),
+            _ => self.arithmetic(place, code, level),
+        }
+    }
+
+    /// The type and bytes of a literal.
+    fn literal(&mut self, place: usize) -> Result<Value, Refusal> {
+        let code = self.cursor.code(&LITERALS, &LEFT_OUT_LITERALS)?;
+        self.note(Role::Literal, code);
+        if code == SHORT {
+            let scale = self.cursor.scale()?;
+            let value = wire::signed_word(self.cursor.word()?);
+            let form = Form::Number(i64::from(value));
+            return Ok(Value { place, shape: number(scale), form });
+        }
+        if code == LONG {
+            let scale = self.cursor.scale()?;
+            let value = wire::signed_four_bytes(self.cursor.four_bytes()?);
+            let form = Form::Number(i64::from(value));
+            return Ok(Value { place, shape: number(scale), form });
+        }
+        let n = self.cursor.text_size()?;
+        let start = self.cursor.place();
+        self.cursor.take(usize::from(n))?;
+        let form = Form::Text(start, self.cursor.place());
+        Ok(Value { place, shape: TEXT_SHAPE, form })
+    }
+
+    /// The name or id of a field: 12 at its count byte or its word.
+    fn field(&mut self, place: usize, code: u8, context: usize) -> Result<Value, Refusal> {
+        let relation = &self.dictionary.relations[self.parsed.contexts[context].relation];
+        let field_place = self.cursor.place();
+        let found = match code {
+            FIELD => relation.field_by_name(self.cursor.counted_name()?),
+            _ => relation.field_by_id(self.cursor.word()?),
+        };
+        match found {
+            Some(field) => {
+                let shape = Shape::of(relation.fields[field].data);
+                Ok(Value { place, shape, form: Form::Field { context, field } })
+            }
+            None => refuse(refusal::UNKNOWN_NAME, field_place),
+        }
+    }
+
+    /// The word of a parameter and, for parameter2, that of its flag.
+    fn parameter(&mut self, place: usize, code: u8, message: usize) -> Result<Value, Refusal> {
+        let parameter = self.parameter_word(message)?;
+        let flag = match code {
+            PARAMETER2 => Some(self.flag(place, message)?),
+            _ => None,
+        };
+        let shape = Shape::of(self.parsed.messages[message].parameters[parameter]);
+        Ok(Value { place, shape, form: Form::Parameter { message, parameter, flag } })
+    }
+
+    /// The flag word of a parameter2: 13 at the code if the flag isn't a number.
+    fn flag(&mut self, place: usize, message: usize) -> Result<usize, Refusal> {
+        let flag = self.parameter_word(message)?;
+        if self.parsed.messages[message].parameters[flag].kind() != Kind::Number {
+            return refuse(refusal::NO_FIT, place);
+        }
+        Ok(flag)
+    }
+
+    /// The operand of negate.
+    fn negate(&mut self, place: usize, level: usize) -> Result<Value, Refusal> {
+        let operand = self.value(level + 1)?;
+        if operand.shape.kind != Kind::Number {
+            return refuse(refusal::NO_FIT, place);
+        }
+        Ok(Value { place, shape: operand.shape, form: Form::Negate(Box::new(operand)) })
+    }
+
+    /// The two operands of an operator, then their fit.
+    fn arithmetic(&mut self, place: usize, code: u8, level: usize) -> Result<Value, Refusal> {
+        let left = self.value(level + 1)?;
+        let right = self.value(level + 1)?;
+        match result_scale(code, left.shape, right.shape) {
+            Some(scale) => {
+                let form = Form::Arithmetic(code, Box::new([left, right]));
+                Ok(Value { place, shape: number(scale), form })
+            }
+            None => refuse(refusal::NO_FIT, place),
+        }
+    }
+
+    /// The target of an assignment, which stands at the place `assignment`.
+    pub fn target(&mut self, assignment: usize) -> Result<Value, Refusal> {
+        let place = self.cursor.place();
+        // Depth needs no test: the from-value stood at the same level.
+        let code = self.cursor.code(&TARGETS, &[])?;
+        self.note(Role::Target, code);
+        if matches!(code, FIELD | FID) {
+            let context = self.context_in_scope()?;
+            if self.scope.updates.last() != Some(&context) {
+                return refuse(refusal::WRONG_STATEMENT, assignment);
+            }
+            return self.field(place, code, context);
+        }
+        let message = self.declared_message()?;
+        if !self.scope.sends.contains(&self.parsed.messages[message].number) {
+            return refuse(refusal::WRONG_STATEMENT, assignment);
+        }
+        self.parameter(place, code, message)
+    }
+}
+
+/// The scale of an operator's result, or nothing if the operands don't fit.
+fn result_scale(code: u8, left: Shape, right: Shape) -> Option<i8> {
+    if left.kind != Kind::Number || right.kind != Kind::Number {
+        return None;
+    }
+    let (first, second) = (i32::from(left.scale), i32::from(right.scale));
+    let scale = match code {
+        ADD | SUBTRACT => first.min(second),
+        MULTIPLY => first + second,
+        _ => first - second,
+    };
+    i8::try_from(scale).ok().filter(|_| decimal::is_scale(scale))
+}
