@@ -46,7 +46,7 @@ function open_file() {
     print "use mathlib.Core.Path.{_≡_, refl}" > file
     print "use mathlib.Core.List.{List, [], _∷_, _++_}" > file
     print "use lib.ListN.{replicate}" > file
-    print "use Rattle.examples.specs.Answers.{Answer, rows, isTrue, isFalse, isMissing, refusal, readAnswer, evaluateAnswer}" > file
+    print "use Rattle.examples.proofs.Answers.{Answer, rows, isTrue, isFalse, isMissing, refusal, readAnswer, evaluateAnswer}" > file
 }
 
 {

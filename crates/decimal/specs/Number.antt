@@ -29,13 +29,13 @@ fits z = ltb (mag z) (2 ^ 63)
 unfoldable pub fitted : ℤ → ℤ → Computed
 fitted z scale = cond (fits z) (Value (record { value = z; scale = scale })) Overflow
 
--- a number's value at k places, no fewer than its own
+-- a number's value at k places, or at its own where these are more
 abbrev pub valueAt : ℕ → Number → ℤ
 valueAt k a = a .value *ℤ pos (10 ^ (k - places (a .scale)))
 
--- the same number at k places, or overflow
+-- the same number with so many places, or overflow
 unfoldable pub rescaled : ℕ → Number → Computed
-rescaled k a = fitted (valueAt k a) (scaleOf k)
+rescaled k a = fitted (valueAt k a) (scaleOf (max k (places (a .scale))))
 
 infixl 10 _>>=_
 abbrev pub _>>=_ : Computed → (Number → Computed) → Computed

@@ -3,7 +3,7 @@ use Prim.Native.Nat.{ℕ}
 use mathlib.Core.Path.{_≡_, refl}
 use mathlib.Core.List.{List, [], _∷_, map}
 use lib.ListN.{set}
-use Rattle.examples.specs.Answers.{Answer, rows, isTrue, isFalse, isMissing, refusal, readAnswer, evaluateAnswer}
+use Rattle.examples.proofs.Answers.{Answer, rows, isTrue, isFalse, isMissing, refusal, readAnswer, evaluateAnswer}
 
 -- 01: "Request S, 41 bytes in hex"
 pub S : List ℕ

@@ -1,2 +1,3 @@
--- Document 01's examples.
+-- Document 01's examples, and answers that compute.
+pub mod Answers
 pub mod Examples

@@ -1,1 +1,1 @@
-// Document 01's examples, computed by the definitions. There is no code here: see specs/ and proofs/.
+// Document 01's examples, computed by the definitions. There is no code here: see proofs/.

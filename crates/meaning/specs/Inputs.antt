@@ -5,18 +5,19 @@ use mathlib.Core.List.{List, [], _∷_}
 use mathlib.Core.Option.{Option, none, some}
 use lib.Dec.{eqb}
 use lib.IntN.{ℤ, pos, negsuc}
-use lib.ListN.{length, take, getElem?}
+use lib.ListN.{length, take, drop, getElem?}
 use Rattle.wire.specs.Words.{wordAt, longAt, signed}
 use Rattle.wire.specs.Lists.{indexOf, sumOf, _andThen_}
 use Rattle.wire.specs.declared.codes.Width.{Width}
 use Rattle.wire.specs.declared.codes.Width.the-variants.{Short, Long}
+use Rattle.wire.specs.declared.codes.TextType.{TextType}
 use Rattle.wire.specs.declared.codes.DataType.the-variants as Data
 use Rattle.wire.specs.declared.codes.FieldType.{FieldType}
 use Rattle.wire.specs.declared.codes.FieldType.the-variants.{Plain, Reading}
 use Rattle.text.specs.declared.Part.{Part}
 use Rattle.text.specs.declared.Part.the-variants as Part
 use Rattle.text.specs.Value.{textPart, partOf, kept}
-use Rattle.dictionary.specs.Format.{Format, widthBytes, held}
+use Rattle.dictionary.specs.Format.{Format, textBytes}
 use Rattle.dictionary.specs.Dictionary.{Relation}
 use Rattle.dictionary.specs.Names.{Name, fieldOf, formatOf}
 use Rattle.dictionary.specs.Record.{recordLength, fieldPlace, fieldMissing}
@@ -42,14 +43,17 @@ abbrev pub numberAt : Width → List ℕ → ℕ → ℤ
 numberAt Short s p = signed 2 (wordAt s p)
 numberAt Long s p = signed 4 (longAt s p)
 
-abbrev pub textIn : List ℕ → Part → Fetched
-textIn s (Part.Is start end) = value (text (partOf s start end))
-textIn s Part.Malformed = malformed
+abbrev pub textFound : List ℕ → Part → Fetched
+textFound s (Part.Is start end) = value (text (partOf s start end))
+textFound s Part.Malformed = malformed
+
+abbrev pub textIn : List ℕ → TextType → Fetched
+textIn s t = textFound s (textPart t s)
 
 abbrev pub typeValue : FieldType → ℕ → ℕ → List ℕ → ℕ → Fetched
 typeValue (Plain (Data.Number w)) scale n s p = value (number (record { value = numberAt w s p; scale = signed 1 scale }))
 typeValue (Plain Data.Date) scale n s p = value (date (signed 4 (longAt s p)) (longAt s (p + 4)))
-typeValue (Plain (Data.Chars t)) scale n s p = textIn s (textPart t n s p)
+typeValue (Plain (Data.Chars t)) scale n s p = textIn (take (textBytes t n) (drop p s)) t
 typeValue Reading scale n s p = value (number (record { value = pos (wordAt s p); scale = signed 1 scale }))
 
 -- the value of a format whose bytes stand at p

@@ -248,7 +248,7 @@ unfolding Decoding.clauses Decoding.rseOf Decoding.many Decoding.manyReceives De
 openDecoding4 = tt
 
 unfoldable pub openDecoding5 : Unit {0}
-unfolding Decoding.request Decoding.decode
+unfolding Decoding.atEnd Decoding.descriptor Decoding.request Decoding.decode
 openDecoding5 = tt
 
 unfoldable pub openEvaluation : Unit {0}
@@ -276,7 +276,7 @@ unfolding Tests.afterByte Tests.matches Tests.search
 openTests2 = tt
 
 unfoldable pub openValue : Unit {0}
-unfolding Value.kept Value.zeroFrom Value.textPart
+unfolding Value.kept Value.bytesOf Value.textPart
 openValue = tt
 
 unfoldable pub openClasses : Unit {0}

@@ -1,2 +1,0 @@
--- Answers in the numbers of document 01.
-pub mod Answers
