@@ -3,8 +3,10 @@ use Prim.Native.Nat.{ℕ, _+_, _*_, _-_, _^_, _/_, _%_}
 use mathlib.Core.List.{List, [], _∷_, _++_}
 use mathlib.Core.Bool.{cond}
 use lib.Dec.{ltb}
-use lib.ListN.{getD}
-use lib.IntN.{ℤ, pos, _-ℤ_}
+use lib.ListN.{length, getD}
+use lib.IntN.{ℤ, pos, subℕ}
+use Rattle.wire.specs.declared.bytes.Byte.{Byte}
+use Rattle.wire.specs.declared.bytes.Byte.the-variants.{Is, Ended}
 
 -- the byte at a place; 0 past the end
 abbrev pub byteAt : List ℕ → ℕ → ℕ
@@ -25,6 +27,14 @@ wordBytes n = n % 256 ∷ n / 256 ∷ []
 abbrev pub longBytes : ℕ → List ℕ
 longBytes n = wordBytes (n % 65536) ++ wordBytes (n / 65536)
 
--- a number of w bytes, signed: two's complement, over the width
+-- a number below twice `half`, in two's complement
+abbrev pub twos : ℕ → ℕ → ℤ
+twos half n = cond (ltb n half) (pos n) (subℕ n (2 * half))
+
+-- a number of w bytes, signed, over the width
 unfoldable pub signed : ℕ → ℕ → ℤ
-signed w n = cond (ltb n (2 ^ (8 * w - 1))) (pos n) (pos n -ℤ pos (2 ^ (8 * w)))
+signed w n = twos (2 ^ (8 * w - 1)) n
+
+-- the byte at a place, or that there is none
+unfoldable pub foundAt : List ℕ → ℕ → Byte
+foundAt s p = cond (ltb p (length s)) (Is (byteAt s p)) Ended

@@ -1,0 +1,2 @@
+-- The signs of the tables.
+pub mod Signs
