@@ -3,3 +3,5 @@ pub mod Format
 pub mod Dictionary
 pub mod Names
 pub mod Record
+pub mod Walk
+pub mod Answers

@@ -1,1 +1,3 @@
 // The house dictionary and its records.
+pub mod check;
+mod names;

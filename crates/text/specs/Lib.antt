@@ -1,3 +1,6 @@
--- Texts.
+-- Texts: the definitions, and what the code's private functions promise.
 pub mod Value
 pub mod Tests
+pub mod Reading
+pub mod Matching
+pub mod Searching

@@ -1,4 +1,10 @@
 // Texts: the part of a slice that holds one, order, and the three searches.
+mod letters;
+pub mod matching;
+pub mod order;
+pub mod search;
+pub mod value;
+
 pub enum Part {
     Is(usize, usize),
     Malformed,

@@ -1,0 +1,29 @@
+//! `compare leaves SEED COUNT` compares the proved leaves with the second program's; `compare times` times both.
+
+mod leaves;
+mod proved;
+mod times;
+
+use std::process::ExitCode;
+
+fn main() -> ExitCode {
+    let words: Vec<String> = std::env::args().skip(1).collect();
+    let words: Vec<&str> = words.iter().map(String::as_str).collect();
+    let differences = match words.as_slice() {
+        ["leaves", seed, count] => match (seed.parse(), count.parse()) {
+            (Ok(seed), Ok(count)) => leaves::run(seed, count),
+            _ => return usage(),
+        },
+        ["times"] => {
+            times::run();
+            0
+        }
+        _ => return usage(),
+    };
+    ExitCode::from(u8::from(differences != 0))
+}
+
+fn usage() -> ExitCode {
+    eprintln!("usage: compare leaves SEED COUNT | compare times");
+    ExitCode::from(2)
+}

@@ -1,0 +1,113 @@
+//! The proved functions, behind safe ones. Nothing checks these declarations against the Rattle source
+//! `crates/leaf_exports/src/lib.rt`: they pass numbers and slices only, and every function there is total.
+
+use std::cmp::Ordering;
+
+#[allow(improper_ctypes)]
+extern "C" {
+    fn leaf_value(operation: u8, a: i64, a_scale: i8, b: i64, b_scale: i8) -> i64;
+    fn leaf_outcome(operation: u8, a: i64, a_scale: i8, b: i64, b_scale: i8) -> i64;
+    fn leaf_compare(a: i64, a_scale: i8, b: i64, b_scale: i8) -> i64;
+    fn leaf_text_malformed(text_type: u8, bytes: *const u8, length: usize) -> bool;
+    fn leaf_text_start(text_type: u8, bytes: *const u8, length: usize) -> usize;
+    fn leaf_text_end(text_type: u8, bytes: *const u8, length: usize) -> usize;
+    fn leaf_text_length(text_type: u8, bytes: *const u8, length: usize) -> usize;
+    fn leaf_text_compare(a: *const u8, a_length: usize, b: *const u8, b_length: usize) -> i64;
+    fn leaf_search(
+        search: u8,
+        a: *const u8,
+        a_length: usize,
+        b: *const u8,
+        b_length: usize,
+    ) -> bool;
+    fn leaf_word(bytes: *const u8, length: usize, at: usize) -> u32;
+    fn leaf_long(bytes: *const u8, length: usize, at: usize) -> u32;
+    fn leaf_signed_word(bytes: *const u8, length: usize, at: usize) -> i64;
+    fn leaf_signed_long(bytes: *const u8, length: usize, at: usize) -> i64;
+}
+
+/// A scaled number.
+#[derive(Clone, Copy, Debug, PartialEq, Eq)]
+pub struct Number {
+    pub value: i64,
+    pub scale: i8,
+}
+
+/// What an operation gives: a number, or refusal 24 or 25.
+#[derive(Clone, Copy, Debug, PartialEq, Eq)]
+pub enum Computed {
+    Value(Number),
+    Refused(i64),
+}
+
+/// The operations, by the numbers that the exports give them.
+pub const ADD: u8 = 0;
+pub const SUBTRACT: u8 = 1;
+pub const MULTIPLY: u8 = 2;
+pub const DIVIDE: u8 = 3;
+pub const NEGATE: u8 = 4;
+pub const RESCALE: u8 = 5;
+
+/// The result of an operation; the outcome of a value is 1,000 plus its scale.
+pub fn compute(operation: u8, a: Number, b: Number) -> Computed {
+    // Numbers alone are passed.
+    let (value, outcome) = unsafe {
+        (
+            leaf_value(operation, a.value, a.scale, b.value, b.scale),
+            leaf_outcome(operation, a.value, a.scale, b.value, b.scale),
+        )
+    };
+    if outcome < 900 {
+        return Computed::Refused(outcome);
+    }
+    Computed::Value(Number { value, scale: (outcome - 1000) as i8 })
+}
+
+fn ordering(sign: i64) -> Ordering {
+    sign.cmp(&0)
+}
+
+/// The order of two numbers.
+pub fn compare(a: Number, b: Number) -> Ordering {
+    ordering(unsafe { leaf_compare(a.value, a.scale, b.value, b.scale) })
+}
+
+/// Start and end of a text's value, or nothing if it is malformed; and the length of the part that the text reader returns.
+pub fn text(text_type: u8, bytes: &[u8]) -> (Option<(usize, usize)>, usize) {
+    let (pointer, length) = (bytes.as_ptr(), bytes.len());
+    // The pointer and the length are those of one slice, here and below.
+    unsafe {
+        let part = if leaf_text_malformed(text_type, pointer, length) {
+            None
+        } else {
+            Some((
+                leaf_text_start(text_type, pointer, length),
+                leaf_text_end(text_type, pointer, length),
+            ))
+        };
+        (part, leaf_text_length(text_type, pointer, length))
+    }
+}
+
+/// The order of two texts.
+pub fn compare_texts(a: &[u8], b: &[u8]) -> Ordering {
+    ordering(unsafe { leaf_text_compare(a.as_ptr(), a.len(), b.as_ptr(), b.len()) })
+}
+
+/// Containing 0, matching 1, starting 2.
+pub fn search(search: u8, a: &[u8], b: &[u8]) -> bool {
+    unsafe { leaf_search(search, a.as_ptr(), a.len(), b.as_ptr(), b.len()) }
+}
+
+/// The unsigned and signed words and four-byte numbers at a place.
+pub fn numbers_at(bytes: &[u8], at: usize) -> (u32, u32, i64, i64) {
+    let (pointer, length) = (bytes.as_ptr(), bytes.len());
+    unsafe {
+        (
+            leaf_word(pointer, length, at),
+            leaf_long(pointer, length, at),
+            leaf_signed_word(pointer, length, at),
+            leaf_signed_long(pointer, length, at),
+        )
+    }
+}

@@ -1,0 +1,153 @@
+//! Times of the proved leaves as ratios to the second program's, in one run: below 1 the proved code is faster.
+
+use crate::proved::{self, Number};
+use second::generate::rng::Rng;
+use second::{decimal, text, wire};
+use std::hint::black_box;
+use std::time::Instant;
+
+/// Seconds that so many calls take: the least of five runs.
+fn seconds(calls: usize, mut call: impl FnMut(usize)) -> f64 {
+    (0..5)
+        .map(|_| {
+            let start = Instant::now();
+            (0..calls).for_each(&mut call);
+            start.elapsed().as_secs_f64()
+        })
+        .fold(f64::INFINITY, f64::min)
+}
+
+fn line(name: &str, calls: usize, proved: impl FnMut(usize), plain: impl FnMut(usize)) {
+    let (one, other) = (seconds(calls, proved), seconds(calls, plain));
+    let each = one / calls as f64 * 1e9;
+    println!("{name:<28} {:>8.2} {each:>12.1} ns a call", one / other);
+}
+
+fn numbers(rng: &mut Rng) -> Vec<(Number, Number)> {
+    let one = |rng: &mut Rng| Number {
+        value: (rng.bits() as i64) >> rng.between(1, 62),
+        scale: -(rng.below(19) as i8),
+    };
+    (0..1024).map(|_| (one(rng), one(rng))).collect()
+}
+
+fn texts(rng: &mut Rng, length: usize) -> Vec<Vec<u8>> {
+    (0..256).map(|_| (0..length).map(|_| rng.pick(b"abcAB ")).collect()).collect()
+}
+
+fn decimals(rng: &mut Rng) {
+    let pairs = numbers(rng);
+    type Plain = fn(i64, i8, i64, i8) -> Result<(i64, i8), decimal::Fault>;
+    let operations: [(&str, u8, Plain); 4] = [
+        ("add", proved::ADD, decimal::add),
+        ("subtract", proved::SUBTRACT, decimal::subtract),
+        ("multiply", proved::MULTIPLY, decimal::multiply),
+        ("divide", proved::DIVIDE, decimal::divide),
+    ];
+    for (name, operation, plain) in operations {
+        line(
+            name,
+            200_000,
+            |i| {
+                let (a, b) = pairs[i % 1024];
+                black_box(proved::compute(operation, a, b));
+            },
+            |i| {
+                let (a, b) = pairs[i % 1024];
+                // The exports give value and outcome in two calls.
+                black_box(plain(a.value, a.scale, b.value, b.scale).ok());
+                black_box(plain(a.value, a.scale, b.value, b.scale).ok());
+            },
+        );
+    }
+    line(
+        "compare",
+        200_000,
+        |i| {
+            let (a, b) = pairs[i % 1024];
+            black_box(proved::compare(a, b));
+        },
+        |i| {
+            let (a, b) = pairs[i % 1024];
+            black_box(decimal::compare(a.value, a.scale, b.value, b.scale));
+        },
+    );
+}
+
+fn searches(rng: &mut Rng) {
+    let (long, short) = (texts(rng, 255), texts(rng, 4));
+    line(
+        "order of texts",
+        100_000,
+        |i| {
+            black_box(proved::compare_texts(&long[i % 256], &long[(i + 1) % 256]));
+        },
+        |i| {
+            black_box(text::compare(&long[i % 256], &long[(i + 1) % 256]));
+        },
+    );
+    type Plain = fn(&[u8], &[u8]) -> bool;
+    let kinds: [(&str, u8, Plain); 3] = [
+        ("containing", 0, text::containing),
+        ("matching", 1, text::matching),
+        ("starting", 2, text::starting),
+    ];
+    for (name, search, plain) in kinds {
+        line(
+            name,
+            20_000,
+            |i| {
+                black_box(proved::search(search, &long[i % 256], &short[i % 256]));
+            },
+            |i| {
+                black_box(plain(&long[i % 256], &short[i % 256]));
+            },
+        );
+    }
+}
+
+/// The pattern that makes a plain matcher exponential: 255 bytes against 255.
+fn worst(rng: &mut Rng) {
+    let mut pattern: Vec<u8> = b"*a".iter().copied().cycle().take(254).collect();
+    pattern.push(b'b');
+    let text: Vec<u8> = vec![b'a'; 255];
+    let _ = rng;
+    line(
+        "matching, worst of 255",
+        100,
+        |_| {
+            black_box(proved::search(1, &text, &pattern));
+        },
+        |_| {
+            black_box(text::matching(&text, &pattern));
+        },
+    );
+}
+
+fn parts(rng: &mut Rng) {
+    let held = texts(rng, 64);
+    line(
+        "trimming a text",
+        200_000,
+        |i| {
+            black_box(proved::text(0, &held[i % 256]));
+        },
+        |i| {
+            let bytes = &held[i % 256];
+            // The exports take four calls.
+            for _ in 0..4 {
+                black_box(text::value(wire::TEXT, bytes));
+            }
+        },
+    );
+}
+
+/// Prints a line for each leaf: its ratio, and the time of a proved call.
+pub fn run() {
+    let mut rng = Rng::new(1);
+    println!("{:<28} {:>8}", "leaf", "ratio");
+    decimals(&mut rng);
+    parts(&mut rng);
+    searches(&mut rng);
+    worst(&mut rng);
+}

@@ -1,0 +1,8 @@
+-- Laws that belong to no one function.
+pub mod Places
+pub mod Tests
+pub mod Ranges
+pub mod Entry
+pub mod Bytes
+pub mod Checked
+pub mod Loop

@@ -1,0 +1,21 @@
+-- The code's answers, by the definitions' cases.
+use Prim.Native.Nat.{ℕ}
+use mathlib.Core.Option.{Option, none, some}
+use Rattle.dictionary.specs.declared.check.Answer.{Answer}
+use Rattle.dictionary.specs.declared.check.Answer.the-variants.{Proper, Fault}
+use Rattle.dictionary.specs.declared.check.Met.{Met}
+use Rattle.dictionary.specs.declared.check.Meeting.{Meeting}
+use Rattle.dictionary.specs.declared.check.Meeting.the-variants.{Good, Bad}
+use Rattle.dictionary.specs.Dictionary.{Checked, proper, atFault}
+
+abbrev pub answerOf : Checked → Answer
+answerOf (proper rs) = Proper
+answerOf (atFault p) = Fault p
+
+abbrev pub meetingOf : Option Met → Meeting
+meetingOf none = Bad
+meetingOf (some m) = Good m
+
+abbrev pub faultAnswer : Option ℕ → Answer
+faultAnswer none = Proper
+faultAnswer (some p) = Fault p

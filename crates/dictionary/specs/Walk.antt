@@ -1,0 +1,141 @@
+-- How the code goes through a dictionary of any bytes: from entry to entry by their length words. What is proper is said in Dictionary; what the
+-- walk finds in a proper dictionary is a theorem.
+use Prim.Native.Nat.{ℕ, zero, suc, _+_, _-_}
+use mathlib.Core.Bool.{Bool, true, false, cond, not, _&&_, _||_}
+use mathlib.Core.List.{List, [], _∷_}
+use mathlib.Core.Option.{Option, none, some}
+use lib.Dec.{eqb, leb, ltb}
+use lib.ListN.{length, take, getElem?}
+use Rattle.wire.specs.Words.{byteAt, wordAt}
+use Rattle.wire.specs.Lists.{anyOf, indexOf, sumOf, sameBytes}
+use Rattle.wire.specs.Classes.{Class, due, leftOut, foreign, fieldClass}
+use Rattle.wire.specs.declared.codes.FieldType.{FieldType}
+use Rattle.wire.specs.declared.codes.FieldType.the-variants.{Reading}
+use Rattle.dictionary.specs.declared.check.Met.{Met}
+use Rattle.dictionary.specs.declared.check.Unique.{Unique}
+use Rattle.dictionary.specs.declared.check.Unique.the-variants.{OfRelation, OfField}
+use Rattle.dictionary.specs.Format.{Format, fitting, held}
+use Rattle.dictionary.specs.Dictionary.{nameAt, goodName, wholeEntry}
+
+abbrev pub kindAt : List ℕ → ℕ → ℕ
+kindAt d q = wordAt d (q + 2)
+
+-- ---- the places of entries
+
+-- q and the rest, if q stands for an entry
+abbrev pub placed : Bool → ℕ → List ℕ → List ℕ
+placed true q rest = q ∷ rest
+placed false q rest = []
+
+-- the entries from q on that start below e, n at most; an entry of length 0 ends them
+unfoldable pub places : ℕ → List ℕ → ℕ → ℕ → List ℕ
+places zero d q e = []
+places (suc n) d q e = placed (ltb q e && ltb 0 (wordAt d q)) q (places n d (q + wordAt d q) e)
+
+unfoldable pub between : List ℕ → ℕ → ℕ → List ℕ
+between d q e = places (e - q) d q e
+
+-- the entries of kind 2 from q on, up to the first other
+unfoldable pub fieldPlaces : ℕ → List ℕ → ℕ → List ℕ
+fieldPlaces zero d q = []
+fieldPlaces (suc n) d q =
+    placed (ltb q (length d) && ltb 0 (wordAt d q) && eqb (kindAt d q) 2) q (fieldPlaces n d (q + wordAt d q))
+
+-- the fields of the relation whose entry stands at r
+unfoldable pub fieldsOf : List ℕ → ℕ → List ℕ
+fieldsOf d r = fieldPlaces (length d) d (r + wordAt d r)
+
+-- ---- the check
+
+-- the entry at q is a relation's with the id or the name of the one at p
+unfoldable pub sameRelation : List ℕ → ℕ → ℕ → Bool
+sameRelation d p q =
+    eqb (kindAt d q) 1 && (eqb (wordAt d (q + 4)) (wordAt d (p + 4)) || sameBytes (nameAt d (q + 6)) (nameAt d (p + 6)))
+
+-- the entry at q is a field's with the name of the one at p
+unfoldable pub sameField : List ℕ → ℕ → ℕ → Bool
+sameField d p q = eqb (kindAt d q) 2 && sameBytes (nameAt d (q + 10)) (nameAt d (p + 10))
+
+-- what must not repeat
+abbrev pub sameEntry : Unique → List ℕ → ℕ → ℕ → Bool
+sameEntry OfRelation d p q = sameRelation d p q
+sameEntry OfField d p q = sameField d p q
+
+unfoldable pub relationGood : List ℕ → ℕ → Met → Bool
+relationGood d p m =
+    wholeEntry d p 6 && goodName (nameAt d (p + 6)) && ltb (m .relations) 32 && not (anyOf (sameRelation d p) (between d 0 p))
+
+unfoldable pub fieldGood : List ℕ → ℕ → FieldType → Met → Bool
+fieldGood d p t m =
+    wholeEntry d p 10 && eqb (wordAt d (p + 4)) (m .fields) && fitting t (byteAt d (p + 7)) (wordAt d (p + 8)) &&
+    goodName (nameAt d (p + 10)) && ltb (m .fields) 64 && not (anyOf (sameField d p) (between d (m .last) p))
+
+unfoldable pub fieldMet : List ℕ → ℕ → Class FieldType → Met → Option Met
+fieldMet d p foreign m = none
+fieldMet d p leftOut m = none
+fieldMet d p (due t) m =
+    cond (ltb 0 (m .relations) && fieldGood d p t m) (some (record { relations = m .relations; fields = m .fields + 1; last = m .last })) none
+
+unfoldable pub relationMet : List ℕ → ℕ → Met → Option Met
+relationMet d p m = cond (relationGood d p m) (some (record { relations = m .relations + 1; fields = 0; last = p })) none
+
+-- what is met with the entry at p, if it is good
+unfoldable pub meet : List ℕ → ℕ → Met → Option Met
+meet d p m =
+    cond (eqb (kindAt d p) 1) (relationMet d p m)
+    (cond (eqb (kindAt d p) 2) (fieldMet d p (fieldClass (byteAt d (p + 6))) m) none)
+
+-- by whether bytes are left, and what is met there: none if all entries are good, or the place of the first at fault
+abbrev pub onMet : Bool → Option Met → ℕ → (Met → Option ℕ) → Option ℕ
+onMet false x p next = none
+onMet true none p next = some p
+onMet true (some m) p next = next m
+
+unfoldable pub faultFrom : ℕ → List ℕ → ℕ → Met → Option ℕ
+faultFrom zero d p m = none
+faultFrom (suc n) d p m = onMet (ltb p (length d)) (meet d p m) p (λ m′. faultFrom n d (p + wordAt d p) m′)
+
+unfoldable pub fault : List ℕ → Option ℕ
+fault d = cond (leb (length d) 65535) (faultFrom (length d) d 0 (record { relations = 0; fields = 0; last = 0 })) (some 0)
+
+-- ---- looking up
+
+-- the last place that passes a test
+unfoldable pub lastOf : (ℕ → Bool) → List ℕ → Option ℕ
+lastOf test [] = none
+lastOf test (x ∷ l) = orElse (lastOf test l) (cond (test x) (some x) none)
+  where
+    orElse : Option ℕ → Option ℕ → Option ℕ
+    orElse none y = y
+    orElse (some z) y = some z
+
+unfoldable pub isNamed : List ℕ → List ℕ → ℕ → Bool
+isNamed d n q = eqb (kindAt d q) 1 && sameBytes (nameAt d (q + 6)) n
+
+unfoldable pub isNumbered : List ℕ → ℕ → ℕ → Bool
+isNumbered d i q = eqb (kindAt d q) 1 && eqb (wordAt d (q + 4)) i
+
+-- the entry of the relation of a name, and of an id
+unfoldable pub relationNamed : List ℕ → List ℕ → Option ℕ
+relationNamed d n = lastOf (isNamed d n) (between d 0 (length d))
+
+unfoldable pub relationNumbered : List ℕ → ℕ → Option ℕ
+relationNumbered d i = lastOf (isNumbered d i) (between d 0 (length d))
+
+-- the id of the field of a name, of the relation at r
+unfoldable pub fieldNamed : List ℕ → ℕ → List ℕ → Option ℕ
+fieldNamed d r n = indexOf (λ q. sameBytes (nameAt d (q + 10)) n) (fieldsOf d r)
+
+-- the type of a field's entry; any other code counts as a reading, which a proper dictionary never needs
+abbrev pub typeOf : Class FieldType → FieldType
+typeOf (due t) = t
+typeOf leftOut = Reading
+typeOf foreign = Reading
+
+unfoldable pub formatAt : List ℕ → ℕ → Format
+formatAt d q = record { type = typeOf (fieldClass (byteAt d (q + 6))); scale = byteAt d (q + 7); size = wordAt d (q + 8) }
+
+-- ---- records
+
+unfoldable pub packedAt : List ℕ → List ℕ → ℕ
+packedAt d qs = sumOf (λ q. held (formatAt d q)) qs

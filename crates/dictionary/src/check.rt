@@ -1,0 +1,291 @@
+// Whether a dictionary is proper, and if not the first entry at fault.
+ghost use mathlib.Core.Path.{_≡_};
+ghost use mathlib.Core.Bool.{Bool};
+ghost use Prim.Native.Nat.{_+_, _≤_, _<_};
+ghost use lib.ListN.{length};
+ghost use Rattle.wire.specs.Lists.{anyOf};
+ghost use Rattle.dictionary.specs.Format.{scaleInRange, sizeInRange, fitting};
+ghost use Rattle.dictionary.specs.Dictionary.{wholeEntry, dictionary};
+ghost use Rattle.wire.specs.Words.{byteAt};
+ghost use Rattle.wire.specs.declared.codes.FieldType.the-variants.{Plain};
+ghost use Rattle.wire.specs.declared.codes.DataType.the-variants.{Number as IsNumber};
+ghost use Rattle.wire.specs.Classes.{fieldClass};
+ghost use Rattle.dictionary.specs.Walk.{between, sameRelation, sameField, sameEntry, relationGood, fieldGood, relationMet, fieldMet, meet};
+ghost use Rattle.dictionary.specs.Answers.{answerOf, meetingOf};
+use crate::names::good_name;
+use crate::names::name_at;
+use crate::names::same_bytes;
+use classes::FieldClass;
+use wire::bytes::byte_at;
+use wire::bytes::word_at;
+use wire::codes::DataType;
+use wire::codes::FieldType;
+use wire::codes::Width;
+
+// A dictionary is proper, or has a fault at the start of an entry.
+pub enum Answer {
+    Proper,
+    Fault(usize),
+}
+
+// How far a check has come: relations met, fields of the last, and the place of the last.
+pub struct Met {
+    pub relations: usize,
+    pub fields: usize,
+    pub last: usize,
+}
+
+pub enum Meeting {
+    Good(Met),
+    Bad,
+}
+
+// An entry's length word is its whole length, and the entry is whole.
+fn whole_entry(d: &[u8], p: usize, k: usize) -> bool
+    requires { ⌜ (length (now d) ≤ 65535) × ((p ≤ 65535) × (k ≤ 10)) ⌝ }
+    ensures { λ r. ⌜ r ≡ wholeEntry (now (d .entry)) p k ⌝ }
+{
+    let n = word_at(d, p) as usize;
+    let c = byte_at(d, p + k) as usize;
+    if n == k + 1 + c {
+        p + n <= d.len()
+    } else {
+        false
+    }
+}
+
+// "Scales -9 to 0"
+fn scale_in_range(b: u8) -> bool
+    ensures { λ r. ⌜ r ≡ scaleInRange b ⌝ }
+{
+    if b < 128 { b == 0 } else { 247 <= b }
+}
+
+// "Text n 1–255."
+fn size_in_range(n: u32) -> bool
+    ensures { λ r. ⌜ r ≡ sizeInRange n ⌝ }
+{
+    if n < 1 { false } else { n <= 255 }
+}
+
+fn number_fits(w: Width, scale: u8, size: u32) -> bool
+    ensures { λ r. ⌜ r ≡ fitting (Plain (IsNumber w)) scale size ⌝ }
+{
+    if !scale_in_range(scale) {
+        return false;
+    }
+    match w {
+        Width::Short => size == 2,
+        Width::Long => size == 4,
+    }
+}
+
+fn plain_fits(t: DataType, scale: u8, size: u32) -> bool
+    ensures { λ r. ⌜ r ≡ fitting (Plain t) scale size ⌝ }
+{
+    match t {
+        DataType::Number(w) => number_fits(w, scale, size),
+        DataType::Date => if scale == 0 { size == 8 } else { false },
+        DataType::Chars(x) => if scale == 0 {
+            size_in_range(size)
+        } else {
+            false
+        },
+    }
+}
+
+fn fits(t: FieldType, scale: u8, size: u32) -> bool
+    ensures { λ r. ⌜ r ≡ fitting t scale size ⌝ }
+{
+    match t {
+        FieldType::Plain(x) => plain_fits(x, scale, size),
+        FieldType::Reading => if scale_in_range(scale) {
+            size == 2
+        } else {
+            false
+        },
+    }
+}
+
+// The entry at q is a relation's with the id or the name of the one at p.
+fn same_relation(d: &[u8], p: usize, q: usize) -> bool
+    requires { ⌜ (p ≤ 65535) × (q ≤ 65535) ⌝ }
+    ensures { λ r. ⌜ r ≡ sameRelation (now (d .entry)) p q ⌝ }
+{
+    if word_at(d, q + 2) != 1 {
+        return false;
+    }
+    if word_at(d, q + 4) == word_at(d, p + 4) {
+        return true;
+    }
+    same_bytes(name_at(d, q + 6), name_at(d, p + 6))
+}
+
+// The entry at q is a field's with the name of the one at p.
+fn same_field(d: &[u8], p: usize, q: usize) -> bool
+    requires { ⌜ (p ≤ 65535) × (q ≤ 65535) ⌝ }
+    ensures { λ r. ⌜ r ≡ sameField (now (d .entry)) p q ⌝ }
+{
+    if word_at(d, q + 2) != 2 {
+        return false;
+    }
+    same_bytes(name_at(d, q + 10), name_at(d, p + 10))
+}
+
+// What must not repeat: a relation's id and name, or a field's name.
+pub enum Unique {
+    OfRelation,
+    OfField,
+}
+
+fn same_entry(u: Unique, d: &[u8], p: usize, q: usize) -> bool
+    requires { ⌜ (p ≤ 65535) × (q ≤ 65535) ⌝ }
+    ensures { λ r. ⌜ r ≡ sameEntry u (now (d .entry)) p q ⌝ }
+{
+    match u {
+        Unique::OfRelation => same_relation(d, p, q),
+        Unique::OfField => same_field(d, p, q),
+    }
+}
+
+// Whether an entry from a place on and before p has what must not repeat.
+fn taken(u: Unique, d: &[u8], from: usize, p: usize) -> bool
+    requires { ⌜ p ≤ 65535 ⌝ }
+    ensures { λ r. ⌜ r ≡ anyOf (sameEntry u (now (d .entry)) p) (between (now (d .entry)) from p) ⌝ }
+{
+    let mut q: usize = from;
+    while q < p {
+        let n = word_at(d, q) as usize;
+        if n == 0 {
+            return false;
+        }
+        if same_entry(u, d, p, q) {
+            return true;
+        }
+        q += n;
+    }
+    false
+}
+
+fn relation_good(d: &[u8], p: usize, m: Met) -> bool
+    requires { ⌜ (length (now d) ≤ 65535) × (p ≤ 65535) ⌝ }
+    ensures { λ r. ⌜ r ≡ relationGood (now (d .entry)) p m ⌝ }
+{
+    if !whole_entry(d, p, 6) {
+        return false;
+    }
+    if !good_name(name_at(d, p + 6)) {
+        return false;
+    }
+    if 32 <= m.relations {
+        return false;
+    }
+    !taken(Unique::OfRelation, d, 0, p)
+}
+
+fn field_good(d: &[u8], p: usize, t: FieldType, m: Met) -> bool
+    requires { ⌜ (length (now d) ≤ 65535) × (p ≤ 65535) ⌝ }
+    ensures { λ r. ⌜ r ≡ fieldGood (now (d .entry)) p t m ⌝ }
+{
+    if !whole_entry(d, p, 10) {
+        return false;
+    }
+    let fields = m.fields;
+    let last = m.last;
+    if word_at(d, p + 4) as usize != fields {
+        return false;
+    }
+    if !fits(t, byte_at(d, p + 7), word_at(d, p + 8)) {
+        return false;
+    }
+    if !good_name(name_at(d, p + 10)) {
+        return false;
+    }
+    if 64 <= fields {
+        return false;
+    }
+    !taken(Unique::OfField, d, last, p)
+}
+
+fn meet_relation(d: &[u8], p: usize, m: Met) -> Meeting
+    requires { ⌜ ((length (now d) ≤ 65535) × (p < length (now d))) × (m .relations ≤ 65535) ⌝ }
+    ensures { λ r. ⌜ r ≡ meetingOf (relationMet (now (d .entry)) p m) ⌝ }
+{
+    if relation_good(d, p, m) {
+        let n = m.relations;
+        return Meeting::Good(Met {
+            relations: n + 1,
+            fields: 0,
+            last: p,
+        });
+    }
+    Meeting::Bad
+}
+
+fn meet_field(d: &[u8], p: usize, m: Met) -> Meeting
+    requires { ⌜ ((length (now d) ≤ 65535) × (p < length (now d))) × (m .fields ≤ 65535) ⌝ }
+    ensures { λ r. ⌜ r ≡ meetingOf (fieldMet (now (d .entry)) p (fieldClass (byteAt (now (d .entry)) (p + 6))) m) ⌝ }
+{
+    let c = classes::field_class(byte_at(d, p + 6));
+    match c {
+        FieldClass::Due(t) => {
+            if m.relations == 0 {
+                return Meeting::Bad;
+            }
+            if field_good(d, p, t, m) {
+                let fields = m.fields;
+                let relations = m.relations;
+                let last = m.last;
+                return Meeting::Good(Met {
+                    relations: relations,
+                    fields: fields + 1,
+                    last: last,
+                });
+            }
+            Meeting::Bad
+        }
+        FieldClass::Foreign => Meeting::Bad,
+    }
+}
+
+fn meet_entry(d: &[u8], p: usize, m: Met) -> Meeting
+    requires { ⌜ ((length (now d) ≤ 65535) × (p < length (now d))) × ((m .relations ≤ 65535) × (m .fields ≤ 65535)) ⌝ }
+    ensures { λ r. ⌜ r ≡ meetingOf (meet (now (d .entry)) p m) ⌝ }
+{
+    let kind = word_at(d, p + 2);
+    if kind == 1 {
+        return meet_relation(d, p, m);
+    }
+    if kind == 2 {
+        return meet_field(d, p, m);
+    }
+    Meeting::Bad
+}
+
+// Whether a dictionary of any bytes is proper, or the first entry at fault.
+pub fn check(d: &[u8]) -> Answer
+    ensures { λ r. ⌜ r ≡ answerOf (dictionary (now (d .entry))) ⌝ }
+{
+    if 65535 < d.len() {
+        return Answer::Fault(0);
+    }
+    let mut m = Met {
+        relations: 0,
+        fields: 0,
+        last: 0,
+    };
+    let mut p: usize = 0;
+    while p < d.len() {
+        let next = meet_entry(d, p, m);
+        match next {
+            Meeting::Good(x) => {
+                m = x;
+            }
+            Meeting::Bad => {
+                return Answer::Fault(p);
+            }
+        }
+        p += word_at(d, p) as usize;
+    }
+    Answer::Proper
+}

@@ -1,0 +1,59 @@
+// Counted names, of which a dictionary has many.
+ghost use mathlib.Core.Path.{_≡_};
+ghost use Prim.Native.Nat.{_+_};
+ghost use Rattle.wire.specs.Lists.{sameBytes};
+ghost use Rattle.dictionary.specs.Dictionary.{nameAt, goodName};
+
+pub fn same_bytes(a: &[u8], b: &[u8]) -> bool
+    ensures { λ r. ⌜ r ≡ sameBytes (now (a .entry)) (now (b .entry)) ⌝ }
+{
+    if a.len() != b.len() {
+        return false;
+    }
+    let mut i = 0;
+    while i < a.len() {
+        if a[i] != b[i] {
+            return false;
+        }
+        i += 1;
+    }
+    true
+}
+
+// The counted name at a place; what of it lies past the end is left off.
+pub fn name_at<'a>(d: &'a [u8], p: usize) -> &'a [u8]
+    ensures { λ r. ⌜ now r ≡ nameAt (now (d .entry)) p ⌝ }
+{
+    if d.len() <= p {
+        return &d[0..0];
+    }
+    let start = p + 1;
+    let n = d[p] as usize;
+    if d.len() - start < n {
+        return &d[start..];
+    }
+    let end = start + n;
+    &d[start..end]
+}
+
+pub fn good_name(s: &[u8]) -> bool
+    ensures { λ r. ⌜ r ≡ goodName (now (s .entry)) ⌝ }
+{
+    if s.len() == 0 {
+        return false;
+    }
+    if 31 < s.len() {
+        return false;
+    }
+    let mut i = 0;
+    while i < s.len() {
+        if s[i] < 33 {
+            return false;
+        }
+        if 126 < s[i] {
+            return false;
+        }
+        i += 1;
+    }
+    true
+}

@@ -1,0 +1,79 @@
+// Whether a text matches a pattern: `*` is any run, `?` one byte.
+use crate::letters::same_letter;
+ghost use mathlib.Core.Path.{_≡_};
+ghost use Prim.Native.Nat.{_<_};
+ghost use lib.ListN.{length, drop};
+ghost use Rattle.text.specs.Tests.{matches};
+ghost use Rattle.text.specs.Matching.{signMatches, Told};
+
+// Never: the pattern matches no end of the text, so a run before it needs no more tries.
+enum Answer {
+    Yes,
+    No,
+    Never,
+}
+
+// A slice without its first byte.
+fn rest(s: &[u8]) -> &[u8]
+    requires { ⌜ 0 < length (now s) ⌝ }
+    ensures { λ r. ⌜ now r ≡ drop 1 (now (s .entry)) ⌝ }
+{
+    &s[1..]
+}
+
+// Whether the sign c of a pattern, which is no `*`, matches a byte.
+fn sign_matches(c: u8, x: u8) -> bool
+    ensures { λ r. ⌜ r ≡ signMatches c x ⌝ }
+{
+    if c == 63 {
+        return true;
+    }
+    same_letter(c, x)
+}
+
+// In time pattern × text: once the part up to the next `*` is found, no later place for it is tried.
+fn answer_of(p: &[u8], t: &[u8]) -> Answer
+    ensures { λ r. ⌜ Told r (now (p .entry)) (now (t .entry)) ⌝ }
+{
+    if p.len() == 0 {
+        if t.len() == 0 {
+            return Answer::Yes;
+        }
+        return Answer::No;
+    }
+    let c = p[0];
+    if c == 42 {
+        match answer_of(rest(p), t) {
+            Answer::Yes => {
+                return Answer::Yes;
+            }
+            Answer::Never => {
+                return Answer::Never;
+            }
+            Answer::No => {
+                if t.len() == 0 {
+                    return Answer::Never;
+                }
+                return answer_of(p, rest(t));
+            }
+        }
+    }
+    if t.len() == 0 {
+        return Answer::Never;
+    }
+    if sign_matches(c, t[0]) {
+        return answer_of(rest(p), rest(t));
+    }
+    Answer::No
+}
+
+// Whether the text a matches the pattern b.
+pub fn matching(a: &[u8], b: &[u8]) -> bool
+    ensures { λ r. ⌜ r ≡ matches (now (b .entry)) (now (a .entry)) ⌝ }
+{
+    match answer_of(b, a) {
+        Answer::Yes => true,
+        Answer::No => false,
+        Answer::Never => false,
+    }
+}

@@ -1,0 +1,85 @@
+// The value of a text: the part of the lent slice that holds it, without trailing blanks.
+use crate::Part;
+use wire::codes::TextType;
+ghost use mathlib.Core.Path.{_≡_};
+ghost use Prim.Native.Nat.{_+_, _≤_};
+ghost use lib.ListN.{length};
+ghost use Rattle.text.specs.Value.{kept, trimmed, textPart};
+ghost use Rattle.text.specs.Reading.{TextRead};
+
+// How many of the n bytes from p on are left without the blanks at their end.
+fn kept_length(s: &[u8], p: usize, n: usize) -> usize
+    requires { ⌜ p + n ≤ length (now s) ⌝ }
+    ensures { λ r. ⌜ r ≡ kept (now (s .entry)) p n ⌝ }
+{
+    let mut k = n;
+    while 0 < k {
+        if s[p + (k - 1)] != 32 {
+            return k;
+        }
+        k = k - 1;
+    }
+    0
+}
+
+fn trimmed_part(s: &[u8], p: usize, n: usize) -> Part
+    requires { ⌜ p + n ≤ length (now s) ⌝ }
+    ensures { λ r. ⌜ r ≡ trimmed (now (s .entry)) p n ⌝ }
+{
+    Part::Is(p, p + kept_length(s, p, n))
+}
+
+fn wide(b: u8) -> usize
+    ensures { λ r. ⌜ r ≡ b ⌝ }
+{
+    b as usize
+}
+
+// A length word, and the text after it.
+fn varying_part(s: &[u8]) -> Part
+    ensures { λ r. ⌜ r ≡ textPart TextType.Varying (now (s .entry)) ⌝ }
+{
+    if s.len() < 2 {
+        return Part::Malformed;
+    }
+    let n = wide(s[0]) + 256 * wide(s[1]);
+    if s.len() - 2 < n {
+        return Part::Malformed;
+    }
+    trimmed_part(s, 2, n)
+}
+
+// The bytes before the first zero.
+fn cstring_part(s: &[u8]) -> Part
+    ensures { λ r. ⌜ r ≡ textPart TextType.Cstring (now (s .entry)) ⌝ }
+{
+    let mut i: usize = 0;
+    while i < s.len() {
+        if s[i] == 0 {
+            return trimmed_part(s, 0, i);
+        }
+        i = i + 1;
+    }
+    Part::Malformed
+}
+
+// Where the text starts and ends in the bytes that hold it.
+pub fn text_part(t: TextType, s: &[u8]) -> Part
+    ensures { λ r. ⌜ r ≡ textPart t (now (s .entry)) ⌝ }
+{
+    match t {
+        TextType::Text => trimmed_part(s, 0, s.len()),
+        TextType::Varying => varying_part(s),
+        TextType::Cstring => cstring_part(s),
+    }
+}
+
+// The text itself; of a malformed one an empty part.
+pub fn text_of<'a>(t: TextType, s: &'a [u8]) -> &'a [u8]
+    ensures { λ r. ⌜ TextRead t (now (s .entry)) (now r) ⌝ }
+{
+    match text_part(t, s) {
+        Part::Is(start, end) => &s[start..end],
+        Part::Malformed => &s[0..0],
+    }
+}
