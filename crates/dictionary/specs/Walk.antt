@@ -1,21 +1,22 @@
--- How the code goes through a dictionary of any bytes: from entry to entry by their length words. What is proper is said in Dictionary; what the
--- walk finds in a proper dictionary is a theorem.
+-- How the code goes through a dictionary of any bytes: from entry to entry by their length words. What is proper is said in Dictionary;
+-- what the walk finds in a proper dictionary is a theorem.
 use Prim.Native.Nat.{ℕ, zero, suc, _+_, _-_}
 use mathlib.Core.Bool.{Bool, true, false, cond, not, _&&_, _||_}
-use mathlib.Core.List.{List, [], _∷_}
+use mathlib.Core.List.{List, [], _∷_, map}
 use mathlib.Core.Option.{Option, none, some}
 use lib.Dec.{eqb, leb, ltb}
-use lib.ListN.{length, take, getElem?}
+use lib.ListN.{length}
 use Rattle.wire.specs.Words.{byteAt, wordAt}
-use Rattle.wire.specs.Lists.{anyOf, indexOf, sumOf, sameBytes}
+use Rattle.wire.specs.Lists.{anyOf, sameBytes}
 use Rattle.wire.specs.Classes.{Class, due, leftOut, foreign, fieldClass}
 use Rattle.wire.specs.declared.codes.FieldType.{FieldType}
 use Rattle.wire.specs.declared.codes.FieldType.the-variants.{Reading}
 use Rattle.dictionary.specs.declared.check.Met.{Met}
 use Rattle.dictionary.specs.declared.check.Unique.{Unique}
 use Rattle.dictionary.specs.declared.check.Unique.the-variants.{OfRelation, OfField}
-use Rattle.dictionary.specs.Format.{Format, fitting, held}
-use Rattle.dictionary.specs.Dictionary.{nameAt, goodName, wholeEntry}
+use Rattle.dictionary.specs.Format.{fitting}
+use Rattle.dictionary.specs.Dictionary.{Field, Relation, nameAt, goodName, wholeEntry, fieldAt}
+use Rattle.dictionary.specs.Names.{Name, named, numbered}
 
 abbrev pub kindAt : List ℕ → ℕ → ℕ
 kindAt d q = wordAt d (q + 2)
@@ -100,42 +101,36 @@ fault d = cond (leb (length d) 65535) (faultFrom (length d) d 0 (record { relati
 
 -- ---- looking up
 
+-- a place that passes, unless a later one did
+abbrev pub later : Option ℕ → Bool → ℕ → Option ℕ
+later (some z) b x = some z
+later none true x = some x
+later none false x = none
+
 -- the last place that passes a test
 unfoldable pub lastOf : (ℕ → Bool) → List ℕ → Option ℕ
 lastOf test [] = none
-lastOf test (x ∷ l) = orElse (lastOf test l) (cond (test x) (some x) none)
-  where
-    orElse : Option ℕ → Option ℕ → Option ℕ
-    orElse none y = y
-    orElse (some z) y = some z
+lastOf test (x ∷ l) = later (lastOf test l) (test x) x
 
-unfoldable pub isNamed : List ℕ → List ℕ → ℕ → Bool
-isNamed d n q = eqb (kindAt d q) 1 && sameBytes (nameAt d (q + 6)) n
+-- the entry at q is a relation's of a name or an id
+unfoldable pub isNamed : List ℕ → Name → ℕ → Bool
+isNamed d (named n) q = eqb (kindAt d q) 1 && sameBytes (nameAt d (q + 6)) n
+isNamed d (numbered i) q = eqb (kindAt d q) 1 && eqb (wordAt d (q + 4)) i
 
-unfoldable pub isNumbered : List ℕ → ℕ → ℕ → Bool
-isNumbered d i q = eqb (kindAt d q) 1 && eqb (wordAt d (q + 4)) i
+-- the place of a relation's entry
+unfoldable pub relationPlace : List ℕ → Name → Option ℕ
+relationPlace d n = lastOf (isNamed d n) (between d 0 (length d))
 
--- the entry of the relation of a name, and of an id
-unfoldable pub relationNamed : List ℕ → List ℕ → Option ℕ
-relationNamed d n = lastOf (isNamed d n) (between d 0 (length d))
-
-unfoldable pub relationNumbered : List ℕ → ℕ → Option ℕ
-relationNumbered d i = lastOf (isNumbered d i) (between d 0 (length d))
-
--- the id of the field of a name, of the relation at r
-unfoldable pub fieldNamed : List ℕ → ℕ → List ℕ → Option ℕ
-fieldNamed d r n = indexOf (λ q. sameBytes (nameAt d (q + 10)) n) (fieldsOf d r)
-
--- the type of a field's entry; any other code counts as a reading, which a proper dictionary never needs
+-- the type of a field's entry; any other code counts as a reading, which no proper dictionary has
 abbrev pub typeOf : Class FieldType → FieldType
 typeOf (due t) = t
 typeOf leftOut = Reading
 typeOf foreign = Reading
 
-unfoldable pub formatAt : List ℕ → ℕ → Format
-formatAt d q = record { type = typeOf (fieldClass (byteAt d (q + 6))); scale = byteAt d (q + 7); size = wordAt d (q + 8) }
+unfoldable pub entryField : List ℕ → ℕ → Field
+entryField d q = fieldAt d q (typeOf (fieldClass (byteAt d (q + 6))))
 
--- ---- records
-
-unfoldable pub packedAt : List ℕ → List ℕ → ℕ
-packedAt d qs = sumOf (λ q. held (formatAt d q)) qs
+-- the relation whose entry stands at r, as its bytes and those of the fields after it say
+unfoldable pub relationAt : List ℕ → ℕ → Relation
+relationAt d r =
+    record { place = r; id = wordAt d (r + 4); name = nameAt d (r + 6); fields = map (entryField d) (fieldsOf d r) }
