@@ -1,2 +1,5 @@
 -- Scaled numbers.
 pub mod Number
+pub mod Signs
+pub mod Sums
+pub mod Orders

@@ -1,4 +1,17 @@
 // Scaled numbers: a signed 64-bit value with a scale, a signed byte from -18 to 0. The number is the value times ten to the scale.
+ghost use mathlib.Core.Path.{_≡_};
+ghost use Rattle.decimal.specs.Number.{places, rescaled, added, subtracted, multiplied, quotient, negated, computed, compared};
+use wire::codes::Operator;
+use wire::order::Order;
+
+mod order;
+mod places;
+mod powers;
+mod rescaling;
+mod sign;
+mod sums;
+mod values;
+
 pub struct Number {
     pub value: i64,
     pub scale: i8,
@@ -9,4 +22,81 @@ pub enum Computed {
     Value(Number),
     Overflow,
     ZeroDivisor,
+}
+
+// The same number at another scale, or at its own where that has more places.
+pub fn rescale(a: Number, scale: i8) -> Computed
+    ensures { λ r. ⌜ r ≡ rescaled (places scale) a ⌝ }
+{
+    rescaling::at_places(a, places::places_of(scale))
+}
+
+pub fn add(a: Number, b: Number) -> Computed
+    ensures { λ r. ⌜ r ≡ added a b ⌝ }
+{
+    sums::sum_or_difference(a, b, false)
+}
+
+pub fn subtract(a: Number, b: Number) -> Computed
+    ensures { λ r. ⌜ r ≡ subtracted a b ⌝ }
+{
+    sums::sum_or_difference(a, b, true)
+}
+
+pub fn multiply(a: Number, b: Number) -> Computed
+    ensures { λ r. ⌜ r ≡ multiplied a b ⌝ }
+{
+    let x = a.value;
+    let y = b.value;
+    let k = places::places_in(a) + places::places_in(b);
+    values::product(
+        sign::is_negative(x),
+        sign::magnitude(x),
+        sign::is_negative(y),
+        sign::magnitude(y),
+        places::scale_of(k),
+    )
+}
+
+// The quotient, toward zero.
+pub fn divide(a: Number, b: Number) -> Computed
+    ensures { λ r. ⌜ r ≡ quotient a b ⌝ }
+{
+    let y = b.value;
+    let first = places::scale_of(places::places_in(a));
+    let second = places::scale_of(places::places_in(b));
+    values::quotient_of(a, y, first - second)
+}
+
+pub fn negate(a: Number) -> Computed
+    ensures { λ r. ⌜ r ≡ negated a ⌝ }
+{
+    let x = a.value;
+    values::opposite(x, places::scale_of(places::places_in(a)))
+}
+
+pub fn compute(o: Operator, a: Number, b: Number) -> Computed
+    ensures { λ r. ⌜ r ≡ computed o a b ⌝ }
+{
+    match o {
+        Operator::Add => add(a, b),
+        Operator::Subtract => subtract(a, b),
+        Operator::Multiply => multiply(a, b),
+        Operator::Divide => divide(a, b),
+    }
+}
+
+// The exact order of two numbers.
+pub fn compare(a: Number, b: Number) -> Order
+    ensures { λ r. ⌜ r ≡ compared a b ⌝ }
+{
+    let x = a.value;
+    let y = b.value;
+    let p = places::places_in(a);
+    let q = places::places_in(b);
+    if p <= q {
+        order::raised_order(x, q - p, y)
+    } else {
+        order::reverse(order::raised_order(y, p - q, x))
+    }
 }

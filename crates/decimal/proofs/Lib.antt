@@ -1,0 +1,9 @@
+-- Laws that belong to no one function.
+pub mod Table
+pub mod Bits
+pub mod Fitted
+pub mod Signed
+pub mod Scales
+pub mod Quotient
+pub mod Differences
+pub mod Ordered

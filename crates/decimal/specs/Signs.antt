@@ -1,0 +1,13 @@
+-- Values by sign and magnitude: what the parts of the code give.
+use Prim.Native.Nat.{ℕ}
+use mathlib.Core.Bool.{Bool, true, false}
+use lib.IntN.{ℤ, pos, negsuc, negℤ}
+
+-- the value of a sign and a magnitude
+unfoldable pub signed : Bool → ℕ → ℤ
+signed true m = negℤ (pos m)
+signed false m = pos m
+
+abbrev pub isNegative : ℤ → Bool
+isNegative (pos n) = false
+isNegative (negsuc n) = true

@@ -1,0 +1,40 @@
+// Scales and decimal places.
+ghost use mathlib.Core.Path.{_≡_};
+ghost use Prim.Native.Nat.{_≤_, max};
+ghost use Rattle.decimal.specs.Number.{places, scaleOf};
+use super::Number;
+
+// The decimal places of a scale.
+pub(crate) fn places_of(scale: i8) -> usize
+    ensures { λ r. ⌜ (r ≡ places scale) × (r ≤ 18) ⌝ }
+{
+    if 0 <= scale {
+        0
+    } else if scale < -18 {
+        18
+    } else {
+        (-scale) as usize
+    }
+}
+
+// The decimal places of a number.
+pub(crate) fn places_in(a: Number) -> usize
+    ensures { λ r. ⌜ (r ≡ places (a .scale)) × (r ≤ 18) ⌝ }
+{
+    let scale = a.scale;
+    places_of(scale)
+}
+
+// The scale of so many decimal places.
+pub(crate) fn scale_of(k: usize) -> i8
+    requires { ⌜ k ≤ 36 ⌝ }
+    ensures { λ r. ⌜ r ≡ scaleOf k ⌝ }
+{
+    -(k as i8)
+}
+
+pub(crate) fn larger(a: usize, b: usize) -> usize
+    ensures { λ r. ⌜ r ≡ max a b ⌝ }
+{
+    if a <= b { b } else { a }
+}

@@ -1,0 +1,67 @@
+// Sum, product, quotient and opposite of values, each given a scale.
+ghost use mathlib.Core.Path.{_≡_};
+ghost use lib.IntN.{negℤ, _+ℤ_, _*ℤ_};
+ghost use Rattle.decimal.specs.Number.{fitted, divided};
+ghost use Rattle.decimal.specs.Signs.{signed};
+use super::Computed;
+use super::Number;
+use super::sign::make;
+
+// The sum of two values by their signs and magnitudes.
+pub(crate) fn sum(s: bool, m: u64, t: bool, n: u64, scale: i8) -> Computed
+    ensures { λ r. ⌜ r ≡ fitted (signed s m +ℤ signed t n) scale ⌝ }
+{
+    if s == t {
+        if n <= 18446744073709551615 - m {
+            make(s, m + n, scale)
+        } else {
+            Computed::Overflow
+        }
+    } else if n <= m {
+        make(s, m - n, scale)
+    } else {
+        make(t, n - m, scale)
+    }
+}
+
+// The product of two values by their signs and magnitudes.
+pub(crate) fn product(s: bool, m: u64, t: bool, n: u64, scale: i8) -> Computed
+    ensures { λ r. ⌜ r ≡ fitted (signed s m *ℤ signed t n) scale ⌝ }
+{
+    if m == 0 {
+        return Computed::Value(Number { value: 0, scale });
+    }
+    if n <= 18446744073709551615 / m {
+        make(s != t, m * n, scale)
+    } else {
+        Computed::Overflow
+    }
+}
+
+// The value with the other sign. The smallest has none.
+pub(crate) fn opposite(x: i64, scale: i8) -> Computed
+    ensures { λ r. ⌜ r ≡ fitted (negℤ x) scale ⌝ }
+{
+    if x == -9223372036854775808 {
+        Computed::Overflow
+    } else {
+        Computed::Value(Number { value: -x, scale })
+    }
+}
+
+// The quotient of a number's value and another, toward zero.
+pub(crate) fn quotient_of(a: Number, y: i64, scale: i8) -> Computed
+    ensures { λ r. ⌜ r ≡ divided a y scale ⌝ }
+{
+    let x = a.value;
+    if y == 0 {
+        return Computed::ZeroDivisor;
+    }
+    if y == -1 {
+        return opposite(x, scale);
+    }
+    Computed::Value(Number {
+        value: x / y,
+        scale,
+    })
+}
