@@ -6,7 +6,8 @@ use std::cmp::Ordering;
 #[allow(improper_ctypes)]
 extern "C" {
     fn leaf_value(operation: u8, a: i64, a_scale: i8, b: i64, b_scale: i8) -> i64;
-    fn leaf_outcome(operation: u8, a: i64, a_scale: i8, b: i64, b_scale: i8) -> i64;
+    fn leaf_scale(operation: u8, a: i64, a_scale: i8, b: i64, b_scale: i8) -> i8;
+    fn leaf_refusal(operation: u8, a: i64, a_scale: i8, b: i64, b_scale: i8) -> u32;
     fn leaf_compare(a: i64, a_scale: i8, b: i64, b_scale: i8) -> i64;
     fn leaf_text_malformed(text_type: u8, bytes: *const u8, length: usize) -> bool;
     fn leaf_text_start(text_type: u8, bytes: *const u8, length: usize) -> usize;
@@ -37,7 +38,7 @@ pub struct Number {
 #[derive(Clone, Copy, Debug, PartialEq, Eq)]
 pub enum Computed {
     Value(Number),
-    Refused(i64),
+    Refused(u32),
 }
 
 /// The operations, by the numbers that the exports give them.
@@ -48,19 +49,19 @@ pub const DIVIDE: u8 = 3;
 pub const NEGATE: u8 = 4;
 pub const RESCALE: u8 = 5;
 
-/// The result of an operation; the outcome of a value is 1,000 plus its scale.
+/// The result of an operation.
 pub fn compute(operation: u8, a: Number, b: Number) -> Computed {
     // Numbers alone are passed.
-    let (value, outcome) = unsafe {
-        (
-            leaf_value(operation, a.value, a.scale, b.value, b.scale),
-            leaf_outcome(operation, a.value, a.scale, b.value, b.scale),
-        )
-    };
-    if outcome < 900 {
-        return Computed::Refused(outcome);
+    unsafe {
+        let refusal = leaf_refusal(operation, a.value, a.scale, b.value, b.scale);
+        if refusal != 0 {
+            return Computed::Refused(refusal);
+        }
+        Computed::Value(Number {
+            value: leaf_value(operation, a.value, a.scale, b.value, b.scale),
+            scale: leaf_scale(operation, a.value, a.scale, b.value, b.scale),
+        })
     }
-    Computed::Value(Number { value, scale: (outcome - 1000) as i8 })
 }
 
 fn ordering(sign: i64) -> Ordering {

@@ -1,0 +1,67 @@
+-- What the test exports give, in numbers.
+use Prim.Native.Nat.{ℕ}
+use mathlib.Core.Bool.{Bool, true, false, cond}
+use lib.Dec.{eqb, ltb}
+use lib.IntN.{ℤ, pos, negsuc}
+use Rattle.wire.specs.declared.order.Order.{Order}
+use Rattle.wire.specs.declared.order.Order.the-variants.{Less, Equal, Greater}
+use Rattle.wire.specs.declared.codes.Operator.{Operator}
+use Rattle.wire.specs.declared.codes.Operator.the-variants.{Add, Subtract, Multiply, Divide}
+use Rattle.wire.specs.declared.codes.TextType.{TextType}
+use Rattle.wire.specs.declared.codes.TextType.the-variants.{Text, Varying, Cstring}
+use Rattle.wire.specs.declared.codes.TextSearch.{TextSearch}
+use Rattle.wire.specs.declared.codes.TextSearch.the-variants.{Containing, Matching, Starting}
+use Rattle.decimal.specs.declared.Number.{Number}
+use Rattle.decimal.specs.declared.Computed.{Computed}
+use Rattle.decimal.specs.declared.Computed.the-variants.{Value, Overflow, ZeroDivisor}
+use Rattle.decimal.specs.Number.{places, computed, negated, rescaled}
+use Rattle.text.specs.declared.Part.{Part}
+use Rattle.text.specs.declared.Part.the-variants.{Is, Malformed}
+
+-- ---- the numbers that stand for a case
+
+unfoldable pub operatorOf : ℕ → Operator
+operatorOf n = cond (eqb n 0) Add (cond (eqb n 1) Subtract (cond (eqb n 2) Multiply Divide))
+
+unfoldable pub textTypeOf : ℕ → TextType
+textTypeOf n = cond (eqb n 0) Text (cond (eqb n 1) Varying Cstring)
+
+unfoldable pub searchOf : ℕ → TextSearch
+searchOf n = cond (eqb n 0) Containing (cond (eqb n 1) Matching Starting)
+
+unfoldable pub operation : ℕ → Number → Number → Computed
+operation n a b = cond (ltb n 4) (computed (operatorOf n) a b) (cond (eqb n 4) (negated a) (rescaled (places (b .scale)) a))
+
+-- ---- the numbers that a case gives
+
+abbrev pub valueOf : Computed → ℤ
+valueOf (Value a) = a .value
+valueOf Overflow = pos 0
+valueOf ZeroDivisor = pos 0
+
+abbrev pub scaleOf : Computed → ℤ
+scaleOf (Value a) = a .scale
+scaleOf Overflow = pos 0
+scaleOf ZeroDivisor = pos 0
+
+abbrev pub refusalOf : Computed → ℕ
+refusalOf (Value a) = 0
+refusalOf Overflow = 24
+refusalOf ZeroDivisor = 25
+
+abbrev pub signOf : Order → ℤ
+signOf Less = negsuc 0
+signOf Equal = pos 0
+signOf Greater = pos 1
+
+abbrev pub isMalformed : Part → Bool
+isMalformed (Is start end) = false
+isMalformed Malformed = true
+
+abbrev pub startOf : Part → ℕ
+startOf (Is start end) = start
+startOf Malformed = 0
+
+abbrev pub endOf : Part → ℕ
+endOf (Is start end) = end
+endOf Malformed = 0

@@ -1,0 +1,2 @@
+-- What the test exports give, in numbers.
+pub mod Exports

@@ -1,0 +1,224 @@
+// Test exports of the leaves, for the comparison with the second program. They are no part of the product's interface.
+ghost use mathlib.Core.Path.{_≡_};
+ghost use Rattle.wire.specs.Words.{wordAt, longAt, signed};
+ghost use Rattle.leaf_exports.specs.Exports.{operatorOf, textTypeOf, searchOf, operation, valueOf, scaleOf, refusalOf, signOf, isMalformed, startOf, endOf};
+ghost use Rattle.decimal.specs.Number.{compared};
+ghost use Rattle.text.specs.Value.{textPart, bytesOf};
+ghost use Rattle.text.specs.Tests.{textOrder, search};
+ghost use lib.ListN.{length};
+use decimal::Computed;
+use decimal::Number;
+use text::Part;
+use wire::codes::Operator;
+use wire::codes::TextSearch;
+use wire::codes::TextType;
+use wire::order::Order;
+
+fn operator_of(o: u8) -> Operator
+    ensures { λ r. ⌜ r ≡ operatorOf o ⌝ }
+{
+    match o {
+        0 => Operator::Add,
+        1 => Operator::Subtract,
+        2 => Operator::Multiply,
+        _ => Operator::Divide,
+    }
+}
+
+// Add, subtract, multiply and divide are 0 to 3; 4 is negate; any other brings the first to the scale of the second.
+fn operate(o: u8, a: Number, b: Number) -> Computed
+    ensures { λ r. ⌜ r ≡ operation o a b ⌝ }
+{
+    if o < 4 {
+        return decimal::compute(operator_of(o), a, b);
+    }
+    if o == 4 {
+        return decimal::negate(a);
+    }
+    let scale = b.scale;
+    decimal::rescale(a, scale)
+}
+
+// The value of a result, 0 where there is none.
+#[no_mangle]
+pub extern "C" fn leaf_value(o: u8, a: i64, a_scale: i8, b: i64, b_scale: i8) -> i64
+    ensures { λ r. ⌜ r ≡ valueOf (operation o (record { value = a; scale = «a_scale» }) (record { value = b; scale = «b_scale» })) ⌝ }
+{
+    let c = operate(
+        o,
+        Number {
+            value: a,
+            scale: a_scale,
+        },
+        Number {
+            value: b,
+            scale: b_scale,
+        },
+    );
+    match c {
+        Computed::Value(n) => n.value,
+        Computed::Overflow => 0,
+        Computed::ZeroDivisor => 0,
+    }
+}
+
+// The scale of a result, 0 where there is none.
+#[no_mangle]
+pub extern "C" fn leaf_scale(o: u8, a: i64, a_scale: i8, b: i64, b_scale: i8) -> i8
+    ensures { λ r. ⌜ r ≡ scaleOf (operation o (record { value = a; scale = «a_scale» }) (record { value = b; scale = «b_scale» })) ⌝ }
+{
+    let c = operate(o, Number { value: a, scale: a_scale }, Number { value: b, scale: b_scale });
+    match c {
+        Computed::Value(n) => n.scale,
+        Computed::Overflow => 0,
+        Computed::ZeroDivisor => 0,
+    }
+}
+
+// 24 or 25, or 0 where there is a result.
+#[no_mangle]
+pub extern "C" fn leaf_refusal(o: u8, a: i64, a_scale: i8, b: i64, b_scale: i8) -> u32
+    ensures { λ r. ⌜ r ≡ refusalOf (operation o (record { value = a; scale = «a_scale» }) (record { value = b; scale = «b_scale» })) ⌝ }
+{
+    let c = operate(o, Number { value: a, scale: a_scale }, Number { value: b, scale: b_scale });
+    match c {
+        Computed::Value(n) => 0,
+        Computed::Overflow => 24,
+        Computed::ZeroDivisor => 25,
+    }
+}
+
+fn sign_of(o: Order) -> i64
+    ensures { λ r. ⌜ r ≡ signOf o ⌝ }
+{
+    match o {
+        Order::Less => -1,
+        Order::Equal => 0,
+        Order::Greater => 1,
+    }
+}
+
+// -1, 0 or 1, as the first number is less than, equal to or greater than the second.
+#[no_mangle]
+pub extern "C" fn leaf_compare(a: i64, a_scale: i8, b: i64, b_scale: i8) -> i64
+    ensures { λ r. ⌜ r ≡ signOf (compared (record { value = a; scale = «a_scale» }) (record { value = b; scale = «b_scale» })) ⌝ }
+{
+    sign_of(decimal::compare(
+        Number {
+            value: a,
+            scale: a_scale,
+        },
+        Number {
+            value: b,
+            scale: b_scale,
+        },
+    ))
+}
+
+// Text, varying and cstring are 0, 1 and any other number.
+fn text_type_of(t: u8) -> TextType
+    ensures { λ r. ⌜ r ≡ textTypeOf t ⌝ }
+{
+    match t {
+        0 => TextType::Text,
+        1 => TextType::Varying,
+        _ => TextType::Cstring,
+    }
+}
+
+#[no_mangle]
+pub extern "C" fn leaf_text_malformed(t: u8, s: &[u8]) -> bool
+    ensures { λ r. ⌜ r ≡ isMalformed (textPart (textTypeOf t) (now (s .entry))) ⌝ }
+{
+    let p = text::value::text_part(text_type_of(t), s);
+    match p {
+        Part::Is(start, end) => false,
+        Part::Malformed => true,
+    }
+}
+
+// Where a text starts; 0 of a malformed one.
+#[no_mangle]
+pub extern "C" fn leaf_text_start(t: u8, s: &[u8]) -> usize
+    ensures { λ r. ⌜ r ≡ startOf (textPart (textTypeOf t) (now (s .entry))) ⌝ }
+{
+    let p = text::value::text_part(text_type_of(t), s);
+    match p {
+        Part::Is(start, end) => start,
+        Part::Malformed => 0,
+    }
+}
+
+// Where a text ends; 0 of a malformed one.
+#[no_mangle]
+pub extern "C" fn leaf_text_end(t: u8, s: &[u8]) -> usize
+    ensures { λ r. ⌜ r ≡ endOf (textPart (textTypeOf t) (now (s .entry))) ⌝ }
+{
+    let p = text::value::text_part(text_type_of(t), s);
+    match p {
+        Part::Is(start, end) => end,
+        Part::Malformed => 0,
+    }
+}
+
+// How long the part is that the text reader returns.
+#[no_mangle]
+pub extern "C" fn leaf_text_length(t: u8, s: &[u8]) -> usize
+    ensures { λ r. ⌜ r ≡ length (bytesOf (now (s .entry)) (textPart (textTypeOf t) (now (s .entry)))) ⌝ }
+{
+    text::value::text_of(text_type_of(t), s).len()
+}
+
+// -1, 0 or 1, as the first text stands before the second, beside it or after it.
+#[no_mangle]
+pub extern "C" fn leaf_text_compare(a: &[u8], b: &[u8]) -> i64
+    ensures { λ r. ⌜ r ≡ signOf (textOrder (now (a .entry)) (now (b .entry))) ⌝ }
+{
+    sign_of(text::order::compare(a, b))
+}
+
+// Containing, matching and starting are 0, 1 and any other number.
+fn search_of(t: u8) -> TextSearch
+    ensures { λ r. ⌜ r ≡ searchOf t ⌝ }
+{
+    match t {
+        0 => TextSearch::Containing,
+        1 => TextSearch::Matching,
+        _ => TextSearch::Starting,
+    }
+}
+
+#[no_mangle]
+pub extern "C" fn leaf_search(t: u8, a: &[u8], b: &[u8]) -> bool
+    ensures { λ r. ⌜ r ≡ search (searchOf t) (now (a .entry)) (now (b .entry)) ⌝ }
+{
+    text::search::searched(search_of(t), a, b)
+}
+
+#[no_mangle]
+pub extern "C" fn leaf_word(s: &[u8], at: usize) -> u32
+    ensures { λ r. ⌜ r ≡ wordAt (now (s .entry)) at ⌝ }
+{
+    wire::bytes::word_at(s, at)
+}
+
+#[no_mangle]
+pub extern "C" fn leaf_long(s: &[u8], at: usize) -> u32
+    ensures { λ r. ⌜ r ≡ longAt (now (s .entry)) at ⌝ }
+{
+    wire::bytes::long_at(s, at)
+}
+
+#[no_mangle]
+pub extern "C" fn leaf_signed_word(s: &[u8], at: usize) -> i64
+    ensures { λ r. ⌜ r ≡ signed 2 (wordAt (now (s .entry)) at) ⌝ }
+{
+    wire::bytes::signed_word_at(s, at)
+}
+
+#[no_mangle]
+pub extern "C" fn leaf_signed_long(s: &[u8], at: usize) -> i64
+    ensures { λ r. ⌜ r ≡ signed 4 (longAt (now (s .entry)) at) ⌝ }
+{
+    wire::bytes::signed_long_at(s, at)
+}
