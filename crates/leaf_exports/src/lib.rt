@@ -67,7 +67,17 @@ pub extern "C" fn leaf_value(o: u8, a: i64, a_scale: i8, b: i64, b_scale: i8) ->
 pub extern "C" fn leaf_scale(o: u8, a: i64, a_scale: i8, b: i64, b_scale: i8) -> i8
     ensures { λ r. ⌜ r ≡ scaleOf (operation o (record { value = a; scale = «a_scale» }) (record { value = b; scale = «b_scale» })) ⌝ }
 {
-    let c = operate(o, Number { value: a, scale: a_scale }, Number { value: b, scale: b_scale });
+    let c = operate(
+        o,
+        Number {
+            value: a,
+            scale: a_scale,
+        },
+        Number {
+            value: b,
+            scale: b_scale,
+        },
+    );
     match c {
         Computed::Value(n) => n.scale,
         Computed::Overflow => 0,
@@ -80,7 +90,17 @@ pub extern "C" fn leaf_scale(o: u8, a: i64, a_scale: i8, b: i64, b_scale: i8) ->
 pub extern "C" fn leaf_refusal(o: u8, a: i64, a_scale: i8, b: i64, b_scale: i8) -> u32
     ensures { λ r. ⌜ r ≡ refusalOf (operation o (record { value = a; scale = «a_scale» }) (record { value = b; scale = «b_scale» })) ⌝ }
 {
-    let c = operate(o, Number { value: a, scale: a_scale }, Number { value: b, scale: b_scale });
+    let c = operate(
+        o,
+        Number {
+            value: a,
+            scale: a_scale,
+        },
+        Number {
+            value: b,
+            scale: b_scale,
+        },
+    );
     match c {
         Computed::Value(n) => 0,
         Computed::Overflow => 24,

@@ -23,7 +23,7 @@ print-requires c κs = search needs
 
 -- src/show.rt:28:12
 cast-signed : tie.Need-cast-signed
-cast-signed c = 
+cast-signed c =
     let scale = c .before .before .before .struct-told2 .given .1 .0 .1 in
     rw (toZ-ofZ (record { sfits = scale })) (record { sfits = omega (arith, scale) })
 

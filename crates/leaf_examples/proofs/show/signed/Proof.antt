@@ -50,7 +50,7 @@ print-decimal-requires c κs = search needs
 
 -- src/show.rt:19:30
 cast-print-decimal-2 : tie.Need-cast-print-decimal-2
-cast-print-decimal-2 c = 
+cast-print-decimal-2 c =
     let x = c .before .args .n in
     let positive : isNegative x ≡ false = sym (negative-test (c .before .fits .n)) ∙ c .if1 .left in
     rw (toZ-ofZ (c .before .fits .n), pos-of x positive) (tt, record { fits = omega (arith, natAbs-of x positive, c .before .fits .n .sfits) })
