@@ -1,5 +1,7 @@
-//! `compare leaves SEED COUNT` compares the proved leaves with the second program's; `compare times` times both.
+//! `compare leaves SEED COUNT` compares the proved leaves with the second program's, `compare dictionaries SEED COUNT` the check of
+//! dictionaries, look-ups and records; `compare times` times the leaves of both.
 
+mod houses;
 mod leaves;
 mod proved;
 mod times;
@@ -10,8 +12,9 @@ fn main() -> ExitCode {
     let words: Vec<String> = std::env::args().skip(1).collect();
     let words: Vec<&str> = words.iter().map(String::as_str).collect();
     let differences = match words.as_slice() {
-        ["leaves", seed, count] => match (seed.parse(), count.parse()) {
-            (Ok(seed), Ok(count)) => leaves::run(seed, count),
+        [what, seed, count] => match (*what, seed.parse(), count.parse()) {
+            ("leaves", Ok(seed), Ok(count)) => leaves::run(seed, count),
+            ("dictionaries", Ok(seed), Ok(count)) => houses::run(seed, count),
             _ => return usage(),
         },
         ["times"] => {
@@ -24,6 +27,6 @@ fn main() -> ExitCode {
 }
 
 fn usage() -> ExitCode {
-    eprintln!("usage: compare leaves SEED COUNT | compare times");
+    eprintln!("usage: compare leaves|dictionaries SEED COUNT | compare times");
     ExitCode::from(2)
 }

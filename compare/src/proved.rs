@@ -25,6 +25,38 @@ extern "C" {
     fn leaf_long(bytes: *const u8, length: usize, at: usize) -> u32;
     fn leaf_signed_word(bytes: *const u8, length: usize, at: usize) -> i64;
     fn leaf_signed_long(bytes: *const u8, length: usize, at: usize) -> i64;
+    fn house_proper(bytes: *const u8, length: usize) -> bool;
+    fn house_fault(bytes: *const u8, length: usize) -> usize;
+    fn house_named(bytes: *const u8, length: usize, name: *const u8, name_length: usize) -> usize;
+    fn house_numbered(bytes: *const u8, length: usize, id: u32) -> usize;
+    fn house_records_due(
+        bytes: *const u8,
+        length: usize,
+        relations: *const u32,
+        count: usize,
+        run: *const u8,
+        run_length: usize,
+    ) -> bool;
+    fn house_records_wrong(
+        bytes: *const u8,
+        length: usize,
+        relations: *const u32,
+        count: usize,
+        run: *const u8,
+        run_length: usize,
+    ) -> usize;
+    fn house_missing(
+        bytes: *const u8,
+        length: usize,
+        relation: usize,
+        entry: usize,
+        run: *const u8,
+        run_length: usize,
+        place: usize,
+        field: usize,
+    ) -> bool;
+    fn house_offset(bytes: *const u8, length: usize, relation: usize, field: usize) -> usize;
+    fn house_length(bytes: *const u8, length: usize, relation: usize) -> usize;
 }
 
 /// A scaled number.
@@ -109,6 +141,52 @@ pub fn numbers_at(bytes: &[u8], at: usize) -> (u32, u32, i64, i64) {
             leaf_long(pointer, length, at),
             leaf_signed_word(pointer, length, at),
             leaf_signed_long(pointer, length, at),
+        )
+    }
+}
+
+/// The first entry at fault, if the dictionary isn't proper.
+pub fn check(bytes: &[u8]) -> Option<usize> {
+    let (pointer, length) = (bytes.as_ptr(), bytes.len());
+    unsafe { (!house_proper(pointer, length)).then(|| house_fault(pointer, length)) }
+}
+
+/// The place of a relation's entry; the exports give the length where there is none.
+pub fn relation_named(bytes: &[u8], name: &[u8]) -> Option<usize> {
+    let place = unsafe { house_named(bytes.as_ptr(), bytes.len(), name.as_ptr(), name.len()) };
+    Some(place).filter(|place| *place < bytes.len())
+}
+
+pub fn relation_numbered(bytes: &[u8], id: u32) -> Option<usize> {
+    let place = unsafe { house_numbered(bytes.as_ptr(), bytes.len(), id) };
+    Some(place).filter(|place| *place < bytes.len())
+}
+
+/// The first fault of a run of records against relations, by the places of their entries.
+pub fn records(bytes: &[u8], relations: &[u32], run: &[u8]) -> Option<usize> {
+    let (pointer, length) = (bytes.as_ptr(), bytes.len());
+    let (places, count) = (relations.as_ptr(), relations.len());
+    unsafe {
+        (!house_records_due(pointer, length, places, count, run.as_ptr(), run.len()))
+            .then(|| house_records_wrong(pointer, length, places, count, run.as_ptr(), run.len()))
+    }
+}
+
+/// Of a field in the record at a place: whether it is missing, its offset, and the length of the record.
+pub fn field(
+    bytes: &[u8],
+    relation: usize,
+    entry: usize,
+    run: &[u8],
+    place: usize,
+    field: usize,
+) -> (bool, usize, usize) {
+    let (pointer, length) = (bytes.as_ptr(), bytes.len());
+    unsafe {
+        (
+            house_missing(pointer, length, relation, entry, run.as_ptr(), run.len(), place, field),
+            house_offset(pointer, length, relation, field),
+            house_length(pointer, length, relation),
         )
     }
 }

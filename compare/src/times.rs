@@ -1,6 +1,8 @@
 //! Times of the proved leaves as ratios to the second program's, in one run: below 1 the proved code is faster.
 
 use crate::proved::{self, Number};
+use second::dictionary::{Dictionary, Relation};
+use second::generate::dictionaries;
 use second::generate::rng::Rng;
 use second::{decimal, text, wire};
 use std::hint::black_box;
@@ -20,7 +22,7 @@ fn seconds(calls: usize, mut call: impl FnMut(usize)) -> f64 {
 fn line(name: &str, calls: usize, proved: impl FnMut(usize), plain: impl FnMut(usize)) {
     let (one, other) = (seconds(calls, proved), seconds(calls, plain));
     let each = one / calls as f64 * 1e9;
-    println!("{name:<28} {:>8.2} {each:>12.1} ns a call", one / other);
+    println!("{name:<32} {:>8.2} {each:>12.1} ns a call", one / other);
 }
 
 fn numbers(rng: &mut Rng) -> Vec<(Number, Number)> {
@@ -144,12 +146,38 @@ fn parts(rng: &mut Rng) {
     );
 }
 
+/// A proper dictionary of the most entries: 32 relations of 64 fields each, with names as long as 65,535 bytes allow.
+fn largest_dictionary() -> Vec<u8> {
+    let name = |prefix: &str, n: usize| format!("{prefix}{n:0>19}").into_bytes();
+    let fields =
+        || (0..64).map(|n| dictionaries::field(wire::LONG, -2, 4, &name("F", n))).collect();
+    let relations =
+        (0..32).map(|n| Relation { id: n as u16, name: name("R", n), fields: fields() }).collect();
+    dictionaries::encode(&Dictionary { relations })
+}
+
+fn dictionary_check() {
+    let bytes = largest_dictionary();
+    assert!(Dictionary::check(&bytes).is_ok(), "the largest dictionary is proper");
+    line(
+        "check of the largest dictionary",
+        20,
+        |_| {
+            black_box(proved::check(&bytes));
+        },
+        |_| {
+            black_box(Dictionary::check(&bytes).is_ok());
+        },
+    );
+}
+
 /// Prints a line for each leaf: its ratio, and the time of a proved call.
 pub fn run() {
     let mut rng = Rng::new(1);
-    println!("{:<28} {:>8}", "leaf", "ratio");
+    println!("{:<32} {:>8}", "leaf", "ratio");
     decimals(&mut rng);
     parts(&mut rng);
     searches(&mut rng);
     worst(&mut rng);
+    dictionary_check();
 }

@@ -7,7 +7,7 @@ use Prim.Native.Nat.{ℕ, zero, suc, _+_, _≤_, _<_}
 use native.Mathlib.Omega.{arith}
 use native.Mathlib.Numerals.{add-one}
 use lib.Dec.{eqb, ltb, leb}
-use borrow.Author.Tests.{eqb-true, eq-eqb, ne-eqb, lt-ltb}
+use borrow.Author.Tests.{eqb-true, leb-true, eq-eqb, ne-eqb, lt-ltb}
 use lib.ListN.{length, length-append}
 use Rattle.wire.specs.Words.{byteAt, wordAt}
 use Rattle.wire.specs.Lists.{anyOf, sameBytes}
@@ -48,6 +48,9 @@ pub record Same (d : List ℕ) (p : ℕ) (rs : List Relation) (m : Met) : Type 0
 pub whole-long : (d : List ℕ) (p k : ℕ) → wholeEntry d p k ≡ true → 0 < wordAt d p
 whole-long d p k e =
     let h : wordAt d p ≡ k + 1 + byteAt d (p + k) = eqb-true _ _ (both-left _ _ e) in omega arith
+
+pub whole-inside : (d : List ℕ) (p k : ℕ) → wholeEntry d p k ≡ true → p + wordAt d p ≤ length d
+whole-inside d p k e = leb-true (p + wordAt d p) (length d) (both-right (eqb (wordAt d p) (k + 1 + byteAt d (p + k))) (leb (p + wordAt d p) (length d)) e)
 
 -- ---- one entry
 

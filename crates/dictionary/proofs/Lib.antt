@@ -6,3 +6,9 @@ pub mod Entry
 pub mod Bytes
 pub mod Checked
 pub mod Loop
+pub mod FieldRuns
+pub mod Relations
+pub mod Searches
+pub mod Fields
+pub mod Records
+pub mod FieldSearches

@@ -18,7 +18,7 @@ use Rattle.dictionary.specs.Dictionary.{wholeEntry, Checked, proper, atF
 use Rattle.dictionary.specs.Walk.{kindAt, relationGood, fieldGood, relationMet, fieldMet, meet, onMet, faultFrom, fault}
 use Rattle.dictionary.specs.Answers.{answerOf, meetingOf, faultAnswer}
 use Rattle.dictionary.proofs.Tests.{both-left, both-right}
-use Rattle.dictionary.proofs.Checked.{faultOf, fault-is, whole-long}
+use Rattle.dictionary.proofs.Checked.{faultOf, fault-is, whole-long, whole-inside}
 
 -- ---- a good entry
 
@@ -27,9 +27,6 @@ pub record Stepped (d : List ℕ) (p : ℕ) (m n : Met) : Type 0 where
   pub inside : p + wordAt d p ≤ length d
   pub relations-more : n .relations ≤ m .relations + 1
   pub fields-more : n .fields ≤ m .fields + 1
-
-whole-inside : (d : List ℕ) (p k : ℕ) → wholeEntry d p k ≡ true → p + wordAt d p ≤ length d
-whole-inside d p k e = leb-true (p + wordAt d p) (length d) (both-right (eqb (wordAt d p) (k + 1 + byteAt d (p + k))) (leb (p + wordAt d p) (length d)) e)
 
 relation-some : (d : List ℕ) (p : ℕ) (m n : Met) (b : Bool) → relationGood d p m ≡ b →
     cond b (some (record { relations = m .relations + 1; fields = 0; last = p })) none ≡ some n → Stepped d p m n

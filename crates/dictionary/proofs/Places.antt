@@ -58,6 +58,10 @@ unfolding places
 stuck zero d q e w = refl
 stuck (suc n) d q e w = rw (w, and-false)
 
+pub stuck-between : (d : List ℕ) (q e : ℕ) → wordAt d q ≡ 0 → between d q e ≡ []
+unfolding between
+stuck-between d q e w = stuck (e - q) d q e w
+
 -- ---- a search among them
 
 module _ (t : ℕ → Bool) (d : List ℕ) (q e : ℕ) where

@@ -5,3 +5,5 @@ pub mod Names
 pub mod Record
 pub mod Walk
 pub mod Answers
+pub mod RecordAnswers
+pub mod FieldAnswers

@@ -117,9 +117,9 @@ unfoldable pub isNamed : List ℕ → Name → ℕ → Bool
 isNamed d (named n) q = eqb (kindAt d q) 1 && sameBytes (nameAt d (q + 6)) n
 isNamed d (numbered i) q = eqb (kindAt d q) 1 && eqb (wordAt d (q + 4)) i
 
--- the place of a relation's entry
+-- the place of a relation's entry; a dictionary that is too long has none
 unfoldable pub relationPlace : List ℕ → Name → Option ℕ
-relationPlace d n = lastOf (isNamed d n) (between d 0 (length d))
+relationPlace d n = cond (leb (length d) 65535) (lastOf (isNamed d n) (between d 0 (length d))) none
 
 -- the type of a field's entry; any other code counts as a reading, which no proper dictionary has
 abbrev pub typeOf : Class FieldType → FieldType

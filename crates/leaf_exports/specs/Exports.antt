@@ -15,6 +15,14 @@ use Rattle.decimal.specs.declared.Number.{Number}
 use Rattle.decimal.specs.declared.Computed.{Computed}
 use Rattle.decimal.specs.declared.Computed.the-variants.{Value, Overflow, ZeroDivisor}
 use Rattle.decimal.specs.Number.{places, computed, negated, rescaled}
+use Rattle.dictionary.specs.declared.check.Answer.{Answer}
+use Rattle.dictionary.specs.declared.check.Answer.the-variants.{Proper, Fault}
+use Rattle.dictionary.specs.declared.lookup.Place.{Place}
+use Rattle.dictionary.specs.declared.lookup.Place.the-variants.{At, Unknown}
+use Rattle.dictionary.specs.declared.record.Length.{Length}
+use Rattle.dictionary.specs.declared.record.Length.the-variants as Length
+use Rattle.dictionary.specs.declared.record.RunAnswer.{RunAnswer}
+use Rattle.dictionary.specs.declared.record.RunAnswer.the-variants.{AsDue, WrongAt}
 use Rattle.text.specs.declared.Part.{Part}
 use Rattle.text.specs.declared.Part.the-variants.{Is, Malformed}
 
@@ -65,3 +73,27 @@ startOf Malformed = 0
 abbrev pub endOf : Part → ℕ
 endOf (Is start end) = end
 endOf Malformed = 0
+
+abbrev pub isProper : Answer → Bool
+isProper Proper = true
+isProper (Fault p) = false
+
+abbrev pub faultOf : Answer → ℕ
+faultOf Proper = 0
+faultOf (Fault p) = p
+
+abbrev pub placeOr : Place → ℕ → ℕ
+placeOr (At p) n = p
+placeOr Unknown n = n
+
+abbrev pub isDue : RunAnswer → Bool
+isDue AsDue = true
+isDue (WrongAt p) = false
+
+abbrev pub wrongOf : RunAnswer → ℕ
+wrongOf AsDue = 0
+wrongOf (WrongAt p) = p
+
+abbrev pub lengthOf : Length → ℕ
+lengthOf (Length.Is n) = n
+lengthOf Length.Long = 0

@@ -6,6 +6,9 @@ ghost use Rattle.decimal.specs.Number.{compared};
 ghost use Rattle.text.specs.Value.{textPart, bytesOf};
 ghost use Rattle.text.specs.Tests.{textOrder, search};
 ghost use lib.ListN.{length};
+
+pub mod house;
+
 use decimal::Computed;
 use decimal::Number;
 use text::Part;

@@ -1,0 +1,87 @@
+// Looking up the fields of a relation, which is given by the place of its entry, in a dictionary of any bytes.
+ghost use mathlib.Core.Path.{_≡_};
+ghost use Prim.Native.Nat.{_+_, _<_};
+ghost use lib.ListN.{length, getElem?};
+ghost use Rattle.wire.specs.Lists.{sameBytes};
+ghost use Rattle.dictionary.specs.Dictionary.{nameAt};
+ghost use Rattle.dictionary.specs.Names.{named, fieldOf};
+ghost use Rattle.dictionary.specs.Walk.{fieldsOf, relationAt, entryField};
+ghost use Rattle.dictionary.specs.Answers.{placeAnswer};
+ghost use Rattle.dictionary.specs.FieldAnswers.{indexAnswer, formatIs};
+use crate::lookup::Place;
+use crate::names::name_at;
+use crate::names::same_bytes;
+use crate::record::byte_on;
+use crate::record::is_field;
+use crate::record::next_place;
+use crate::record::type_at;
+use crate::record::word_on;
+use wire::codes::FieldType;
+
+// The id of a field, or that there is none.
+pub enum Index {
+    Is(usize),
+    Unknown,
+}
+
+// What a field's entry says of its bytes: the type, the scale byte as it stands, and the size word.
+pub struct Description {
+    pub data_type: FieldType,
+    pub scale: u8,
+    pub size: u32,
+}
+
+// Whether the field of the entry at q has a name.
+fn has_name(d: &[u8], q: usize, name: &[u8]) -> bool
+    requires { ⌜ q < length (now d) ⌝ }
+    ensures { λ r. ⌜ r ≡ sameBytes (nameAt (now (d .entry)) (q + 10)) (now (name .entry)) ⌝ }
+{
+    if d.len() - q <= 10 {
+        return same_bytes(name_at(d, d.len()), name);
+    }
+    same_bytes(name_at(d, q + 10), name)
+}
+
+// The id of the field of a name.
+pub fn field_named(d: &[u8], relation: usize, name: &[u8]) -> Index
+    ensures { λ r. ⌜ r ≡ indexAnswer (fieldOf (relationAt (now (d .entry)) relation) (named (now (name .entry)))) ⌝ }
+{
+    let mut q = next_place(d, relation);
+    let mut i: usize = 0;
+    while is_field(d, q) {
+        if has_name(d, q, name) {
+            return Index::Is(i);
+        }
+        i += 1;
+        q = next_place(d, q);
+    }
+    Index::Unknown
+}
+
+// The place of the entry of the field of an id.
+pub fn field_entry(d: &[u8], relation: usize, id: usize) -> Place
+    ensures { λ r. ⌜ r ≡ placeAnswer (getElem? (fieldsOf (now (d .entry)) relation) id) ⌝ }
+{
+    let mut q = next_place(d, relation);
+    let mut left = id;
+    while is_field(d, q) {
+        if left == 0 {
+            return Place::At(q);
+        }
+        left -= 1;
+        q = next_place(d, q);
+    }
+    Place::Unknown
+}
+
+// The type, scale and size of the field whose entry stands at q.
+pub fn described(d: &[u8], q: usize) -> Description
+    ensures { λ r. ⌜ formatIs r ≡ (entryField (now (d .entry)) q) .format ⌝ }
+{
+    let t = type_at(d, q);
+    Description {
+        data_type: t,
+        scale: byte_on(d, q, 7),
+        size: word_on(d, q, 8),
+    }
+}

@@ -1,0 +1,124 @@
+// Test exports of the dictionary and its records.
+ghost use mathlib.Core.Path.{_≡_};
+ghost use mathlib.Core.List.{map};
+ghost use lib.ListN.{length};
+ghost use Rattle.dictionary.specs.Dictionary.{dictionary as checked};
+ghost use Rattle.dictionary.specs.Names.{named, numbered};
+ghost use Rattle.dictionary.specs.Record.{offsetOf, recordLength, fieldMissing};
+ghost use Rattle.dictionary.specs.Record.{records as recordRun};
+ghost use Rattle.dictionary.specs.Walk.{relationPlace, relationAt, entryField};
+ghost use Rattle.dictionary.specs.RecordAnswers.{lengthAnswer, runAnswer};
+ghost use Rattle.dictionary.specs.Answers.{answerOf, placeAnswer};
+ghost use Rattle.leaf_exports.specs.Exports.{isProper, faultOf, placeOr, isDue, wrongOf, lengthOf};
+use dictionary::check::Answer;
+use dictionary::lookup::Place;
+use dictionary::record::Length;
+use dictionary::record::RunAnswer;
+
+#[no_mangle]
+pub extern "C" fn house_proper(d: &[u8]) -> bool
+    ensures { λ r. ⌜ r ≡ isProper (answerOf (checked (now (d .entry)))) ⌝ }
+{
+    let a = dictionary::check::check(d);
+    match a {
+        Answer::Proper => true,
+        Answer::Fault(p) => false,
+    }
+}
+
+// The start of the first entry at fault; 0 of a proper dictionary.
+#[no_mangle]
+pub extern "C" fn house_fault(d: &[u8]) -> usize
+    ensures { λ r. ⌜ r ≡ faultOf (answerOf (checked (now (d .entry)))) ⌝ }
+{
+    let a = dictionary::check::check(d);
+    match a {
+        Answer::Proper => 0,
+        Answer::Fault(p) => p,
+    }
+}
+
+fn place_or(p: Place, n: usize) -> usize
+    ensures { λ r. ⌜ r ≡ placeOr p n ⌝ }
+{
+    match p {
+        Place::At(q) => q,
+        Place::Unknown => n,
+    }
+}
+
+// The place of a relation's entry; the length where there is none.
+#[no_mangle]
+pub extern "C" fn house_named(d: &[u8], name: &[u8]) -> usize
+    ensures { λ r. ⌜ r ≡ placeOr (placeAnswer (relationPlace (now (d .entry)) (named (now (name .entry))))) (length (now (d .entry))) ⌝ }
+{
+    place_or(dictionary::lookup::relation_named(d, name), d.len())
+}
+
+#[no_mangle]
+pub extern "C" fn house_numbered(d: &[u8], id: u32) -> usize
+    ensures { λ r. ⌜ r ≡ placeOr (placeAnswer (relationPlace (now (d .entry)) (numbered id))) (length (now (d .entry))) ⌝ }
+{
+    place_or(dictionary::lookup::relation_numbered(d, id), d.len())
+}
+
+#[no_mangle]
+pub extern "C" fn house_records_due(d: &[u8], relations: &[u32], s: &[u8]) -> bool
+    ensures { λ r. ⌜ r ≡ isDue (runAnswer (recordRun (map (relationAt (now (d .entry))) (now (relations .entry))) (now (s .entry)) 0)) ⌝ }
+{
+    let a = dictionary::record::records(d, relations, s);
+    match a {
+        RunAnswer::AsDue => true,
+        RunAnswer::WrongAt(p) => false,
+    }
+}
+
+// The place of the first fault; 0 of records as due.
+#[no_mangle]
+pub extern "C" fn house_records_wrong(d: &[u8], relations: &[u32], s: &[u8]) -> usize
+    ensures { λ r. ⌜ r ≡ wrongOf (runAnswer (recordRun (map (relationAt (now (d .entry))) (now (relations .entry))) (now (s .entry)) 0)) ⌝ }
+{
+    let a = dictionary::record::records(d, relations, s);
+    match a {
+        RunAnswer::AsDue => 0,
+        RunAnswer::WrongAt(p) => p,
+    }
+}
+
+#[no_mangle]
+pub extern "C" fn house_missing(
+    d: &[u8],
+    relation: usize,
+    entry: usize,
+    s: &[u8],
+    p: usize,
+    i: usize,
+) -> bool
+    ensures { λ r. ⌜ r ≡ fieldMissing (relationAt (now (d .entry)) relation) ((entryField (now (d .entry)) entry) .format) (now (s .entry)) p i ⌝ }
+{
+    dictionary::record::field_missing(d, relation, entry, s, p, i)
+}
+
+fn length_of(n: Length) -> usize
+    ensures { λ r. ⌜ r ≡ lengthOf n ⌝ }
+{
+    match n {
+        Length::Is(k) => k,
+        Length::Long => 0,
+    }
+}
+
+// The offset of a field, and the length of a record; 0 of one above 4,096.
+#[no_mangle]
+pub extern "C" fn house_offset(d: &[u8], relation: usize, i: usize) -> usize
+    ensures { λ r. ⌜ r ≡ lengthOf (lengthAnswer (offsetOf (relationAt (now (d .entry)) relation) i)) ⌝ }
+{
+    length_of(dictionary::record::field_offset(d, relation, i))
+}
+
+#[no_mangle]
+pub extern "C" fn house_length(d: &[u8], relation: usize) -> usize
+    ensures { λ r. ⌜ r ≡ lengthOf (lengthAnswer (recordLength (relationAt (now (d .entry)) relation))) ⌝ }
+{
+    length_of(dictionary::record::record_length(d, relation))
+}
