@@ -75,7 +75,8 @@ unfoldable pub fieldMet : List ℕ → ℕ → Class FieldType → Met → Optio
 fieldMet d p foreign m = none
 fieldMet d p leftOut m = none
 fieldMet d p (due t) m =
-    cond (ltb 0 (m .relations) && fieldGood d p t m) (some (record { relations = m .relations; fields = m .fields + 1; last = m .last })) none
+    cond (ltb 0 (m .relations) && fieldGood d p t m)
+    (some (record { relations = m .relations; fields = m .fields + 1; last = m .last })) none
 
 unfoldable pub relationMet : List ℕ → ℕ → Met → Option Met
 relationMet d p m = cond (relationGood d p m) (some (record { relations = m .relations + 1; fields = 0; last = p })) none
