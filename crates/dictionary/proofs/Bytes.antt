@@ -4,6 +4,7 @@ use mathlib.Core.Bool.{Bool, true, false, _&&_}
 use mathlib.Core.List.{List, [], _∷_}
 use Prim.Native.Nat.{ℕ, zero, suc, _+_, _-_, _≤_, _<_}
 use native.Mathlib.Omega.{arith}
+use native.Mathlib.Nat.{le-of-suc-le-suc, not-suc-le-zero}
 use native.Mathlib.Numerals.{add-one}
 use lib.Dec.{eqb, leb}
 use lib.ListN.{length, take, drop, getD, length-drop, drop-of-length-le, List·getD-eq-default}
@@ -14,29 +15,53 @@ use Rattle.dictionary.specs.Dictionary.{nameAt, goodName}
 
 -- ---- equal bytes
 
+and-nothing : (t : Bool) → t && false ≡ false
+and-nothing true = refl
+and-nothing false = refl
+
+and-true : (t : Bool) → t && true ≡ t
+and-true true = refl
+and-true false = refl
+
 pub other-length : (a b : List ℕ) → (length a ≡ length b → ⊥) → false ≡ sameBytes a b
 unfolding sameBytes
 other-length [] [] h = absurd (h refl)
 other-length [] (y ∷ b) h = refl
 other-length (x ∷ a) [] h = refl
 other-length (x ∷ a) (y ∷ b) h = rw (← other-length a b (λ e. h (ap suc e))) (sym (and-nothing (eqb x y)))
-  where
-    and-nothing : (t : Bool) → t && false ≡ false
-    and-nothing true = refl
-    and-nothing false = refl
 
-module _ (a b : List ℕ) (i : ℕ) (ha : i < length a) (hb : i < length b) where
-  pub same-next : getD a i 0 ≡ getD b i 0 → sameBytes (drop i a) (drop i b) ≡ sameBytes (drop (i + 1) a) (drop (i + 1) b)
-  unfolding sameBytes
-  same-next e = rw (drop-cons a i 0 ha, drop-cons b i 0 hb, add-one i, eq-eqb (getD a i 0) (getD b i 0) e)
-
-  pub other-byte : (getD a i 0 ≡ getD b i 0 → ⊥) → false ≡ sameBytes (drop i a) (drop i b)
-  unfolding sameBytes
-  other-byte e = rw (drop-cons a i 0 ha, drop-cons b i 0 hb, ne-eqb (getD a i 0) (getD b i 0) e)
-
-pub same-end : (a b : List ℕ) (i : ℕ) → length a ≤ i → length b ≤ i → true ≡ sameBytes (drop i a) (drop i b)
+-- one byte more at the end
+pub same-last :
+    (a b : List ℕ) (i : ℕ) → i < length a → i < length b →
+    sameBytes (take (suc i) a) (take (suc i) b) ≡ sameBytes (take i a) (take i b) && eqb (getD a i 0) (getD b i 0)
 unfolding sameBytes
-same-end a b i h k = rw (drop-of-length-le a h, drop-of-length-le b k)
+same-last [] b i h k = absurd (not-suc-le-zero h)
+same-last (x ∷ a) [] i h k = absurd (not-suc-le-zero k)
+same-last (x ∷ a) (y ∷ b) zero h k = and-true (eqb x y)
+same-last (x ∷ a) (y ∷ b) (suc i) h k =
+    rw (same-last a b i (le-of-suc-le-suc h) (le-of-suc-le-suc k))
+    (and-and (eqb x y) (sameBytes (take i a) (take i b)) (eqb (getD a i 0) (getD b i 0)))
+  where
+    and-and : (s t u : Bool) → s && (t && u) ≡ (s && t) && u
+    and-and true t u = refl
+    and-and false t u = refl
+
+module _ (a b : List ℕ) (i j : ℕ) (k : i ≡ suc j) (ha : j < length a) (hb : j < length b) where
+  pub same-before : getD a j 0 ≡ getD b j 0 → sameBytes (take i a) (take i b) ≡ sameBytes (take j a) (take j b)
+  same-before e =
+      rw (k, same-last a b j ha hb, eq-eqb (getD a j 0) (getD b j 0) e) (and-true (sameBytes (take j a) (take j b)))
+
+  pub other-byte : (getD a j 0 ≡ getD b j 0 → ⊥) → false ≡ sameBytes (take i a) (take i b)
+  other-byte e =
+      rw (k, same-last a b j ha hb, ne-eqb (getD a j 0) (getD b j 0) e) (sym (and-nothing (sameBytes (take j a) (take j b))))
+
+pub same-end : (a b : List ℕ) (i : ℕ) → i ≤ 0 → true ≡ sameBytes (take i a) (take i b)
+unfolding sameBytes
+same-end a b zero h = refl
+same-end a b (suc i) h = absurd (not-suc-le-zero h)
+
+pub same-whole : (a b : List ℕ) → length a ≡ length b → sameBytes a b ≡ sameBytes (take (length a) a) (take (length a) b)
+same-whole a b e = rw (take-all (length a) a (omega arith), take-all (length a) b (omega arith))
 
 -- ---- the bytes of a name
 

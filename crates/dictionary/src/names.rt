@@ -4,18 +4,19 @@ ghost use Prim.Native.Nat.{_+_};
 ghost use Rattle.wire.specs.Lists.{sameBytes};
 ghost use Rattle.dictionary.specs.Dictionary.{nameAt, goodName};
 
+// From the last byte on: the names of one relation often begin alike.
 pub fn same_bytes(a: &[u8], b: &[u8]) -> bool
     ensures { λ r. ⌜ r ≡ sameBytes (now (a .entry)) (now (b .entry)) ⌝ }
 {
     if a.len() != b.len() {
         return false;
     }
-    let mut i = 0;
-    while i < a.len() {
+    let mut i = a.len();
+    while 0 < i {
+        i -= 1;
         if a[i] != b[i] {
             return false;
         }
-        i += 1;
     }
     true
 }
