@@ -15,11 +15,11 @@ use Rattle.dictionary.specs.Dictionary.{nameAt, goodName}
 
 -- ---- equal bytes
 
-and-nothing : (t : Bool) → t && false ≡ false
+pub and-nothing : (t : Bool) → t && false ≡ false
 and-nothing true = refl
 and-nothing false = refl
 
-and-true : (t : Bool) → t && true ≡ t
+pub and-true : (t : Bool) → t && true ≡ t
 and-true true = refl
 and-true false = refl
 

@@ -13,6 +13,7 @@ use Rattle.wire.specs.Lists.{anyOf, sameBytes}
 use Rattle.wire.specs.Classes.{Class, due, leftOut, foreign, fieldClass}
 use Rattle.wire.specs.declared.codes.FieldType.{FieldType}
 use Rattle.dictionary.specs.declared.check.Met.{Met}
+use Rattle.dictionary.proofs.Bytes.{and-nothing, and-true}
 use Rattle.dictionary.specs.Format.{fitting}
 use Rattle.dictionary.specs.Dictionary.{nameAt, goodName, wholeEntry}
 use Rattle.dictionary.specs.Walk.{kindAt, between, sameRelation, sameField, relationGood, fieldGood, relationMet, fieldMet, meet}
@@ -37,13 +38,14 @@ module _ (d : List ℕ) (p q w : ℕ) (kind : w ≡ kindAt d q) where
   unfolding sameRelation
   same-name h x y e f s = rw (← kind, eq-eqb w 1 h, ← e, ← f, ne-eqb x y s)
 
-  pub not-field : (w ≡ 2 → ⊥) → false ≡ sameField d p q
+module _ (d : List ℕ) (p q : ℕ) (s : Bool) (same-is : s ≡ sameBytes (nameAt d (q + 10)) (nameAt d (p + 10))) where
+  pub other-field : s ≡ false → false ≡ sameField d p q
   unfolding sameField
-  not-field h = rw (← kind, ne-eqb w 2 h)
+  other-field h = rw (← same-is, h) (sym (and-nothing (eqb (kindAt d q) 2)))
 
-  pub field-name : w ≡ 2 → sameBytes (nameAt d (q + 10)) (nameAt d (p + 10)) ≡ sameField d p q
+  pub like-field : s ≡ true → (w : ℕ) → w ≡ kindAt d q → eqb w 2 ≡ sameField d p q
   unfolding sameField
-  field-name h = rw (← kind, eq-eqb w 2 h)
+  like-field h w kind = rw (← kind, ← same-is, h) (sym (and-true (eqb w 2)))
 
 -- ---- a relation's entry
 

@@ -126,10 +126,10 @@ fn same_field(d: &[u8], p: usize, q: usize) -> bool
     requires { ⌜ (p ≤ 65535) × (q ≤ 65535) ⌝ }
     ensures { λ r. ⌜ r ≡ sameField (now (d .entry)) p q ⌝ }
 {
-    if word_at(d, q + 2) != 2 {
+    if !same_bytes(name_at(d, q + 10), name_at(d, p + 10)) {
         return false;
     }
-    same_bytes(name_at(d, q + 10), name_at(d, p + 10))
+    word_at(d, q + 2) == 2
 }
 
 // What must not repeat: a relation's id and name, or a field's name.
