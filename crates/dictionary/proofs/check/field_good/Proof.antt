@@ -22,7 +22,12 @@ whole-entry-requires c κs = search needs
 
 -- src/check.rt:179:9
 returns : tie.Need-returns
-returns c = field-cut (c .before .before .before .args .d .now) (c .before .before .before .args .p) (c .before .before .before .args .t) (c .before .before .before .args .m) (c .before .whole-entry .result) (c .before .whole-entry .ensures) (not-true (c .before .whole-entry .result) (c .if1 .taken))
+returns c =
+    let args′ = c .before .before .before .args in
+    let whole-entry′ = c .before .whole-entry in
+    let if1′ = c .if1 in
+    field-cut (args′ .d .now) (args′ .p) (args′ .t) (args′ .m) (whole-entry′ .result) (whole-entry′ .ensures)
+    (not-true (whole-entry′ .result) (if1′ .taken))
 
 -- src/check.rt:183:19
 add-word-at : tie.Need-add-word-at
@@ -38,7 +43,14 @@ cast-if2 c = search needs
 
 -- src/check.rt:184:9
 returns-2 : tie.Need-returns-2
-returns-2 c = field-order (c .before .before .before .before .before .args .d .now) (c .before .before .before .before .before .args .p) (c .before .before .before .before .before .args .t) (c .before .before .before .before .before .args .m) (c .before .before .before .whole-entry .result) (c .before .before .before .whole-entry .ensures) (not-false (c .before .before .before .whole-entry .result) (c .before .before .if1 .left)) (c .before .word-at .result) (c .before .word-at .ensures .0) (c .if2 .taken)
+returns-2 c =
+    let args′ = c .before .before .before .before .before .args in
+    let whole-entry′ = c .before .before .before .whole-entry in
+    let if1′ = c .before .before .if1 in
+    let word-at′ = c .before .word-at in
+    let if2′ = c .if2 in
+    field-order (args′ .d .now) (args′ .p) (args′ .t) (args′ .m) (whole-entry′ .result) (whole-entry′ .ensures)
+    (not-false (whole-entry′ .result) (if1′ .left)) (word-at′ .result) (word-at′ .ensures .0) (if2′ .taken)
 
 -- src/check.rt:186:28
 add-byte-at : tie.Need-add-byte-at
@@ -63,7 +75,19 @@ fits-requires c κs = search needs
 -- src/check.rt:187:9
 returns-3 : tie.Need-returns-3
 returns-3 c =
-    field-format (c .before .before .before .before .before .before .before .before .before .args .d .now) (c .before .before .before .before .before .before .before .before .before .args .p) (c .before .before .before .before .before .before .before .before .before .args .t) (c .before .before .before .before .before .before .before .before .before .args .m) (c .before .before .before .before .before .before .before .whole-entry .result) (c .before .before .before .before .before .before .before .whole-entry .ensures) (not-false (c .before .before .before .before .before .before .before .whole-entry .result) (c .before .before .before .before .before .before .if1 .left)) (c .before .before .before .before .before .word-at .result) (c .before .before .before .before .before .word-at .ensures .0) (c .before .before .before .before .if2 .left) (c .before .fits2 .result) (c .before .fits2 .ensures ∙ ap₂ (fitting (c .before .before .before .before .before .before .before .before .before .args .t)) (c .before .before .before .byte-at .ensures) (c .before .before .word-at2 .ensures .0)) (not-true (c .before .fits2 .result) (c .if3 .taken))
+    let args′ = c .before .before .before .before .before .before .before .before .before .args in
+    let whole-entry′ = c .before .before .before .before .before .before .before .whole-entry in
+    let if1′ = c .before .before .before .before .before .before .if1 in
+    let word-at′ = c .before .before .before .before .before .word-at in
+    let if2′ = c .before .before .before .before .if2 in
+    let fits2′ = c .before .fits2 in
+    let byte-at′ = c .before .before .before .byte-at in
+    let word-at2′ = c .before .before .word-at2 in
+    let if3′ = c .if3 in
+    field-format (args′ .d .now) (args′ .p) (args′ .t) (args′ .m) (whole-entry′ .result) (whole-entry′ .ensures)
+    (not-false (whole-entry′ .result) (if1′ .left)) (word-at′ .result) (word-at′ .ensures .0) (if2′ .left) (fits2′ .result)
+    (fits2′ .ensures ∙ ap₂ (fitting (args′ .t)) (byte-at′ .ensures) (word-at2′ .ensures .0))
+    (not-true (fits2′ .result) (if3′ .taken))
 
 -- src/check.rt:189:30
 add-name-at : tie.Need-add-name-at
@@ -80,12 +104,45 @@ good-name-requires c κs = search needs
 -- src/check.rt:190:9
 returns-4 : tie.Need-returns-4
 returns-4 c =
-    field-named (c .before .before .before .before .before .before .before .before .before .before .before .before .args .d .now) (c .before .before .before .before .before .before .before .before .before .before .before .before .args .p) (c .before .before .before .before .before .before .before .before .before .before .before .before .args .t) (c .before .before .before .before .before .before .before .before .before .before .before .before .args .m) (c .before .before .before .before .before .before .before .before .before .before .whole-entry .result) (c .before .before .before .before .before .before .before .before .before .before .whole-entry .ensures) (not-false (c .before .before .before .before .before .before .before .before .before .before .whole-entry .result) (c .before .before .before .before .before .before .before .before .before .if1 .left)) (c .before .before .before .before .before .before .before .before .word-at .result) (c .before .before .before .before .before .before .before .before .word-at .ensures .0) (c .before .before .before .before .before .before .before .if2 .left) (c .before .before .before .before .fits2 .result) (c .before .before .before .before .fits2 .ensures ∙ ap₂ (fitting (c .before .before .before .before .before .before .before .before .before .before .before .before .args .t)) (c .before .before .before .before .before .before .byte-at .ensures) (c .before .before .before .before .before .word-at2 .ensures .0)) (not-false (c .before .before .before .before .fits2 .result) (c .before .before .before .if3 .left)) (c .before .good-name .result) (c .before .good-name .ensures ∙ ap goodName (c .before .before .name-at .ensures)) (not-true (c .before .good-name .result) (c .if4 .taken))
+    let args′ = c .before .before .before .before .before .before .before .before .before .before .before .before .args in
+    let whole-entry′ = c .before .before .before .before .before .before .before .before .before .before .whole-entry in
+    let if1′ = c .before .before .before .before .before .before .before .before .before .if1 in
+    let word-at′ = c .before .before .before .before .before .before .before .before .word-at in
+    let if2′ = c .before .before .before .before .before .before .before .if2 in
+    let fits2′ = c .before .before .before .before .fits2 in
+    let byte-at′ = c .before .before .before .before .before .before .byte-at in
+    let word-at2′ = c .before .before .before .before .before .word-at2 in
+    let if3′ = c .before .before .before .if3 in
+    let good-name′ = c .before .good-name in
+    let name-at′ = c .before .before .name-at in
+    let if4′ = c .if4 in
+    field-named (args′ .d .now) (args′ .p) (args′ .t) (args′ .m) (whole-entry′ .result) (whole-entry′ .ensures)
+    (not-false (whole-entry′ .result) (if1′ .left)) (word-at′ .result) (word-at′ .ensures .0) (if2′ .left) (fits2′ .result)
+    (fits2′ .ensures ∙ ap₂ (fitting (args′ .t)) (byte-at′ .ensures) (word-at2′ .ensures .0))
+    (not-false (fits2′ .result) (if3′ .left)) (good-name′ .result) (good-name′ .ensures ∙ ap goodName (name-at′ .ensures))
+    (not-true (good-name′ .result) (if4′ .taken))
 
 -- src/check.rt:193:9
 returns-5 : tie.Need-returns-5
 returns-5 c =
-    field-many (c .before .before .before .before .before .before .before .before .before .before .before .before .before .args .d .now) (c .before .before .before .before .before .before .before .before .before .before .before .before .before .args .p) (c .before .before .before .before .before .before .before .before .before .before .before .before .before .args .t) (c .before .before .before .before .before .before .before .before .before .before .before .before .before .args .m) (c .before .before .before .before .before .before .before .before .before .before .before .whole-entry .result) (c .before .before .before .before .before .before .before .before .before .before .before .whole-entry .ensures) (not-false (c .before .before .before .before .before .before .before .before .before .before .before .whole-entry .result) (c .before .before .before .before .before .before .before .before .before .before .if1 .left)) (c .before .before .before .before .before .before .before .before .before .word-at .result) (c .before .before .before .before .before .before .before .before .before .word-at .ensures .0) (c .before .before .before .before .before .before .before .before .if2 .left) (c .before .before .before .before .before .fits2 .result) (c .before .before .before .before .before .fits2 .ensures ∙ ap₂ (fitting (c .before .before .before .before .before .before .before .before .before .before .before .before .before .args .t)) (c .before .before .before .before .before .before .before .byte-at .ensures) (c .before .before .before .before .before .before .word-at2 .ensures .0)) (not-false (c .before .before .before .before .before .fits2 .result) (c .before .before .before .before .if3 .left)) (c .before .before .good-name .result) (c .before .before .good-name .ensures ∙ ap goodName (c .before .before .before .name-at .ensures)) (not-false (c .before .before .good-name .result) (c .before .if4 .left)) (c .if5 .taken)
+    let args′ = c .before .before .before .before .before .before .before .before .before .before .before .before .before .args in
+    let whole-entry′ = c .before .before .before .before .before .before .before .before .before .before .before .whole-entry in
+    let if1′ = c .before .before .before .before .before .before .before .before .before .before .if1 in
+    let word-at′ = c .before .before .before .before .before .before .before .before .before .word-at in
+    let if2′ = c .before .before .before .before .before .before .before .before .if2 in
+    let fits2′ = c .before .before .before .before .before .fits2 in
+    let byte-at′ = c .before .before .before .before .before .before .before .byte-at in
+    let word-at2′ = c .before .before .before .before .before .before .word-at2 in
+    let if3′ = c .before .before .before .before .if3 in
+    let good-name′ = c .before .before .good-name in
+    let name-at′ = c .before .before .before .name-at in
+    let if4′ = c .before .if4 in
+    let if5′ = c .if5 in
+    field-many (args′ .d .now) (args′ .p) (args′ .t) (args′ .m) (whole-entry′ .result) (whole-entry′ .ensures)
+    (not-false (whole-entry′ .result) (if1′ .left)) (word-at′ .result) (word-at′ .ensures .0) (if2′ .left) (fits2′ .result)
+    (fits2′ .ensures ∙ ap₂ (fitting (args′ .t)) (byte-at′ .ensures) (word-at2′ .ensures .0))
+    (not-false (fits2′ .result) (if3′ .left)) (good-name′ .result) (good-name′ .ensures ∙ ap goodName (name-at′ .ensures))
+    (not-false (good-name′ .result) (if4′ .left)) (if5′ .taken)
 
 -- src/check.rt:195:6
 taken-requires : tie.Need-taken-requires
@@ -94,7 +151,25 @@ taken-requires c κs = search needs
 -- src/check.rt:174:1
 returns-6 : tie.Need-returns-6
 returns-6 c =
-    field-last (c .before .before .before .before .before .before .before .before .before .before .before .before .before .before .args .d .now) (c .before .before .before .before .before .before .before .before .before .before .before .before .before .before .args .p) (c .before .before .before .before .before .before .before .before .before .before .before .before .before .before .args .t) (c .before .before .before .before .before .before .before .before .before .before .before .before .before .before .args .m) (c .before .before .before .before .before .before .before .before .before .before .before .before .whole-entry .result) (c .before .before .before .before .before .before .before .before .before .before .before .before .whole-entry .ensures) (not-false (c .before .before .before .before .before .before .before .before .before .before .before .before .whole-entry .result) (c .before .before .before .before .before .before .before .before .before .before .before .if1 .left)) (c .before .before .before .before .before .before .before .before .before .before .word-at .result) (c .before .before .before .before .before .before .before .before .before .before .word-at .ensures .0) (c .before .before .before .before .before .before .before .before .before .if2 .left) (c .before .before .before .before .before .before .fits2 .result) (c .before .before .before .before .before .before .fits2 .ensures ∙ ap₂ (fitting (c .before .before .before .before .before .before .before .before .before .before .before .before .before .before .args .t)) (c .before .before .before .before .before .before .before .before .byte-at .ensures) (c .before .before .before .before .before .before .before .word-at2 .ensures .0)) (not-false (c .before .before .before .before .before .before .fits2 .result) (c .before .before .before .before .before .if3 .left)) (c .before .before .before .good-name .result) (c .before .before .before .good-name .ensures ∙ ap goodName (c .before .before .before .before .name-at .ensures)) (not-false (c .before .before .before .good-name .result) (c .before .before .if4 .left)) (c .before .if5 .left) (c .taken .result) (c .taken .ensures)
+    let args′ = c .before .before .before .before .before .before .before .before .before .before .before .before .before .before .args in
+    let whole-entry′ = c .before .before .before .before .before .before .before .before .before .before .before .before .whole-entry in
+    let if1′ = c .before .before .before .before .before .before .before .before .before .before .before .if1 in
+    let word-at′ = c .before .before .before .before .before .before .before .before .before .before .word-at in
+    let if2′ = c .before .before .before .before .before .before .before .before .before .if2 in
+    let fits2′ = c .before .before .before .before .before .before .fits2 in
+    let byte-at′ = c .before .before .before .before .before .before .before .before .byte-at in
+    let word-at2′ = c .before .before .before .before .before .before .before .word-at2 in
+    let if3′ = c .before .before .before .before .before .if3 in
+    let good-name′ = c .before .before .before .good-name in
+    let name-at′ = c .before .before .before .before .name-at in
+    let if4′ = c .before .before .if4 in
+    let if5′ = c .before .if5 in
+    let taken′ = c .taken in
+    field-last (args′ .d .now) (args′ .p) (args′ .t) (args′ .m) (whole-entry′ .result) (whole-entry′ .ensures)
+    (not-false (whole-entry′ .result) (if1′ .left)) (word-at′ .result) (word-at′ .ensures .0) (if2′ .left) (fits2′ .result)
+    (fits2′ .ensures ∙ ap₂ (fitting (args′ .t)) (byte-at′ .ensures) (word-at2′ .ensures .0))
+    (not-false (fits2′ .result) (if3′ .left)) (good-name′ .result) (good-name′ .ensures ∙ ap goodName (name-at′ .ensures))
+    (not-false (good-name′ .result) (if4′ .left)) (if5′ .left) (taken′ .result) (taken′ .ensures)
 
 pub field-good-spec : {M : Type 1} → statement M
 field-good-spec =

@@ -18,7 +18,12 @@ whole-entry-requires c κs = search needs
 
 -- src/check.rt:163:9
 returns : tie.Need-returns
-returns c = relation-cut (c .before .before .before .args .d .now) (c .before .before .before .args .p) (c .before .before .before .args .m) (c .before .whole-entry .result) (c .before .whole-entry .ensures) (not-true (c .before .whole-entry .result) (c .if1 .taken))
+returns c =
+    let args′ = c .before .before .before .args in
+    let whole-entry′ = c .before .whole-entry in
+    let if1′ = c .if1 in
+    relation-cut (args′ .d .now) (args′ .p) (args′ .m) (whole-entry′ .result) (whole-entry′ .ensures)
+    (not-true (whole-entry′ .result) (if1′ .taken))
 
 -- src/check.rt:165:30
 add-name-at : tie.Need-add-name-at
@@ -35,12 +40,29 @@ good-name-requires c κs = search needs
 -- src/check.rt:166:9
 returns-2 : tie.Need-returns-2
 returns-2 c =
-    relation-name (c .before .before .before .before .before .before .args .d .now) (c .before .before .before .before .before .before .args .p) (c .before .before .before .before .before .before .args .m) (c .before .before .before .before .whole-entry .result) (c .before .before .before .before .whole-entry .ensures) (c .before .good-name .result) (c .before .good-name .ensures ∙ ap goodName (c .before .before .name-at .ensures)) (not-false (c .before .before .before .before .whole-entry .result) (c .before .before .before .if1 .left)) (not-true (c .before .good-name .result) (c .if2 .taken))
+    let args′ = c .before .before .before .before .before .before .args in
+    let whole-entry′ = c .before .before .before .before .whole-entry in
+    let good-name′ = c .before .good-name in
+    let name-at′ = c .before .before .name-at in
+    let if1′ = c .before .before .before .if1 in
+    let if2′ = c .if2 in
+    relation-name (args′ .d .now) (args′ .p) (args′ .m) (whole-entry′ .result) (whole-entry′ .ensures) (good-name′ .result)
+    (good-name′ .ensures ∙ ap goodName (name-at′ .ensures)) (not-false (whole-entry′ .result) (if1′ .left))
+    (not-true (good-name′ .result) (if2′ .taken))
 
 -- src/check.rt:169:9
 returns-3 : tie.Need-returns-3
 returns-3 c =
-    relation-many (c .before .before .before .before .before .before .before .before .args .d .now) (c .before .before .before .before .before .before .before .before .args .p) (c .before .before .before .before .before .before .before .before .args .m) (c .before .before .before .before .before .before .whole-entry .result) (c .before .before .before .before .before .before .whole-entry .ensures) (c .before .before .before .good-name .result) (c .before .before .before .good-name .ensures ∙ ap goodName (c .before .before .before .before .name-at .ensures)) (not-false (c .before .before .before .before .before .before .whole-entry .result) (c .before .before .before .before .before .if1 .left)) (not-false (c .before .before .before .good-name .result) (c .before .before .if2 .left)) (c .if3 .taken)
+    let args′ = c .before .before .before .before .before .before .before .before .args in
+    let whole-entry′ = c .before .before .before .before .before .before .whole-entry in
+    let good-name′ = c .before .before .before .good-name in
+    let name-at′ = c .before .before .before .before .name-at in
+    let if1′ = c .before .before .before .before .before .if1 in
+    let if2′ = c .before .before .if2 in
+    let if3′ = c .if3 in
+    relation-many (args′ .d .now) (args′ .p) (args′ .m) (whole-entry′ .result) (whole-entry′ .ensures) (good-name′ .result)
+    (good-name′ .ensures ∙ ap goodName (name-at′ .ensures)) (not-false (whole-entry′ .result) (if1′ .left))
+    (not-false (good-name′ .result) (if2′ .left)) (if3′ .taken)
 
 -- src/check.rt:171:6
 taken-requires : tie.Need-taken-requires
@@ -49,7 +71,17 @@ taken-requires c κs = search needs
 -- src/check.rt:158:1
 returns-4 : tie.Need-returns-4
 returns-4 c =
-    relation-last (c .before .before .before .before .before .before .before .before .before .args .d .now) (c .before .before .before .before .before .before .before .before .before .args .p) (c .before .before .before .before .before .before .before .before .before .args .m) (c .before .before .before .before .before .before .before .whole-entry .result) (c .before .before .before .before .before .before .before .whole-entry .ensures) (c .before .before .before .before .good-name .result) (c .before .before .before .before .good-name .ensures ∙ ap goodName (c .before .before .before .before .before .name-at .ensures)) (not-false (c .before .before .before .before .before .before .before .whole-entry .result) (c .before .before .before .before .before .before .if1 .left)) (not-false (c .before .before .before .before .good-name .result) (c .before .before .before .if2 .left)) (c .before .if3 .left) (c .taken .result) (c .taken .ensures)
+    let args′ = c .before .before .before .before .before .before .before .before .before .args in
+    let whole-entry′ = c .before .before .before .before .before .before .before .whole-entry in
+    let good-name′ = c .before .before .before .before .good-name in
+    let name-at′ = c .before .before .before .before .before .name-at in
+    let if1′ = c .before .before .before .before .before .before .if1 in
+    let if2′ = c .before .before .before .if2 in
+    let if3′ = c .before .if3 in
+    let taken′ = c .taken in
+    relation-last (args′ .d .now) (args′ .p) (args′ .m) (whole-entry′ .result) (whole-entry′ .ensures) (good-name′ .result)
+    (good-name′ .ensures ∙ ap goodName (name-at′ .ensures)) (not-false (whole-entry′ .result) (if1′ .left))
+    (not-false (good-name′ .result) (if2′ .left)) (if3′ .left) (taken′ .result) (taken′ .ensures)
 
 pub relation-good-spec : {M : Type 1} → statement M
 relation-good-spec =

@@ -20,7 +20,11 @@ word-at-requires c κs = search needs
 
 -- src/check.rt:104:9
 returns : tie.Need-returns
-returns c = not-relation (c .before .before .before .args .d .now) (c .before .before .before .args .p) (c .before .before .before .args .q) _ (c .before .word-at .ensures .0) (c .if1 .taken)
+returns c =
+    let args′ = c .before .before .before .args in
+    let word-at′ = c .before .word-at in
+    let if1′ = c .if1 in
+    not-relation (args′ .d .now) (args′ .p) (args′ .q) _ (word-at′ .ensures .0) (if1′ .taken)
 
 -- src/check.rt:106:19
 add-word-at-2 : tie.Need-add-word-at-2
@@ -40,7 +44,15 @@ word-at-requires-3 c κs = search needs
 
 -- src/check.rt:107:9
 returns-2 : tie.Need-returns-2
-returns-2 c = same-id (c .before .before .before .before .before .before .args .d .now) (c .before .before .before .before .before .before .args .p) (c .before .before .before .before .before .before .args .q) _ (c .before .before .before .before .word-at .ensures .0) (c .before .before .before .if1 .left) _ _ (c .before .before .word-at2 .ensures .0) (c .before .word-at3 .ensures .0) (c .if2 .taken)
+returns-2 c =
+    let args′ = c .before .before .before .before .before .before .args in
+    let word-at′ = c .before .before .before .before .word-at in
+    let if1′ = c .before .before .before .if1 in
+    let word-at2′ = c .before .before .word-at2 in
+    let word-at3′ = c .before .word-at3 in
+    let if2′ = c .if2 in
+    same-id (args′ .d .now) (args′ .p) (args′ .q) _ (word-at′ .ensures .0) (if1′ .left) _ _ (word-at2′ .ensures .0)
+    (word-at3′ .ensures .0) (if2′ .taken)
 
 -- src/check.rt:109:27
 add-name-at : tie.Need-add-name-at
@@ -65,8 +77,18 @@ same-bytes-requires c κs = search needs
 -- src/check.rt:99:1
 returns-3 : tie.Need-returns-3
 returns-3 c =
-    c .same-bytes .ensures ∙ ap₂ sameBytes (c .before .before .name-at .ensures) (c .before .name-at2 .ensures) ∙
-    same-name (c .before .before .before .before .before .before .before .before .before .args .d .now) (c .before .before .before .before .before .before .before .before .before .args .p) (c .before .before .before .before .before .before .before .before .before .args .q) _ (c .before .before .before .before .before .before .before .word-at .ensures .0) (c .before .before .before .before .before .before .if1 .left) _ _ (c .before .before .before .before .before .word-at2 .ensures .0) (c .before .before .before .before .word-at3 .ensures .0) (c .before .before .before .if2 .left)
+    let same-bytes′ = c .same-bytes in
+    let name-at′ = c .before .before .name-at in
+    let name-at2′ = c .before .name-at2 in
+    let args′ = c .before .before .before .before .before .before .before .before .before .args in
+    let word-at′ = c .before .before .before .before .before .before .before .word-at in
+    let if1′ = c .before .before .before .before .before .before .if1 in
+    let word-at2′ = c .before .before .before .before .before .word-at2 in
+    let word-at3′ = c .before .before .before .before .word-at3 in
+    let if2′ = c .before .before .before .if2 in
+    same-bytes′ .ensures ∙ ap₂ sameBytes (name-at′ .ensures) (name-at2′ .ensures) ∙
+    same-name (args′ .d .now) (args′ .p) (args′ .q) _ (word-at′ .ensures .0) (if1′ .left) _ _ (word-at2′ .ensures .0)
+    (word-at3′ .ensures .0) (if2′ .left)
 
 pub same-relation-spec : {M : Type 1} → statement M
 same-relation-spec =

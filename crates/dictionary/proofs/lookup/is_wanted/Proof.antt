@@ -22,7 +22,11 @@ word-at-requires c κs = search needs
 
 -- src/lookup.rt:31:9
 returns : tie.Need-returns
-returns c = not-wanted (c .before .before .before .before .args .d .now) (c .before .before .before .before .args .name .now) (c .before .before .before .before .args .id) (c .before .before .before .before .args .q) (c .before .word-at .result) (c .before .word-at .ensures .0) (c .before .before .before .before .args .w) (c .if1 .taken)
+returns c =
+    let args′ = c .before .before .before .before .args in
+    let word-at′ = c .before .word-at in
+    let if1′ = c .if1 in
+    not-wanted (args′ .d .now) (args′ .name .now) (args′ .id) (args′ .q) (word-at′ .result) (word-at′ .ensures .0) (args′ .w) (if1′ .taken)
 
 -- src/lookup.rt:34:49
 enum-told : tie.Need-enum-told
@@ -55,16 +59,27 @@ word-at-requires-2 c κs = search needs
 -- src/lookup.rt:26:1
 returns-2 : tie.Need-returns-2
 returns-2 c =
-    rw (c .before .before .enum-told .given .1)
-    (c .same-bytes .ensures ∙ ap (λ x. sameBytes x (c .before .before .before .before .before .before .before .before .args .name .now)) (c .before .name-at .ensures) ∙
-    wanted-name (c .before .before .before .before .before .before .before .before .args .d .now) (c .before .before .before .before .before .before .before .before .args .name .now) (c .before .before .before .before .before .before .before .before .args .id) (c .before .before .before .before .before .before .before .before .args .q) (c .before .before .before .before .before .word-at .result) (c .before .before .before .before .before .word-at .ensures .0) (c .before .before .before .before .if1 .left))
+    let enum-told′ = c .before .before .enum-told in
+    let same-bytes′ = c .same-bytes in
+    let args′ = c .before .before .before .before .before .before .before .before .args in
+    let name-at′ = c .before .name-at in
+    let word-at′ = c .before .before .before .before .before .word-at in
+    let if1′ = c .before .before .before .before .if1 in
+    rw (enum-told′ .given .1)
+    (same-bytes′ .ensures ∙ ap (λ x. sameBytes x (args′ .name .now)) (name-at′ .ensures) ∙
+    wanted-name (args′ .d .now) (args′ .name .now) (args′ .id) (args′ .q) (word-at′ .result) (word-at′ .ensures .0) (if1′ .left))
 
 -- src/lookup.rt:26:1
 returns-3 : tie.Need-returns-3
 returns-3 c =
-    rw (c .before .enum-told2 .given .1)
-    (ap (λ x. eqb x (c .before .before .before .before .before .before .before .args .id)) (c .word-at2 .ensures .0) ∙
-    wanted-id (c .before .before .before .before .before .before .before .args .d .now) (c .before .before .before .before .before .before .before .args .name .now) (c .before .before .before .before .before .before .before .args .id) (c .before .before .before .before .before .before .before .args .q) (c .before .before .before .before .word-at .result) (c .before .before .before .before .word-at .ensures .0) (c .before .before .before .if1 .left))
+    let enum-told2′ = c .before .enum-told2 in
+    let args′ = c .before .before .before .before .before .before .before .args in
+    let word-at2′ = c .word-at2 in
+    let word-at′ = c .before .before .before .before .word-at in
+    let if1′ = c .before .before .before .if1 in
+    rw (enum-told2′ .given .1)
+    (ap (λ x. eqb x (args′ .id)) (word-at2′ .ensures .0) ∙
+    wanted-id (args′ .d .now) (args′ .name .now) (args′ .id) (args′ .q) (word-at′ .result) (word-at′ .ensures .0) (if1′ .left))
 
 pub is-wanted-spec : {M : Type 1} → statement M
 is-wanted-spec =
