@@ -168,7 +168,7 @@ unfolding Rows.requestContextRows
 openRows3 = tt
 
 unfoldable pub openScope : Unit {0}
-unfolding Scope.inScope Scope.declared Scope.ofFor Scope.fieldTarget Scope.parameterTarget
+unfolding Scope.inScope Scope.declared Scope.ofFor Scope.updating Scope.fieldTarget Scope.parameterTarget
 openScope = tt
 
 unfoldable pub openSizes : Unit {0}

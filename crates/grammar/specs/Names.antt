@@ -11,8 +11,6 @@ use Rattle.wire.specs.declared.codes.FieldType.the-variants.{Plain}
 use Rattle.dictionary.specs.Format.{Format, widthBytes}
 use Rattle.dictionary.specs.Dictionary.{Relation}
 use Rattle.dictionary.specs.Names.{Name, relationOf, fieldOf, formatOf}
-use Rattle.grammar.specs.declared.Opener.{Opener}
-use Rattle.grammar.specs.declared.Opener.the-variants as Opener
 use Rattle.grammar.specs.Tree.{Descriptor, Message, Stream, Heading, loop, modify, handler, receive, send, store, label, Rse, rse}
 
 -- what stands around all statements: the relations of the dictionary and the messages of the request
@@ -20,23 +18,22 @@ pub record Environment : Type 0 where
   pub relations : List Relation
   pub messages : List Message
 
--- a context: its number, its relation if that is known, and what opened it
+-- a context: its number, its relation if that is known, and whether a for opened it
 pub record Context : Type 0 where
   pub number : ℕ
   pub relation : Option Relation
-  pub opener : Opener
+  pub fromFor : Bool
 
--- what is in scope at a place: contexts in the order of their declarations, the context that a field target names, the messages being
--- sent, the labels around, and whether a store or a modify is around
+-- what is in scope at a place: contexts in the order of their declarations, the context of the nearest store or modify around, the
+-- messages being sent, and the labels around
 pub record Scope : Type 0 where
   pub contexts : List Context
   pub target : Option ℕ
   pub sends : List ℕ
   pub labels : List ℕ
-  pub updates : Bool
 
 abbrev pub outermost : Scope
-outermost = record { contexts = []; target = none; sends = []; labels = []; updates = false }
+outermost = record { contexts = []; target = none; sends = []; labels = [] }
 
 -- 01: "Context numbers, message numbers and label numbers are three countings: a 1 in one is never a 1 in another."
 unfoldable pub contextOf : Scope → ℕ → Option Context
@@ -54,16 +51,16 @@ relationOfContext sc c = contextOf sc c andThen relationIn
 
 -- ---- scopes
 
-abbrev pub streamContext : List Relation → Opener → Stream → Context
-streamContext d by s = record { number = s .context; relation = relationOf d (s .relation); opener = by }
+abbrev pub streamContext : List Relation → Bool → Stream → Context
+streamContext d f s = record { number = s .context; relation = relationOf d (s .relation); fromFor = f }
 
 abbrev pub withContexts : Scope → List Context → Scope
 withContexts sc xs =
-    record { contexts = sc .contexts ++ xs; target = sc .target; sends = sc .sends; labels = sc .labels; updates = sc .updates }
+    record { contexts = sc .contexts ++ xs; target = sc .target; sends = sc .sends; labels = sc .labels }
 
 -- 01: "A context of an rse is in scope from the byte after its last stream to the end of its for"
 unfoldable pub underStreams : List Relation → Scope → List Stream → Scope
-underStreams d sc ss = withContexts sc (map (streamContext d Opener.For) ss)
+underStreams d sc ss = withContexts sc (map (streamContext d true) ss)
 
 unfoldable pub underRse : List Relation → Scope → Rse → Scope
 underRse d sc (rse ss cs) = underStreams d sc ss
@@ -71,11 +68,11 @@ underRse d sc (rse ss cs) = underStreams d sc ss
 -- 01: "that of store or a modify's to-ctx, throughout its substatement"
 abbrev pub underUpdate : Scope → Context → Scope
 underUpdate sc x =
-    record { contexts = sc .contexts ++ (x ∷ []); target = some (x .number); sends = sc .sends; labels = sc .labels; updates = true }
+    record { contexts = sc .contexts ++ (x ∷ []); target = some (x .number); sends = sc .sends; labels = sc .labels }
 
 -- 01: "relation id (modify: of its from-ctx)"
 abbrev pub modifyContext : Scope → ℕ → ℕ → Context
-modifyContext sc from to = record { number = to; relation = relationOfContext sc from; opener = Opener.Modify }
+modifyContext sc from to = record { number = to; relation = relationOfContext sc from; fromFor = false }
 
 unfoldable pub underHeading : List Relation → Scope → Heading → Scope
 underHeading d sc loop = sc
@@ -83,10 +80,10 @@ underHeading d sc (modify from to) = underUpdate sc (modifyContext sc from to)
 underHeading d sc handler = sc
 underHeading d sc (receive m) = sc
 underHeading d sc (send m) =
-    record { contexts = sc .contexts; target = sc .target; sends = m ∷ sc .sends; labels = sc .labels; updates = sc .updates }
-underHeading d sc (store s) = underUpdate sc (streamContext d Opener.Store s)
+    record { contexts = sc .contexts; target = sc .target; sends = sc .sends ++ (m ∷ []); labels = sc .labels }
+underHeading d sc (store s) = underUpdate sc (streamContext d false s)
 underHeading d sc (label n) =
-    record { contexts = sc .contexts; target = sc .target; sends = sc .sends; labels = n ∷ sc .labels; updates = sc .updates }
+    record { contexts = sc .contexts; target = sc .target; sends = sc .sends; labels = sc .labels ++ (n ∷ []) }
 
 -- ---- fields and parameters
 

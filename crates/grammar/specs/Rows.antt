@@ -1,5 +1,6 @@
 -- 01, "Tables and meaning": the rows of a request. "Rows stand in reading order."
 use Prim.Native.Nat.{ℕ, suc, _+_}
+use mathlib.Core.Bool.{true, false}
 use mathlib.Core.List.{List, [], _∷_, _++_}
 use mathlib.Core.Option.{Option, none, some}
 use lib.ListN.{length}
@@ -7,7 +8,6 @@ use Rattle.wire.specs.Codes as blr
 use Rattle.wire.specs.Words.{byteAt}
 use Rattle.dictionary.specs.Format.{held}
 use Rattle.dictionary.specs.Dictionary.{Relation}
-use Rattle.grammar.specs.declared.Opener.the-variants as Opener
 use Rattle.grammar.specs.Tree.{Descriptor, Message, Stream, Heading, loop, modify, handler, receive, send, store, label, Rse, rse, Statement, assignment, begin, erase, for, headed, leave, if, ifElse, select, Statements, none as nothing, _then_, Receives, last, more, Request}
 use Rattle.grammar.specs.Bytes.{descriptorBytes, messagesBytes, streamBytes, headBytes, rseBytes, headingBytes, booleanBytes, statementBytes, statementsBytes}
 use Rattle.grammar.specs.Names.{Context, Scope, outermost, streamContext, modifyContext, underRse, underHeading, descriptorFormat}
@@ -77,7 +77,7 @@ contextRow x place start end = x .number ∷ place ∷ start ∷ end ∷ relatio
 unfoldable pub streamRows : List Relation → List Stream → ℕ → ℕ → ℕ → List ℕ
 streamRows d [] p start end = []
 streamRows d (s ∷ ss) p start end =
-    contextRow (streamContext d Opener.For s) p start end ++ streamRows d ss (p + length (streamBytes s)) start end
+    contextRow (streamContext d true s) p start end ++ streamRows d ss (p + length (streamBytes s)) start end
 
 unfoldable pub rseRows : List Relation → Rse → ℕ → ℕ → List ℕ
 rseRows d (rse ss cs) p end = streamRows d ss (p + 2) (p + length (headBytes ss)) end
@@ -90,7 +90,7 @@ headingRows d sc handler p end = []
 headingRows d sc (receive m) p end = []
 headingRows d sc (send m) p end = []
 headingRows d sc (store s) p end =
-    contextRow (streamContext d Opener.Store s) (p + 1) (p + 1 + length (streamBytes s)) end
+    contextRow (streamContext d false s) (p + 1) (p + 1 + length (streamBytes s)) end
 headingRows d sc (label n) p end = []
 
 -- the contexts declared in a statement at p, under a scope

@@ -2,7 +2,7 @@
 use Prim.Native.Nat.{ℕ}
 use mathlib.Core.Path.{_≡_}
 use mathlib.Core.Bool.{Bool, true, false}
-use mathlib.Core.List.{List, [], _∷_}
+use mathlib.Core.List.{List, [], _∷_, _++_}
 use Rattle.dictionary.specs.Dictionary.{Relation}
 use Rattle.grammar.specs.Tree.{Reference, Value, literal, reference, arithmetic, negate, Boolean, compare, search, between, connect, not, missing, Keys, noKeys, key, Clauses, noClauses, such, sorted, Rse, rse, Statement, assignment, begin, erase, for, headed, leave, if, ifElse, select, Statements, none as nothing, _then_, Receives, last, more, Request}
 use Rattle.grammar.specs.Names.{Environment, Scope, outermost, underStreams, underRse, underHeading}
@@ -36,7 +36,7 @@ ClausesAllowed e sc b s (sorted ks cs) = (s ≡ false) × SortInRange ks × Keys
 
 abbrev pub RseAllowed : Environment → Scope → Rse → Type 0
 RseAllowed e sc (rse ss cs) =
-    StreamsInRange ss × StreamsScoped (e .relations) sc [] ss × ClausesAllowed e (underStreams (e .relations) sc ss) false false cs
+    StreamsInRange ss × StreamsScoped (e .relations) sc ss × ClausesAllowed e (underStreams (e .relations) sc ss) false false cs
 
 abbrev mutual
   pub StatementAllowed : Environment → Scope → Statement → Type 0
@@ -58,7 +58,7 @@ abbrev mutual
   -- beside the messages of the receives before
   pub ReceivesAllowed : Environment → Scope → List ℕ → Receives → Type 0
   ReceivesAllowed e sc before (last m s) = Selected e sc before m × StatementAllowed e sc s
-  ReceivesAllowed e sc before (more m s rs) = Selected e sc before m × StatementAllowed e sc s × ReceivesAllowed e sc (m ∷ before) rs
+  ReceivesAllowed e sc before (more m s rs) = Selected e sc before m × StatementAllowed e sc s × ReceivesAllowed e sc (before ++ (m ∷ [])) rs
 
 abbrev pub environment : List Relation → Request → Environment
 environment d r = record { relations = d; messages = r .messages }

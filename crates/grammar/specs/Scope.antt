@@ -8,10 +8,8 @@ use lib.Dec.{eqb}
 use Rattle.wire.specs.Lists.{among, isSome}
 use Rattle.dictionary.specs.Dictionary.{Relation}
 use Rattle.dictionary.specs.Names.{relationOf}
-use Rattle.grammar.specs.declared.Opener.{Opener}
-use Rattle.grammar.specs.declared.Opener.the-variants as Opener
 use Rattle.grammar.specs.Tree.{Message, Stream, Reference, field, parameter, parameter2, Heading, loop, modify, handler, receive, send, store, label, Receives, last, more}
-use Rattle.grammar.specs.Names.{Environment, Context, Scope, contextOf, messageOf, parameterFormat, fieldFormat}
+use Rattle.grammar.specs.Names.{Environment, Context, Scope, underStreams, contextOf, messageOf, parameterFormat, fieldFormat}
 
 -- ---- tests, which reading makes too
 
@@ -23,12 +21,7 @@ declared e m = isSome (messageOf e m)
 
 abbrev pub openedByFor : Option Context → Bool
 openedByFor none = false
-openedByFor (some x) = byFor (x .opener)
-  where
-    byFor : Opener → Bool
-    byFor Opener.For = true
-    byFor Opener.Store = false
-    byFor Opener.Modify = false
+openedByFor (some x) = x .fromFor
 
 -- 01: "Erase and modify name a context from a for."
 unfoldable pub ofFor : Scope → ℕ → Bool
@@ -37,6 +30,10 @@ ofFor sc c = openedByFor (contextOf sc c)
 abbrev pub isNumber : Option ℕ → ℕ → Bool
 isNumber none c = false
 isNumber (some x) c = eqb x c
+
+-- a store or a modify is around
+unfoldable pub updating : Scope → Bool
+updating sc = isSome (sc .target)
 
 -- 01: "A field target names the context of the nearest enclosing modify or store; a parameter target stands inside a send of its message."
 unfoldable pub fieldTarget : Scope → ℕ → Bool
@@ -58,17 +55,17 @@ Target sc (parameter m i) = parameterTarget sc m ≡ true
 Target sc (parameter2 m i flag) = parameterTarget sc m ≡ true
 
 -- 01: "A number already in scope cannot be declared again, nor twice among the streams of one rse (11); after its scope it can."
-abbrev pub StreamScoped : List Relation → Scope → List ℕ → Stream → Type 0
-StreamScoped d sc before s =
-    (isSome (relationOf d (s .relation)) ≡ true) × (inScope sc (s .context) ≡ false) × (among (s .context) before ≡ false)
+abbrev pub StreamScoped : List Relation → Scope → Stream → Type 0
+StreamScoped d sc s = (isSome (relationOf d (s .relation)) ≡ true) × (inScope sc (s .context) ≡ false)
 
-abbrev pub StreamsScoped : List Relation → Scope → List ℕ → List Stream → Type 0
-StreamsScoped d sc before [] = Unit {0}
-StreamsScoped d sc before (s ∷ ss) = StreamScoped d sc before s × StreamsScoped d sc (s .context ∷ before) ss
+-- each beside the contexts in scope and those of the streams before it
+abbrev pub StreamsScoped : List Relation → Scope → List Stream → Type 0
+StreamsScoped d sc [] = Unit {0}
+StreamsScoped d sc (s ∷ ss) = StreamScoped d sc s × StreamsScoped d (underStreams d sc (s ∷ [])) ss
 
 -- 01: "Store and modify contain no send or receive."
 abbrev pub Exchanged : Environment → Scope → ℕ → Type 0
-Exchanged e sc m = (sc .updates ≡ false) × (declared e m ≡ true)
+Exchanged e sc m = (updating sc ≡ false) × (declared e m ≡ true)
 
 abbrev pub HeadingScoped : Environment → Scope → Heading → Type 0
 HeadingScoped e sc loop = Unit {0}
@@ -76,7 +73,7 @@ HeadingScoped e sc (modify from to) = (ofFor sc from ≡ true) × (inScope sc to
 HeadingScoped e sc handler = Unit {0}
 HeadingScoped e sc (receive m) = Exchanged e sc m
 HeadingScoped e sc (send m) = Exchanged e sc m
-HeadingScoped e sc (store s) = StreamScoped (e .relations) sc [] s
+HeadingScoped e sc (store s) = StreamScoped (e .relations) sc s
 HeadingScoped e sc (label n) = Unit {0}
 
 -- 01: "Leave stands inside a label of its number and means the nearest; labels may repeat."

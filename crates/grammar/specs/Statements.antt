@@ -1,7 +1,7 @@
 -- Reading rses and statements.
 use Prim.Native.Nat.{ℕ, zero, suc}
 use mathlib.Core.Bool.{Bool, true, false, cond, not as negation, _&&_}
-use mathlib.Core.List.{List, [], _∷_}
+use mathlib.Core.List.{List, [], _∷_, _++_}
 use lib.Dec.{eqb, ltb}
 use Rattle.wire.specs.Codes as blr
 use Rattle.wire.specs.Lists.{among, isSome}
@@ -17,7 +17,7 @@ use Rattle.dictionary.specs.Names.{Name, relationOf}
 use Rattle.grammar.specs.declared.Refusal.the-variants.{NotDue, TooGreat, BadMessage, BadContext, Unknown, Unfit, Misplaced, OutOfRange}
 use Rattle.grammar.specs.Tree.{Stream, Heading, loop, modify, handler, receive, send, store, label, Value, Boolean, Keys, noKeys, key, Clauses, noClauses, such, sorted, Rse, rse, Statement, assignment, begin, erase, for, headed, leave, if, ifElse, select, Statements, none as nothing, _then_, Receives, last, more}
 use Rattle.grammar.specs.Names.{Environment, Scope, underStreams, underHeading}
-use Rattle.grammar.specs.Scope.{inScope, ofFor, declared}
+use Rattle.grammar.specs.Scope.{inScope, ofFor, declared, updating}
 use Rattle.grammar.specs.Kinds.{kindOf, referenceKind, oneKind}
 use Rattle.grammar.specs.Sizes.{countInRange}
 use Rattle.grammar.specs.Reader.{Reader, _>>=_, _>>_, return, refuse, need, place, byte, peek, tested, code, coded, counted, opened, noted}
@@ -29,21 +29,21 @@ abbrev pub naming : StreamCode → Reader Name
 naming Stream.Relation = byName
 naming Stream.Rid = byNumber
 
--- a stream beside the contexts of the streams before it
-unfoldable pub stream : List Relation → Scope → List ℕ → Reader Stream
-stream d sc before = do
+unfoldable pub stream : List Relation → Scope → Reader Stream
+stream d sc = do
   p ← place
   c ← coded streamClass
   opened p
   n ← tested (naming c) (λ n. isSome (relationOf d n)) Unknown
-  k ← tested byte (λ k. negation (inScope sc k) && negation (among k before)) BadContext
+  k ← tested byte (λ k. negation (inScope sc k)) BadContext
   return (record { relation = n; context = k })
 
-unfoldable pub streams : ℕ → List Relation → Scope → List ℕ → Reader (List Stream)
-streams zero d sc before = return []
-streams (suc n) d sc before = do
-  s ← stream d sc before
-  ss ← streams n d sc (s .context ∷ before)
+-- each beside the contexts in scope and those of the streams before it
+unfoldable pub streams : ℕ → List Relation → Scope → Reader (List Stream)
+streams zero d sc = return []
+streams (suc n) d sc = do
+  s ← stream d sc
+  ss ← streams n d (underStreams d sc (s ∷ []))
   return (s ∷ ss)
 
 -- the count of streams, or of sort values
@@ -55,7 +55,7 @@ unfoldable pub rseHead : List Relation → Scope → Reader (List Stream)
 rseHead d sc = do
   code blr.rse NotDue
   n ← countByte
-  streams n d sc []
+  streams n d sc
 
 -- ---- clauses
 
@@ -107,7 +107,7 @@ clauses (suc n) booleans values b s = do
 -- "Store and modify contain no send or receive."
 unfoldable pub exchanged : Environment → Scope → ℕ → Reader ℕ
 exchanged e sc p = do
-  need (negation (sc .updates)) Misplaced p
+  need (negation (updating sc)) Misplaced p
   messageByte e
 
 unfoldable pub modifyHeading : Scope → ℕ → Reader Heading
@@ -130,7 +130,7 @@ sendHeading e sc p = do
 
 unfoldable pub storeHeading : List Relation → Scope → Reader Heading
 storeHeading d sc = do
-  s ← stream d sc []
+  s ← stream d sc
   return (store s)
 
 unfoldable pub labelHeading : Reader Heading
@@ -165,7 +165,7 @@ manyReceives (suc n) one before = do
   cond (eqb x blr.end) (do
     byte
     return (last (r .0) (r .1))) (do
-      rs ← manyReceives n one (r .0 ∷ before)
+      rs ← manyReceives n one (before ++ (r .0 ∷ []))
       return (more (r .0) (r .1) rs))
 
 -- the readers of what stands one level down
@@ -253,7 +253,7 @@ inner statements receives l e =
 -- a receive of a select, whose body `body` reads; 9: "message declared or selected twice, or undeclared"
 unfoldable pub receiveUnder : Reader Statement → Environment → Scope → ℕ → List ℕ → Reader (ℕ × Statement)
 receiveUnder body e sc p before = do
-  need (negation (sc .updates)) Misplaced p
+  need (negation (updating sc)) Misplaced p
   m ← tested byte (λ m. declared e m && negation (among m before)) BadMessage
   s ← body
   return (m, s)

@@ -33,13 +33,6 @@ pub enum Kind {
     Date,
 }
 
-// What opened a context.
-pub enum Opener {
-    For,
-    Store,
-    Modify,
-}
-
 // How far a reading has come: the place of the next byte, and the statements, contexts and conditions met.
 pub struct Cursor {
     pub at: u32,
