@@ -6,11 +6,12 @@ ghost use lib.ListN.{length};
 ghost use Rattle.wire.specs.Lists.{anyOf};
 ghost use Rattle.dictionary.specs.Format.{scaleInRange, sizeInRange, fitting};
 ghost use Rattle.dictionary.specs.Dictionary.{wholeEntry, dictionary};
-ghost use Rattle.wire.specs.Words.{byteAt};
+ghost use Rattle.wire.specs.Words.{byteAt, wordAt};
 ghost use Rattle.wire.specs.declared.codes.FieldType.the-variants.{Plain};
 ghost use Rattle.wire.specs.declared.codes.DataType.the-variants.{Number as IsNumber};
 ghost use Rattle.wire.specs.Classes.{fieldClass};
-ghost use Rattle.dictionary.specs.Walk.{between, sameRelation, sameField, sameEntry, relationGood, fieldGood, relationMet, fieldMet, meet};
+ghost use Rattle.dictionary.specs.Walk.{between, sameRelation, sameField, sameEntry};
+ghost use Rattle.dictionary.specs.Walk.{relationGood, fieldGood, relationMet, fieldMet, meet};
 ghost use Rattle.dictionary.specs.Answers.{answerOf, meetingOf};
 use crate::names::good_name;
 use crate::names::name_at;
@@ -148,14 +149,22 @@ fn same_entry(u: Unique, d: &[u8], p: usize, q: usize) -> bool
     }
 }
 
+// The word at a place where both its bytes stand: read without a test, since the search reads one beside each earlier entry.
+fn word_within(d: &[u8], at: usize) -> u32
+    requires { ⌜ at + 1 < length (now d) ⌝ }
+    ensures { λ r. ⌜ (r ≡ wordAt (now (d .entry)) at) × (r < 65536) ⌝ }
+{
+    d[at] as u32 + 256 * d[at + 1] as u32
+}
+
 // Whether an entry from a place on and before p has what must not repeat.
 fn taken(u: Unique, d: &[u8], from: usize, p: usize) -> bool
-    requires { ⌜ p ≤ 65535 ⌝ }
+    requires { ⌜ (length (now d) ≤ 65535) × (p < length (now d)) ⌝ }
     ensures { λ r. ⌜ r ≡ anyOf (sameEntry u (now (d .entry)) p) (between (now (d .entry)) from p) ⌝ }
 {
     let mut q: usize = from;
     while q < p {
-        let n = word_at(d, q) as usize;
+        let n = word_within(d, q) as usize;
         if n == 0 {
             return false;
         }
@@ -168,7 +177,7 @@ fn taken(u: Unique, d: &[u8], from: usize, p: usize) -> bool
 }
 
 fn relation_good(d: &[u8], p: usize, m: Met) -> bool
-    requires { ⌜ (length (now d) ≤ 65535) × (p ≤ 65535) ⌝ }
+    requires { ⌜ (length (now d) ≤ 65535) × (p < length (now d)) ⌝ }
     ensures { λ r. ⌜ r ≡ relationGood (now (d .entry)) p m ⌝ }
 {
     if !whole_entry(d, p, 6) {
@@ -184,7 +193,7 @@ fn relation_good(d: &[u8], p: usize, m: Met) -> bool
 }
 
 fn field_good(d: &[u8], p: usize, t: FieldType, m: Met) -> bool
-    requires { ⌜ (length (now d) ≤ 65535) × (p ≤ 65535) ⌝ }
+    requires { ⌜ (length (now d) ≤ 65535) × (p < length (now d)) ⌝ }
     ensures { λ r. ⌜ r ≡ fieldGood (now (d .entry)) p t m ⌝ }
 {
     if !whole_entry(d, p, 10) {
