@@ -56,14 +56,14 @@ fn whole_entry(d: &[u8], p: usize, k: usize) -> bool
 }
 
 // "Scales -9 to 0"
-fn scale_in_range(b: u8) -> bool
+pub fn scale_in_range(b: u8) -> bool
     ensures { λ r. ⌜ r ≡ scaleInRange b ⌝ }
 {
     if b < 128 { b == 0 } else { 247 <= b }
 }
 
 // "Text n 1–255."
-fn size_in_range(n: u32) -> bool
+pub fn size_in_range(n: u32) -> bool
     ensures { λ r. ⌜ r ≡ sizeInRange n ⌝ }
 {
     if n < 1 { false } else { n <= 255 }

@@ -14,3 +14,4 @@ pub mod Messages
 pub mod Values
 pub mod Statements
 pub mod Reading
+pub mod Steps

@@ -35,14 +35,40 @@ pub enum Kind {
 
 // How far a reading has come: the place of the next byte, and the statements, contexts and conditions met.
 pub struct Cursor {
-    pub at: u32,
-    pub statements: u32,
-    pub contexts: u32,
-    pub conditions: u32,
+    pub at: usize,
+    pub statements: usize,
+    pub contexts: usize,
+    pub conditions: usize,
 }
 
 // What a reference is read as: a value, or the target of the assignment at a place.
 pub enum Role {
     AsValue,
-    AsTarget(u32),
+    AsTarget(usize),
+}
+
+// The kind of a value that was read, or that it has none.
+pub enum Fit {
+    Number(i8),
+    Text,
+    Date,
+    NoKind,
+}
+
+// What a reader answers: the kind of what was read, if it is a value, and the cursor after it; or the refusal and its place.
+pub enum Step {
+    Next(Fit, Cursor),
+    Refused(Refusal, usize),
+}
+
+// A byte that was read.
+pub enum ByteStep {
+    Is(u8, Cursor),
+    Refused(Refusal, usize),
+}
+
+// A word that was read.
+pub enum WordStep {
+    Is(u32, Cursor),
+    Refused(Refusal, usize),
 }

@@ -1,0 +1,72 @@
+-- A request that the rules allow has no more conditions than statements.
+use Prim.Native.Nat.{ℕ, _+_, _≤_}
+use mathlib.Core.Path.{sym}
+use mathlib.Core.Bool.{Bool, true, false, cond, false≢true}
+use mathlib.Core.List.{List, [], _∷_, _++_}
+use native.Mathlib.Omega.{arith}
+use lib.ListN.{length, length-append}
+use Rattle.dictionary.specs.Dictionary.{Relation}
+use Rattle.grammar.specs.Tree.{Clauses, noClauses, such, sorted, Rse, rse, Statement, assignment, begin, erase, for, headed, leave, if, ifElse, select, Statements, none as nothing, _then_, Receives, last, more, Request}
+use Rattle.grammar.specs.Bytes.{keysBytes, headBytes, rseBytes, headingBytes, booleanBytes, statementBytes}
+use Rattle.grammar.specs.Names.{Environment, Scope, outermost, underStreams, underRse, underHeading}
+use Rattle.grammar.specs.Sizes.{statementCount, statementsCount, receivesCount}
+use Rattle.grammar.specs.Rules.{ClausesAllowed, RseAllowed, StatementAllowed, StatementsAllowed, ReceivesAllowed, environment, Allowed}
+use Rattle.grammar.specs.Rows.{statementsStart}
+use Rattle.grammar.specs.Conditions.{clausesConditions, rseConditions, conditions, statementsConditions, receivesConditions, requestConditions}
+
+-- one at most, and none after a boolean
+clauses-few : (e : Environment) (sc : Scope) (b s : Bool) (cs : Clauses) (p : ℕ) → ClausesAllowed e sc b s cs →
+    length (clausesConditions sc cs p) ≤ cond b 0 1
+unfolding clausesConditions
+clauses-few e sc b s noClauses p a = omega arith
+clauses-few e sc true s (such x cs) p a = absurd (false≢true (sym (a .0)))
+clauses-few e sc false s (such x cs) p a = omega (arith, clauses-few e sc true s cs (p + 1 + length (booleanBytes x)) (a .2))
+clauses-few e sc b s (sorted ks cs) p a = clauses-few e sc b true cs (p + 2 + length (keysBytes ks)) (a .3)
+
+rse-few : (e : Environment) (sc : Scope) (r : Rse) (p : ℕ) → RseAllowed e sc r → length (rseConditions (e .relations) sc r p) ≤ 1
+unfolding rseConditions
+rse-few e sc (rse ss cs) p a = clauses-few e (underStreams (e .relations) sc ss) false false cs (p + length (headBytes ss)) (a .2)
+
+module _ (e : Environment) where
+  mutual
+    unfolding conditions statementsConditions receivesConditions statementCount statementsCount receivesCount
+
+    pub conditions-few : (sc : Scope) (t : Statement) (p : ℕ) → StatementAllowed e sc t →
+        length (conditions (e .relations) sc t p) ≤ statementCount t
+    conditions-few sc (assignment v t) p a = omega arith
+    conditions-few sc (begin ss) p a = let i = statements-conditions-few sc ss (p + 1) a in omega arith
+    conditions-few sc (erase c) p a = omega arith
+    conditions-few sc (for r t) p a =
+        let i = rse-few e sc r (p + 1) (a .0) in
+        let j = conditions-few (underRse (e .relations) sc r) t (p + 1 + length (rseBytes r)) (a .1) in
+        rw (length-append (rseConditions (e .relations) sc r (p + 1))) (omega arith)
+    conditions-few sc (headed h t) p a =
+        let i = conditions-few (underHeading (e .relations) sc h) t (p + length (headingBytes h)) (a .1) in omega arith
+    conditions-few sc (leave n) p a = omega arith
+    conditions-few sc (if b t) p a = let i = conditions-few sc t (p + 1 + length (booleanBytes b)) (a .1) in omega arith
+    conditions-few sc (ifElse b t u) p a =
+        let i = conditions-few sc t (p + 1 + length (booleanBytes b)) (a .1) in
+        let j = conditions-few sc u (p + 1 + length (booleanBytes b) + length (statementBytes t)) (a .2) in
+        rw (length-append (conditions (e .relations) sc t (p + 1 + length (booleanBytes b)))) (omega arith)
+    conditions-few sc (select rs) p a = let i = receives-conditions-few sc [] rs (p + 1) a in omega arith
+
+    pub statements-conditions-few : (sc : Scope) (ts : Statements) (p : ℕ) → StatementsAllowed e sc ts →
+        length (statementsConditions (e .relations) sc ts p) ≤ statementsCount ts
+    statements-conditions-few sc nothing p a = omega arith
+    statements-conditions-few sc (t then ts) p a =
+        let i = conditions-few sc t p (a .0) in
+        let j = statements-conditions-few sc ts (p + length (statementBytes t)) (a .1) in
+        rw (length-append (conditions (e .relations) sc t p)) (omega arith)
+
+    pub receives-conditions-few : (sc : Scope) (before : List ℕ) (rs : Receives) (p : ℕ) → ReceivesAllowed e sc before rs →
+        length (receivesConditions (e .relations) sc rs p) ≤ receivesCount rs
+    receives-conditions-few sc before (last m t) p a = let i = conditions-few sc t (p + 2) (a .1) in omega arith
+    receives-conditions-few sc before (more m t rs) p a =
+        let i = conditions-few sc t (p + 2) (a .1) in
+        let j = receives-conditions-few sc (before ++ (m ∷ [])) rs (p + 2 + length (statementBytes t)) (a .2) in
+        rw (length-append (conditions (e .relations) sc t (p + 2))) (omega arith)
+
+pub request-conditions-few : (d : List Relation) (r : Request) → Allowed d r →
+    length (requestConditions d r) ≤ statementsCount (r .statements)
+unfolding requestConditions
+request-conditions-few d r a = statements-conditions-few (environment d r) outermost (r .statements) (statementsStart r) (a .statements)

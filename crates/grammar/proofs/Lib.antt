@@ -1,0 +1,25 @@
+-- Laws of reading: what the code's answers say, soundness and completeness.
+pub mod StepLaws
+pub mod Went
+pub mod Codes
+pub mod SoundMessages
+pub mod SoundReferences
+pub mod SoundValues
+pub mod SoundRses
+pub mod SoundSequences
+pub mod SoundStatements
+pub mod FewConditions
+pub mod Sound
+pub mod Found
+pub mod Parts
+pub mod Due
+pub mod Implied
+pub mod CompleteMessages
+pub mod CompleteReferences
+pub mod CompleteValues
+pub mod CompleteRses
+pub mod CompleteHeadings
+pub mod CompleteSequences
+pub mod CompleteStatements
+pub mod Complete
+pub mod Accepted

@@ -1,0 +1,5 @@
+-- Laws that belong to no one function.
+pub mod Scopes
+pub mod Rests
+pub mod Scales
+pub mod Fits

@@ -1,0 +1,86 @@
+-- `scopes::scope::Scope::find` meets its contract. A search among the contexts that are left. Assumes nothing.
+use Prim.Native.Nat.{_≤_, _<_, _-_}
+use mathlib.Core.Path.{_≡_, sym, ap, _∙_}
+use native.Mathlib.Omega.{arith}
+use borrow.Author.Needs.{needs}
+use lib.ListN.{length-map, length, take}
+use Rattle.scopes.specs.Scopes.{foundOf}
+use Rattle.scopes.proofs.scope.Context.{the-type}
+use Rattle.scopes.proofs.Rests.{rest-start, rest, rest-counted, rest-over, no-context, context-here, context-next}
+use Rattle.scopes.proofs.scope.Scope.find.Statement.{statement}
+use Rattle.scopes.proofs.scope.Scope.find.Tie as tie
+
+abbrev Inv-loop : tie.InvT-loop
+Inv-loop n contexts count i₀ i =
+    (i ≤ count) × (length contexts ≡ 32) × (foundOf (take count contexts) (n .0) ≡ foundOf (rest contexts count i) (n .0))
+
+abbrev μ-loop : tie.MeasureT-loop
+μ-loop n contexts count i₀ i = 32 - i
+
+loop-holds : tie.Need-loop-holds Inv-loop μ-loop
+loop-holds c =
+    let args′ = c .before .args in
+    let good′ = c .before .good in
+    let h : length (args′ .self .contexts) ≡ 32 = sym (length-map (args′ .self .contexts) (the-type .to)) ∙ good′ .0 .1 .1 .0 .1 .0 .1 in
+    (omega arith, h, ap (λ l. foundOf l (args′ .n .0)) (rest-start (args′ .self .contexts) (args′ .self .count)))
+
+returns : tie.Need-returns Inv-loop μ-loop
+returns c =
+    let args′ = c .before .before .before .before .args in
+    let loop′ = c .before .before .loop in
+    let if1′ = c .if1 in
+    no-context (args′ .n .0) (rest-counted (args′ .self .contexts) (args′ .self .count) (loop′ .i) (if1′ .taken)) ∙ sym (loop′ .inv .2)
+
+mul-x : tie.Need-mul-x Inv-loop μ-loop
+mul-x c = search needs
+
+array-copy-out-x : tie.Need-array-copy-out-x Inv-loop μ-loop
+array-copy-out-x c = search needs
+
+returns-2 : tie.Need-returns-2 Inv-loop μ-loop
+returns-2 c =
+    let loop′ = c .before .before .before .before .before .before .loop in
+    let args′ = c .before .before .before .before .before .before .before .before .args in
+    let if2′ = c .if2 in
+    let h : loop′ .i < length (args′ .self .contexts) = omega arith in
+    let k : loop′ .i < args′ .self .count = omega arith in
+    context-here (args′ .n .0) (args′ .self .contexts) (args′ .self .count) (loop′ .i) h k _ (if2′ .taken) ∙ sym (loop′ .inv .2)
+
+add-i : tie.Need-add-i Inv-loop μ-loop
+add-i c = search needs
+
+loop-less : tie.Need-loop-less Inv-loop μ-loop
+loop-less c = search needs
+
+loop-again : tie.Need-loop-again Inv-loop μ-loop
+loop-again c =
+    let loop′ = c .before .before .before .before .before .before .loop in
+    let args′ = c .before .before .before .before .before .before .before .before .args in
+    let if2′ = c .if2 in
+    let h : loop′ .i < length (args′ .self .contexts) = omega arith in
+    let k : loop′ .i < args′ .self .count = omega arith in
+    let next = context-next (args′ .n .0) (args′ .self .contexts) (args′ .self .count) (loop′ .i) h k _ (if2′ .left) in
+    (omega arith, loop′ .inv .1, loop′ .inv .2 ∙ next)
+
+returns-3 : tie.Need-returns-3 Inv-loop μ-loop
+returns-3 c =
+    let args′ = c .before .before .before .args in
+    let loop′ = c .before .loop in
+    let h : length (args′ .self .contexts) ≤ loop′ .i = omega arith in
+    no-context (args′ .n .0) (rest-over (args′ .self .contexts) (args′ .self .count) (loop′ .i) h) ∙ sym (loop′ .inv .2)
+
+pub find-spec : {M : Type 1} → statement M
+find-spec =
+    tie.close
+    (tie.spec
+    Inv-loop
+    μ-loop
+    loop-holds
+    returns
+    mul-x
+    array-copy-out-x
+    returns-2
+    add-i
+    loop-less
+    loop-again
+    returns-3)

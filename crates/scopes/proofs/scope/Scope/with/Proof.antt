@@ -1,0 +1,31 @@
+-- `scopes::scope::Scope::with` meets its contract. By the test of the count. Assumes nothing.
+use Prim.Native.Nat.{_≤_, _<_}
+use native.Mathlib.Omega.{arith}
+use borrow.Author.Tests.{lt-ltb, le-ltb}
+use borrow.Author.Needs.{needs}
+use Rattle.scopes.proofs.scope.Scope.with.Statement.{statement}
+use Rattle.scopes.proofs.scope.Scope.with.Tie as tie
+
+mul-x : tie.Need-mul-x
+mul-x c = search needs
+
+element-set-from-x : tie.Need-element-set-from-x
+element-set-from-x c = search needs
+
+add-next : tie.Need-add-next
+add-next c = search needs
+
+returns : tie.Need-returns
+returns c =
+    let args′ = c .before .args in
+    let h : args′ .self .count < 32 = omega arith in
+    rw (lt-ltb (args′ .self .count) 32 h)
+
+returns-2 : tie.Need-returns-2
+returns-2 c =
+    let args′ = c .before .args in
+    let h : 32 ≤ args′ .self .count = omega arith in
+    rw (le-ltb (args′ .self .count) 32 h)
+
+pub with-spec : {M : Type 1} → statement M
+with-spec = tie.close (tie.spec mul-x element-set-from-x add-next returns returns-2)

@@ -1,0 +1,138 @@
+// The kinds of values, and how they fit.
+ghost use mathlib.Core.Path.{_≡_};
+ghost use mathlib.Core.Bool.{cond};
+ghost use mathlib.Core.Option.{some};
+ghost use lib.Signed.{ltZ};
+ghost use Rattle.wire.specs.Words.{signed};
+ghost use Rattle.wire.specs.declared.codes.FieldType.the-variants.{Plain};
+ghost use Rattle.grammar.specs.Kinds.{typeKind, resultScale, arithmeticRange, arithmeticKind, negatedKind, oneKind, bothText, allOneKind};
+ghost use Rattle.grammar.specs.Steps.{fitOf, kindIn};
+ghost use Rattle.scopes.specs.Scopes.{rankOf};
+use grammar::Fit;
+use wire::codes::DataType;
+use wire::codes::FieldType;
+use wire::codes::Operator;
+
+// A scale byte as a signed number.
+pub fn scale_of(byte: u8) -> i8
+    ensures { λ r. ⌜ r ≡ signed 1 byte ⌝ }
+{
+    if byte < 128 {
+        byte as i8
+    } else {
+        !((255 - byte) as i8)
+    }
+}
+
+// The kind of a stored type with its scale byte.
+fn plain_fit(t: DataType, scale: u8) -> Fit
+    ensures { λ r. ⌜ r ≡ fitOf (some (typeKind (Plain t) scale)) ⌝ }
+{
+    match t {
+        DataType::Number(_) => Fit::Number(scale_of(scale)),
+        DataType::Date => Fit::Date,
+        DataType::Chars(_) => Fit::Text,
+    }
+}
+
+// The kind of a type with its scale byte.
+pub fn type_fit(t: FieldType, scale: u8) -> Fit
+    ensures { λ r. ⌜ r ≡ fitOf (some (typeKind t scale)) ⌝ }
+{
+    match t {
+        FieldType::Plain(x) => plain_fit(x, scale),
+        FieldType::Reading => Fit::Number(scale_of(scale)),
+    }
+}
+
+// A number of a scale that arithmetic allows.
+fn within(scale: i32) -> Fit
+    ensures { λ r. ⌜ r ≡ fitOf (arithmeticRange scale) ⌝ }
+{
+    if scale < -18 {
+        return Fit::NoKind;
+    }
+    if 0 < scale {
+        return Fit::NoKind;
+    }
+    Fit::Number(scale as i8)
+}
+
+fn smaller(a: i32, b: i32) -> i32
+    ensures { λ r. ⌜ r ≡ cond (ltZ a b) a b ⌝ }
+{
+    if a < b { a } else { b }
+}
+
+// The kind of an operator's result on two scales.
+fn scaled(o: Operator, a: i8, b: i8) -> Fit
+    ensures { λ r. ⌜ r ≡ fitOf (arithmeticRange (resultScale o a b)) ⌝ }
+{
+    let first = a as i32;
+    let second = b as i32;
+    match o {
+        Operator::Add => within(smaller(first, second)),
+        Operator::Subtract => within(smaller(first, second)),
+        Operator::Multiply => within(first + second),
+        Operator::Divide => within(first - second),
+    }
+}
+
+// The kind of a sum, a difference, a product or a quotient.
+pub fn arithmetic_fit(o: Operator, a: Fit, b: Fit) -> Fit
+    ensures { λ r. ⌜ r ≡ fitOf (arithmeticKind o (kindIn a) (kindIn b)) ⌝ }
+{
+    match a {
+        Fit::Number(x) => match b {
+            Fit::Number(y) => scaled(o, x, y),
+            Fit::Text => Fit::NoKind,
+            Fit::Date => Fit::NoKind,
+            Fit::NoKind => Fit::NoKind,
+        },
+        Fit::Text => Fit::NoKind,
+        Fit::Date => Fit::NoKind,
+        Fit::NoKind => Fit::NoKind,
+    }
+}
+
+// The kind of a value with the other sign.
+pub fn negated_fit(a: Fit) -> Fit
+    ensures { λ r. ⌜ r ≡ fitOf (negatedKind (kindIn a)) ⌝ }
+{
+    match a {
+        Fit::Number(x) => Fit::Number(x),
+        Fit::Text => Fit::NoKind,
+        Fit::Date => Fit::NoKind,
+        Fit::NoKind => Fit::NoKind,
+    }
+}
+
+// A number for each kind, and 3 for none.
+fn rank(a: Fit) -> u8
+    ensures { λ r. ⌜ r ≡ rankOf a ⌝ }
+{
+    match a {
+        Fit::Number(_) => 0,
+        Fit::Text => 1,
+        Fit::Date => 2,
+        Fit::NoKind => 3,
+    }
+}
+
+pub fn one_kind(a: Fit, b: Fit) -> bool
+    ensures { λ r. ⌜ r ≡ oneKind (kindIn a) (kindIn b) ⌝ }
+{
+    rank(a) < 3 && rank(a) == rank(b)
+}
+
+pub fn both_text(a: Fit, b: Fit) -> bool
+    ensures { λ r. ⌜ r ≡ bothText (kindIn a) (kindIn b) ⌝ }
+{
+    one_kind(a, Fit::Text) && one_kind(b, Fit::Text)
+}
+
+pub fn all_one_kind(a: Fit, b: Fit, c: Fit) -> bool
+    ensures { λ r. ⌜ r ≡ allOneKind (kindIn a) (kindIn b) (kindIn c) ⌝ }
+{
+    one_kind(a, b) && one_kind(a, c)
+}
