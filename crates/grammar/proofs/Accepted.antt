@@ -16,9 +16,10 @@ use Rattle.grammar.proofs.Complete.{reading-complete}
 
 -- 01, demand 2: "A request is accepted exactly when the grammar and the rules of scope, kind and size .. allow it."
 pub accepted-exactly : (s d : List ℕ) → Octets s → (rs : List Relation) → dictionary d ≡ proper rs → (r : Request) → ((c : Cursor) × (reading s d ≡ read r c)) ↔ ((s ≡ requestBytes r) × Allowed rs r)
-accepted-exactly s d octets rs e r =
-    ((λ h.
-        let w = reading-sound s octets d r (h .0) (h .1) in
-        let same : w .relations ≡ rs = ap relationsOf (sym (w .checked) ∙ e) in
-        (w .sound .whole, subst (λ x. Allowed x r) same (w .sound .allowed))),
-    (λ h. reading-complete s d rs e r (h .1) (h .0)))
+accepted-exactly s d octets rs e r = (
+  (λ h.
+      let w = reading-sound s octets d r (h .0) (h .1) in
+      let same : w .relations ≡ rs = ap relationsOf (sym (w .checked) ∙ e) in
+      (w .sound .whole, subst (λ x. Allowed x r) same (w .sound .allowed))),
+  (λ h. reading-complete s d rs e r (h .1) (h .0)),
+)

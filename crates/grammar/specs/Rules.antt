@@ -58,7 +58,8 @@ abbrev mutual
   -- beside the messages of the receives before
   pub ReceivesAllowed : Environment → Scope → List ℕ → Receives → Type 0
   ReceivesAllowed e sc before (last m s) = Selected e sc before m × StatementAllowed e sc s
-  ReceivesAllowed e sc before (more m s rs) = Selected e sc before m × StatementAllowed e sc s × ReceivesAllowed e sc (before ++ (m ∷ [])) rs
+  ReceivesAllowed e sc before (more m s rs) =
+      Selected e sc before m × StatementAllowed e sc s × ReceivesAllowed e sc (before ++ (m ∷ [])) rs
 
 abbrev pub environment : List Relation → Request → Environment
 environment d r = record { relations = d; messages = r .messages }
