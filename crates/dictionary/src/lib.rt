@@ -2,5 +2,5 @@
 pub mod check;
 pub mod field;
 pub mod lookup;
-mod names;
+pub mod names;
 pub mod record;

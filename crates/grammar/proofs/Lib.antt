@@ -10,6 +10,10 @@ pub mod SoundSequences
 pub mod SoundStatements
 pub mod FewConditions
 pub mod Sound
+pub mod Bounded
+pub mod BoundedValues
+pub mod BoundedStatements
+pub mod BoundedReading
 pub mod Found
 pub mod Parts
 pub mod Due
@@ -23,3 +27,6 @@ pub mod CompleteSequences
 pub mod CompleteStatements
 pub mod Complete
 pub mod Accepted
+pub mod Demands
+pub mod RowCounts
+pub mod FilledTables

@@ -15,3 +15,4 @@ pub mod Values
 pub mod Statements
 pub mod Reading
 pub mod Steps
+pub mod Answered

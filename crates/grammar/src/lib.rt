@@ -1,4 +1,6 @@
 // What the reader and the evaluator share: refusals, kinds, and how far a reading has come.
+ghost use mathlib.Core.Path.{_≡_};
+ghost use Rattle.grammar.specs.Refusals.{number};
 
 // The refusals of document 01, named by what went wrong. The definition `number` has 01's number for each.
 pub enum Refusal {
@@ -24,6 +26,36 @@ pub enum Refusal {
     MalformedText,
     Overflow,
     ZeroDivisor,
+}
+
+// Document 01's number of a refusal.
+pub fn number_of(refusal: Refusal) -> u32
+    ensures { λ r. ⌜ r ≡ number refusal ⌝ }
+{
+    match refusal {
+        Refusal::TablesTooShort => 1,
+        Refusal::RequestTooLong => 2,
+        Refusal::BadDictionary => 3,
+        Refusal::EndsEarly => 4,
+        Refusal::BadVersion => 5,
+        Refusal::NotDue => 6,
+        Refusal::LeftOut => 7,
+        Refusal::TooGreat => 8,
+        Refusal::BadMessage => 9,
+        Refusal::NoParameter => 10,
+        Refusal::BadContext => 11,
+        Refusal::Unknown => 12,
+        Refusal::Unfit => 13,
+        Refusal::Misplaced => 14,
+        Refusal::BytesAfterEnd => 15,
+        Refusal::OutOfRange => 16,
+        Refusal::NoBoolean => 20,
+        Refusal::BadMessageBytes => 21,
+        Refusal::BadRecords => 22,
+        Refusal::MalformedText => 23,
+        Refusal::Overflow => 24,
+        Refusal::ZeroDivisor => 25,
+    }
 }
 
 // The kind of a value; a number with its scale.
@@ -70,5 +102,11 @@ pub enum ByteStep {
 // A word that was read.
 pub enum WordStep {
     Is(u32, Cursor),
+    Refused(Refusal, usize),
+}
+
+// The answer of reading: the rows of statements, parameters and contexts; or the refusal and its place.
+pub enum Reading {
+    Accepted(usize, usize, usize),
     Refused(Refusal, usize),
 }

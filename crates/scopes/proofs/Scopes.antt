@@ -98,7 +98,7 @@ cond-map : {A B : Type 0} (f : A → B) (t : Bool) (a : A) (o : Option A)
 cond-map f true a o = refl
 cond-map f false a o = refl
 
-find-map : {A B : Type 0} (f : A → B) (test : B → Bool) (l : List A) → find test (map f l) ≡ Option·map f (find (λ x. test (f x)) l)
+pub find-map : {A B : Type 0} (f : A → B) (test : B → Bool) (l : List A) → find test (map f l) ≡ Option·map f (find (λ x. test (f x)) l)
 unfolding find
 find-map f test [] = refl
 find-map f test (x ∷ l) = rw (find-map f test l) (cond-map f (test (f x)) x (find (λ y. test (f y)) l))

@@ -118,9 +118,9 @@ pub fn scale_byte(s: &[u8], c: Cursor) -> ByteStep
     ensures { λ r. ⌜ r ≡ byteStep (scaleByte (now (s .entry)) c) ⌝ }
 {
     match next_byte(s, c) {
-        ByteStep::Is(n, first) => {
-            if scale_in_range(n) {
-                ByteStep::Is(n, first)
+        ByteStep::Is(scale, first) => {
+            if scale_in_range(scale) {
+                ByteStep::Is(scale, first)
             } else {
                 ByteStep::Refused(Refusal::OutOfRange, c.at)
             }
@@ -157,9 +157,9 @@ pub fn count_byte(s: &[u8], c: Cursor) -> ByteStep
     ensures { λ r. ⌜ r ≡ byteStep (countByte (now (s .entry)) c) ⌝ }
 {
     match next_byte(s, c) {
-        ByteStep::Is(n, first) => {
-            if count_in_range(n) {
-                ByteStep::Is(n, first)
+        ByteStep::Is(count, first) => {
+            if count_in_range(count) {
+                ByteStep::Is(count, first)
             } else {
                 ByteStep::Refused(Refusal::OutOfRange, c.at)
             }

@@ -15,8 +15,8 @@ next-byte-requires : tie.Need-next-byte-requires
 next-byte-requires c κs = search needs
 
 -- src/lib.rt:160:22
-enum-known-n : tie.Need-enum-known-n
-enum-known-n c = search needs
+enum-known-count : tie.Need-enum-known-count
+enum-known-count c = search needs
 
 -- src/lib.rt:161:16
 count-in-range-requires : tie.Need-count-in-range-requires
@@ -31,14 +31,14 @@ returns : tie.Need-returns
 unfolding countByte tested
 returns c =
     let args′ = c .before .before .before .before .before .before .before .args in
-    let n′ = c .before .before .before .n in
+    let count′ = c .before .before .before .count in
     let next-byte′ = c .before .before .before .before .before .next-byte in
     let count-in-range′ = c .before .count-in-range in
     let if1′ = c .if1 in
     rw (
       countByte,
       tested,
-      byte-read (byte (args′ .s .now) (args′ .c)) (sym (n′ .given .1) ∙ next-byte′ .ensures),
+      byte-read (byte (args′ .s .now) (args′ .c)) (sym (count′ .given .1) ∙ next-byte′ .ensures),
       sym (count-in-range′ .ensures) ∙ if1′ .taken,
     )
 
@@ -47,14 +47,14 @@ returns-2 : tie.Need-returns-2
 unfolding countByte tested
 returns-2 c =
     let args′ = c .before .before .before .before .before .before .before .args in
-    let n′ = c .before .before .before .n in
+    let count′ = c .before .before .before .count in
     let next-byte′ = c .before .before .before .before .before .next-byte in
     let count-in-range′ = c .before .count-in-range in
     let if1′ = c .if1 in
     rw (
       countByte,
       tested,
-      byte-read (byte (args′ .s .now) (args′ .c)) (sym (n′ .given .1) ∙ next-byte′ .ensures),
+      byte-read (byte (args′ .s .now) (args′ .c)) (sym (count′ .given .1) ∙ next-byte′ .ensures),
       sym (count-in-range′ .ensures) ∙ if1′ .left,
     )
 
@@ -72,7 +72,7 @@ count-byte-spec =
     tie.close
     (tie.spec
     next-byte-requires
-    enum-known-n
+    enum-known-count
     count-in-range-requires
     enum-known-r
     returns

@@ -15,8 +15,8 @@ next-byte-requires : tie.Need-next-byte-requires
 next-byte-requires c κs = search needs
 
 -- src/lib.rt:121:22
-enum-known-n : tie.Need-enum-known-n
-enum-known-n c = search needs
+enum-known-scale : tie.Need-enum-known-scale
+enum-known-scale c = search needs
 
 -- src/lib.rt:122:16
 scale-in-range-requires : tie.Need-scale-in-range-requires
@@ -31,14 +31,14 @@ returns : tie.Need-returns
 unfolding scaleByte tested
 returns c =
     let args′ = c .before .before .before .before .before .before .before .args in
-    let n′ = c .before .before .before .n in
+    let scale′ = c .before .before .before .scale in
     let next-byte′ = c .before .before .before .before .before .next-byte in
     let scale-in-range′ = c .before .scale-in-range in
     let if1′ = c .if1 in
     rw (
       scaleByte,
       tested,
-      byte-read (byte (args′ .s .now) (args′ .c)) (sym (n′ .given .1) ∙ next-byte′ .ensures),
+      byte-read (byte (args′ .s .now) (args′ .c)) (sym (scale′ .given .1) ∙ next-byte′ .ensures),
       sym (scale-in-range′ .ensures) ∙ if1′ .taken,
     )
 
@@ -47,14 +47,14 @@ returns-2 : tie.Need-returns-2
 unfolding scaleByte tested
 returns-2 c =
     let args′ = c .before .before .before .before .before .before .before .args in
-    let n′ = c .before .before .before .n in
+    let scale′ = c .before .before .before .scale in
     let next-byte′ = c .before .before .before .before .before .next-byte in
     let scale-in-range′ = c .before .scale-in-range in
     let if1′ = c .if1 in
     rw (
       scaleByte,
       tested,
-      byte-read (byte (args′ .s .now) (args′ .c)) (sym (n′ .given .1) ∙ next-byte′ .ensures),
+      byte-read (byte (args′ .s .now) (args′ .c)) (sym (scale′ .given .1) ∙ next-byte′ .ensures),
       sym (scale-in-range′ .ensures) ∙ if1′ .left,
     )
 
@@ -72,7 +72,7 @@ scale-byte-spec =
     tie.close
     (tie.spec
     next-byte-requires
-    enum-known-n
+    enum-known-scale
     scale-in-range-requires
     enum-known-r
     returns

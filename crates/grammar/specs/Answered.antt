@@ -1,0 +1,24 @@
+-- What reading promises.
+use Prim.Native.Nat.{ℕ, suc}
+use mathlib.Core.Path.{_≡_}
+use mathlib.Core.List.{List}
+use lib.ListN.{length}
+use Rattle.grammar.specs.declared.Reading.{Reading}
+use Rattle.grammar.specs.declared.Reading.the-variants as Reading
+use Rattle.grammar.specs.Tree.{Request}
+use Rattle.grammar.specs.Sizes.{statementsCount, parameterCount, contextsCount}
+use Rattle.grammar.specs.Reader.{Read, read, refused}
+use Rattle.grammar.specs.Reading.{answer, statementTable, parameterTable, contextTable}
+
+-- 01: "Acceptance gives the counts of rows"
+abbrev pub readingOf : Read Request → Reading
+readingOf (read r c) =
+    Reading.Accepted (suc (statementsCount (r .statements))) (parameterCount (r .messages)) (contextsCount (r .statements))
+readingOf (refused x p) = Reading.Refused x p
+
+-- what a reading answers, and what it leaves in the three tables
+pub record Answered (s d st pa ct st′ pa′ ct′ : List ℕ) (r : Reading) : Type 0 where
+  pub answered : r ≡ readingOf (answer s d (length st) (length pa) (length ct))
+  pub statements-filled : st′ ≡ statementTable (answer s d (length st) (length pa) (length ct)) (length st)
+  pub parameters-filled : pa′ ≡ parameterTable (answer s d (length st) (length pa) (length ct)) (length pa)
+  pub contexts-filled : ct′ ≡ contextTable d (answer s d (length st) (length pa) (length ct)) (length ct)

@@ -1,0 +1,4 @@
+// The messages of a request: what was declared, and reading the declarations with their rows.
+pub mod declared;
+mod descriptor;
+pub mod reading;

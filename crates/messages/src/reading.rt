@@ -1,0 +1,226 @@
+// Reading messages: each descriptor becomes a row of the parameter table.
+ghost use mathlib.Core.Path.{_≡_};
+ghost use mathlib.Core.List.{[], _∷_};
+ghost use Prim.Native.Nat.{_≤_, _+_, _*_};
+ghost use lib.ListN.{set, replicate};
+ghost use lib.Seq.{sets};
+ghost use Rattle.grammar.specs.Messages.{descriptors, messages};
+ghost use Rattle.grammar.specs.Steps.{stepOf, noKind};
+ghost use Rattle.messages.specs.Reading.{rowOf, parameterAfter, Described, Told, Declares};
+ghost use Rattle.messages.specs.Entries.{withMessage, noMessage};
+use crate::declared::FoundMessage;
+use crate::declared::Message;
+use crate::declared::Messages;
+use crate::descriptor::DescriptorStep;
+use crate::descriptor::read_descriptor;
+use grammar::ByteStep;
+use grammar::Cursor;
+use grammar::Fit;
+use grammar::Refusal;
+use grammar::Step;
+use grammar::WordStep;
+use steps::next_byte;
+use steps::next_word;
+use steps::peek_byte;
+use wire::numbers::MessageNumber;
+
+// The next parameter: its message, its index there, its row of the table, and the bytes of the message before it.
+pub struct Parameter {
+    pub message: u8,
+    pub index: usize,
+    pub row: usize,
+    pub offset: usize,
+}
+
+// A message that was read.
+pub enum MessageStep {
+    Is(Message, Cursor),
+    Refused(Refusal, usize),
+}
+
+// The messages of a request, and how reading them went.
+pub struct Declaration {
+    pub step: Step,
+    pub messages: Messages,
+}
+
+// Sets one number of a table; past its end nothing.
+fn put(table: &mut [u32], at: usize, x: u32)
+    ensures { λ _. ⌜ now (table .exit) ≡ set (now (table .entry)) at x ⌝ }
+{
+    if at < table.len() {
+        table[at] = x;
+    }
+}
+
+// A row of the parameter table.
+fn put_row(table: &mut [u32], x: Parameter, code: u8, scale: u8, held: usize)
+    requires { ⌜ (x .index ≤ 128) × ((x .row ≤ 256) × ((x .offset ≤ 4096) × (held ≤ 4096))) ⌝ }
+    ensures { λ _. ⌜ now (table .exit) ≡ sets (now (table .entry)) (x .row * 6) (rowOf x code scale held) ⌝ }
+{
+    let at = x.row * 6;
+    put(table, at, x.message as u32);
+    put(table, at + 1, x.index as u32);
+    put(table, at + 2, code as u32);
+    put(table, at + 3, scale as u32);
+    put(table, at + 4, x.offset as u32);
+    put(table, at + 5, held as u32);
+}
+
+// The parameter after one that holds so many bytes.
+fn parameter_after(x: Parameter, held: usize) -> Parameter
+    requires { ⌜ (x .index ≤ 128) × ((x .row ≤ 256) × ((x .offset ≤ 4096) × (held ≤ 4096))) ⌝ }
+    ensures { λ r. ⌜ r ≡ parameterAfter x held ⌝ }
+{
+    let mut next = x;
+    next.index = x.index + 1;
+    next.row = x.row + 1;
+    next.offset = x.offset + held;
+    next
+}
+
+// The descriptors of a message from a parameter on, so many.
+fn read_descriptors(request: &[u8], table: &mut [u32], c: Cursor, x: Parameter, left: usize) -> Step
+    requires { ⌜ (x .index + left ≤ 128) × ((x .row + left ≤ 256) × (x .offset ≤ 4096)) ⌝ }
+    ensures { λ r. ⌜ Described (descriptors left (x .offset) (now (request .entry)) c) x (now (table .entry)) (now (table .exit)) r ⌝ }
+{
+    if left == 0 {
+        return Step::Next(Fit::NoKind, c);
+    }
+    match read_descriptor(request, c, x.offset) {
+        DescriptorStep::Is(code, scale, held, after) => {
+            put_row(table, x, code, scale, held);
+            read_descriptors(request, table, after, parameter_after(x, held), left - 1)
+        }
+        DescriptorStep::Refused(r, p) => Step::Refused(r, p),
+    }
+}
+
+// The first parameter of a message.
+fn first_parameter(message: u8, row: usize) -> Parameter
+    ensures { λ r. ⌜ r ≡ record { message = message; index = 0; row = row; offset = 0 } ⌝ }
+{
+    Parameter {
+        message: message,
+        index: 0,
+        row: row,
+        offset: 0,
+    }
+}
+
+// A message of its number, its first row and its parameters.
+fn message_of(number: u8, first: usize, parameters: usize) -> Message
+    ensures { λ r. ⌜ r ≡ record { number = number; first = first; parameters = parameters } ⌝ }
+{
+    Message {
+        number: number,
+        first: first,
+        parameters: parameters,
+    }
+}
+
+// A message after its code, beside the messages before it.
+fn read_message(request: &[u8], table: &mut [u32], c: Cursor, before: Messages) -> MessageStep
+    requires { ⌜ before .rows ≤ 256 ⌝ }
+    ensures { λ r. ⌜ Told (now (request .entry)) c before (now (table .entry)) (now (table .exit)) r ⌝ }
+{
+    let ByteStep::Is(m, first) = next_byte(request, c) else {
+        return MessageStep::Refused(Refusal::EndsEarly, request.len());
+    };
+    if let FoundMessage::Is(_) = before.find(MessageNumber(m)) {
+        return MessageStep::Refused(Refusal::BadMessage, c.at);
+    }
+    let WordStep::Is(n, second) = next_word(request, first) else {
+        return MessageStep::Refused(Refusal::EndsEarly, request.len());
+    };
+    let parameters = n as usize;
+    if 128 < parameters {
+        return MessageStep::Refused(Refusal::TooGreat, first.at);
+    }
+    if 256 < before.rows + parameters {
+        return MessageStep::Refused(Refusal::TooGreat, first.at);
+    }
+    let x = first_parameter(m, before.rows);
+    match read_descriptors(request, table, second, x, parameters) {
+        Step::Next(_, after) => MessageStep::Is(message_of(m, before.rows, parameters), after),
+        Step::Refused(r, p) => MessageStep::Refused(r, p),
+    }
+}
+
+// One message more.
+fn with_message(x: Messages, m: Message) -> Messages
+    requires { ⌜ x .rows + m .parameters ≤ 256 ⌝ }
+    ensures { λ r. ⌜ r ≡ withMessage x m ⌝ }
+{
+    let at = x.count;
+    let mut next = x;
+    if at < 16 {
+        next.all[at] = m;
+        next.count = at + 1;
+        next.rows = x.rows + m.parameters;
+    }
+    next
+}
+
+// No message yet.
+fn no_messages() -> Messages
+    ensures { λ r. ⌜ r ≡ record { all = replicate 16 noMessage; count = 0; rows = 0 } ⌝ }
+{
+    let none = message_of(0, 0, 0);
+    Messages {
+        all: [none; 16],
+        count: 0,
+        rows: 0,
+    }
+}
+
+// The messages that were read, and how reading went.
+fn declared_with(step: Step, messages: Messages) -> Declaration
+    ensures { λ r. ⌜ r ≡ record { step = step; messages = messages } ⌝ }
+{
+    Declaration {
+        step: step,
+        messages: messages,
+    }
+}
+
+// What stands after as many messages as there may be: another code.
+fn no_more(request: &[u8], c: Cursor) -> Step
+    ensures { λ r. ⌜ r ≡ stepOf noKind (messages 0 [] (now (request .entry)) c) ⌝ }
+{
+    let ByteStep::Is(x, _) = peek_byte(request, c) else {
+        return Step::Refused(Refusal::EndsEarly, request.len());
+    };
+    if x == 4 {
+        return Step::Refused(Refusal::TooGreat, c.at);
+    }
+    Step::Next(Fit::NoKind, c)
+}
+
+// The messages up to the first other code.
+pub fn read_messages(request: &[u8], table: &mut [u32], c: Cursor) -> Declaration
+    ensures { λ r. ⌜ Declares (messages 16 [] (now (request .entry)) c) (now (table .entry)) (now (table .exit)) r ⌝ }
+{
+    let mut messages = no_messages();
+    let mut at = c;
+    while messages.count < 16 {
+        let ByteStep::Is(x, _) = peek_byte(request, at) else {
+            return declared_with(Step::Refused(Refusal::EndsEarly, request.len()), messages);
+        };
+        if x != 4 {
+            return declared_with(Step::Next(Fit::NoKind, at), messages);
+        }
+        let mut after = at;
+        after.at = at.at + 1;
+        match read_message(request, table, after, messages) {
+            MessageStep::Is(m, next) => {
+                messages = with_message(messages, m);
+                at = next;
+            }
+            MessageStep::Refused(r, p) => {
+                return declared_with(Step::Refused(r, p), messages);
+            }
+        }
+    }
+    declared_with(no_more(request, at), messages)
+}

@@ -1,0 +1,4 @@
+-- Laws that belong to no one function.
+pub mod Literals
+pub mod Known
+pub mod References

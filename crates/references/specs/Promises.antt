@@ -1,0 +1,108 @@
+-- What the readers of literals and references promise, in the definitions' terms.
+use Prim.Native.Nat.{ℕ}
+use mathlib.Core.Bool.{Bool, true, false}
+use mathlib.Core.List.{List}
+use mathlib.Core.Option.{Option, none, some, Option·map}
+use Rattle.wire.specs.Lists.{isSome, _andThen_}
+use Rattle.wire.specs.declared.codes.ReferenceCode.{ReferenceCode}
+use Rattle.wire.specs.declared.codes.ReferenceCode.the-variants as Code
+use Rattle.dictionary.specs.Dictionary.{Relation, dictionary}
+use Rattle.dictionary.specs.Names.{Name, fieldOf, formatOf}
+use Rattle.grammar.specs.declared.Kind.{Kind}
+use Rattle.grammar.specs.declared.Cursor.{Cursor}
+use Rattle.grammar.specs.declared.Fit.{Fit}
+use Rattle.grammar.specs.declared.Fit.the-variants as Fit
+use Rattle.grammar.specs.declared.Step.{Step}
+use Rattle.grammar.specs.declared.Step.the-variants as Step
+use Rattle.grammar.specs.declared.Refusal.{Refusal}
+use Rattle.grammar.specs.declared.Refusal.the-variants.{Unknown, NoParameter, Unfit}
+use Rattle.grammar.specs.declared.Role.{Role}
+use Rattle.grammar.specs.declared.Role.the-variants.{AsValue, AsTarget}
+use Rattle.grammar.specs.Tree.{Literal, Reference}
+use Rattle.grammar.specs.Names.{Environment, Scope}
+use Rattle.grammar.specs.Scope.{fieldTarget, parameterTarget}
+use Rattle.grammar.specs.Kinds.{formatKind, literalKind, referenceKind}
+use Rattle.grammar.specs.Reader.{Read, Reader, word, tested}
+use Rattle.grammar.specs.Reading.{relationsOf}
+use Rattle.grammar.specs.Values.{readReference}
+use Rattle.grammar.specs.Steps.{fitOf, stepOf}
+use Rattle.messages.specs.declared.declared.Message.{Message}
+use Rattle.messages.specs.declared.declared.Messages.{Messages}
+use Rattle.messages.specs.Entries.{messagesOf, parameterKind}
+
+-- what stands around the statements: the relations of the dictionary, and the messages that the parameter table and their array stand for
+unfoldable pub environmentOf : List ℕ → List ℕ → Messages → Environment
+environmentOf d table x = record { relations = relationsOf (dictionary d); messages = messagesOf table x }
+
+-- ---- the kinds of what was read
+
+abbrev pub literalFit : Literal → Fit
+literalFit l = fitOf (some (literalKind l))
+
+abbrev pub referenceFit : Environment → Scope → Reference → Fit
+referenceFit e sc r = fitOf (referenceKind e sc r)
+
+-- ---- what a target asks beyond a value
+
+abbrev pub placeOf : Role → ℕ
+placeOf AsValue = 0
+placeOf (AsTarget p) = p
+
+abbrev pub fieldAllows : Role → Scope → ℕ → Bool
+fieldAllows AsValue sc c = true
+fieldAllows (AsTarget p) sc c = fieldTarget sc c
+
+abbrev pub parameterAllows : Role → Scope → ℕ → Bool
+parameterAllows AsValue sc m = true
+parameterAllows (AsTarget p) sc m = parameterTarget sc m
+
+-- ---- fields of a relation
+
+unfoldable pub idKind : Relation → ℕ → Option Kind
+idKind r i = Option·map formatKind (formatOf r i)
+
+unfoldable pub nameKind : Relation → Name → Option Kind
+nameKind r n = Option·map formatKind (fieldOf r n andThen formatOf r)
+
+-- a kind that was looked up for what stands at a place
+abbrev pub knownStep : Refusal → Fit → ℕ → Cursor → Step
+knownStep x (Fit.Number s) p c = Step.Next (Fit.Number s) c
+knownStep x Fit.Text p c = Step.Next Fit.Text c
+knownStep x Fit.Date p c = Step.Next Fit.Date c
+knownStep x Fit.NoKind p c = Step.Refused x p
+
+-- the name or the id of a field of a relation
+unfoldable pub fieldIn : Relation → Reader Name → List ℕ → Cursor → Step
+fieldIn r naming s c = stepOf (λ n. fitOf (nameKind r n)) (tested naming (λ n. isSome (fieldOf r n andThen formatOf r)) Unknown s c)
+
+abbrev pub fieldCode : Bool → ReferenceCode
+fieldCode true = Code.Field
+fieldCode false = Code.Fid
+
+-- ---- parameters of a message
+
+-- the word of a parameter
+unfoldable pub parameterIn : List ℕ → Message → List ℕ → Cursor → Step
+parameterIn table x s c =
+    stepOf (λ i. fitOf (parameterKind table x i)) (tested word (λ i. isSome (parameterKind table x i)) NoParameter s c)
+
+abbrev pub flagStep : Fit → ℕ → Step → Step
+flagStep fit at (Step.Next (Fit.Number s) c) = Step.Next fit c
+flagStep fit at (Step.Next Fit.Text c) = Step.Refused Unfit at
+flagStep fit at (Step.Next Fit.Date c) = Step.Refused Unfit at
+flagStep fit at (Step.Next Fit.NoKind c) = Step.Refused Unfit at
+flagStep fit at (Step.Refused r p) = Step.Refused r p
+
+-- the flag word after a parameter of a kind
+unfoldable pub flagIn : List ℕ → Message → Fit → ℕ → List ℕ → Cursor → Step
+flagIn table x fit at s c = flagStep fit at (parameterIn table x s c)
+
+abbrev pub parameterCode : Bool → ReferenceCode
+parameterCode false = Code.Parameter
+parameterCode true = Code.Parameter2
+
+-- ---- references
+
+-- the reading of a reference, as the code answers it
+unfoldable pub referenceStep : Environment → Scope → Role → ℕ → ReferenceCode → List ℕ → Cursor → Step
+referenceStep e sc role p code s c = stepOf (referenceFit e sc) (readReference e sc role p code s c)

@@ -1,0 +1,126 @@
+// Fields, by the context that they stand in.
+ghost use Prim.Native.Nat.{ℕ};
+ghost use mathlib.Core.Path.{_≡_};
+ghost use Rattle.dictionary.specs.Names.{named};
+ghost use Rattle.dictionary.specs.Walk.{relationAt};
+ghost use Rattle.grammar.specs.Names.{Environment};
+ghost use Rattle.grammar.specs.Values.{byName, byNumber};
+ghost use Rattle.grammar.specs.Steps.{fitOf};
+ghost use Rattle.scopes.specs.Scopes.{scopeOf};
+ghost use Rattle.references.specs.Promises.{idKind, nameKind, knownStep, fieldIn, fieldCode, referenceStep};
+use crate::role::field_allowed;
+use crate::role::target_place;
+use dictionary::field::Index;
+use dictionary::field::described;
+use dictionary::field::field_entry;
+use dictionary::field::field_named;
+use dictionary::lookup::Place;
+use dictionary::names::name_at;
+use grammar::ByteStep;
+use grammar::Cursor;
+use grammar::Fit;
+use grammar::Refusal;
+use grammar::Role;
+use grammar::Step;
+use grammar::WordStep;
+use scopes::kinds::type_fit;
+use scopes::scope::Found;
+use scopes::scope::Scope;
+use steps::next_byte;
+use steps::next_word;
+use steps::skip_name;
+use wire::numbers::ContextNumber;
+
+// The kind of the field of an id, or that there is none.
+fn id_fit(dictionary: &[u8], relation: usize, id: usize) -> Fit
+    ensures { λ r. ⌜ r ≡ fitOf (idKind (relationAt (now (dictionary .entry)) relation) id) ⌝ }
+{
+    match field_entry(dictionary, relation, id) {
+        Place::At(q) => {
+            let x = described(dictionary, q);
+            let t = x.data_type;
+            type_fit(t, x.scale)
+        }
+        Place::Unknown => Fit::NoKind,
+    }
+}
+
+// The kind of the field of a name, or that there is none.
+fn name_fit(dictionary: &[u8], relation: usize, name: &[u8]) -> Fit
+    ensures { λ r. ⌜ r ≡ fitOf (nameKind (relationAt (now (dictionary .entry)) relation) (named (now (name .entry)))) ⌝ }
+{
+    match field_named(dictionary, relation, name) {
+        Index::Is(i) => id_fit(dictionary, relation, i),
+        Index::Unknown => Fit::NoKind,
+    }
+}
+
+// A kind that was looked up for what stands at a place, and the cursor after it.
+pub fn known(refusal: Refusal, fit: Fit, at: usize, after: Cursor) -> Step
+    ensures { λ r. ⌜ r ≡ knownStep refusal fit at after ⌝ }
+{
+    match fit {
+        Fit::Number(s) => Step::Next(Fit::Number(s), after),
+        Fit::Text => Step::Next(Fit::Text, after),
+        Fit::Date => Step::Next(Fit::Date, after),
+        Fit::NoKind => Step::Refused(refusal, at),
+    }
+}
+
+// The counted name of a field of a relation.
+fn read_named(request: &[u8], dictionary: &[u8], relation: usize, c: Cursor) -> Step
+    ensures { λ r. ⌜ r ≡ fieldIn (relationAt (now (dictionary .entry)) relation) byName (now (request .entry)) c ⌝ }
+{
+    match skip_name(request, c) {
+        Step::Next(_, after) => known(
+            Refusal::Unknown,
+            name_fit(dictionary, relation, name_at(request, c.at)),
+            c.at,
+            after,
+        ),
+        Step::Refused(r, p) => Step::Refused(r, p),
+    }
+}
+
+// The id word of a field of a relation.
+fn read_numbered(request: &[u8], dictionary: &[u8], relation: usize, c: Cursor) -> Step
+    ensures { λ r. ⌜ r ≡ fieldIn (relationAt (now (dictionary .entry)) relation) byNumber (now (request .entry)) c ⌝ }
+{
+    match next_word(request, c) {
+        WordStep::Is(i, after) => known(
+            Refusal::Unknown,
+            id_fit(dictionary, relation, i as usize),
+            c.at,
+            after,
+        ),
+        WordStep::Refused(r, p) => Step::Refused(r, p),
+    }
+}
+
+// A field after its code: its context, then its name or its id. It is the same beside any messages.
+pub fn read_field(
+    request: &[u8],
+    dictionary: &[u8],
+    scope: Scope,
+    role: Role,
+    by_name: bool,
+    c: Cursor,
+) -> Step
+    ensures { λ r. ⌜ ((e : Environment) (p : ℕ) → r ≡ referenceStep e (scopeOf (now (dictionary .entry)) scope) role p
+        (fieldCode «by_name») (now (request .entry)) c) ⌝ }
+{
+    let ByteStep::Is(n, first) = next_byte(request, c) else {
+        return Step::Refused(Refusal::EndsEarly, request.len());
+    };
+    let Found::Is(x) = scope.find(ContextNumber(n)) else {
+        return Step::Refused(Refusal::BadContext, c.at);
+    };
+    if !field_allowed(dictionary, scope, role, n) {
+        return Step::Refused(Refusal::Misplaced, target_place(role));
+    }
+    if by_name {
+        read_named(request, dictionary, x.relation, first)
+    } else {
+        read_numbered(request, dictionary, x.relation, first)
+    }
+}

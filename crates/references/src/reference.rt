@@ -1,0 +1,79 @@
+// References: what a value or a target names.
+ghost use mathlib.Core.Path.{_≡_};
+ghost use Rattle.grammar.specs.Steps.{stepOf};
+ghost use Rattle.grammar.specs.Values.{readTarget};
+ghost use Rattle.scopes.specs.Scopes.{scopeOf};
+ghost use Rattle.references.specs.Promises.{environmentOf, referenceFit, referenceStep};
+use crate::field::read_field;
+use crate::parameter::read_parameter;
+use classes::TargetClass;
+use classes::target_class;
+use grammar::ByteStep;
+use grammar::Cursor;
+use grammar::Refusal;
+use grammar::Role;
+use grammar::Step;
+use messages::declared::Messages;
+use scopes::scope::Scope;
+use steps::next_byte;
+use wire::codes::ReferenceCode;
+
+// A reference whose code stands at a place.
+pub fn read_reference(
+    request: &[u8],
+    dictionary: &[u8],
+    parameters: &[u32],
+    messages: Messages,
+    scope: Scope,
+    role: Role,
+    at: usize,
+    code: ReferenceCode,
+    c: Cursor,
+) -> Step
+    ensures { λ r. ⌜ r ≡ referenceStep (environmentOf (now (dictionary .entry)) (now (parameters .entry)) messages)
+        (scopeOf (now (dictionary .entry)) scope) role at code (now (request .entry)) c ⌝ }
+{
+    match code {
+        ReferenceCode::Field => read_field(request, dictionary, scope, role, true, c),
+        ReferenceCode::Fid => read_field(request, dictionary, scope, role, false, c),
+        ReferenceCode::Parameter => {
+            read_parameter(request, parameters, messages, scope, role, false, at, c)
+        }
+        ReferenceCode::Parameter2 => {
+            read_parameter(request, parameters, messages, scope, role, true, at, c)
+        }
+    }
+}
+
+// The target of the assignment at a place.
+pub fn read_target(
+    request: &[u8],
+    dictionary: &[u8],
+    parameters: &[u32],
+    messages: Messages,
+    scope: Scope,
+    at: usize,
+    c: Cursor,
+) -> Step
+    ensures { λ r. ⌜ r ≡ stepOf (referenceFit (environmentOf (now (dictionary .entry)) (now (parameters .entry)) messages)
+        (scopeOf (now (dictionary .entry)) scope)) (readTarget (environmentOf (now (dictionary .entry)) (now (parameters .entry)) messages)
+        (scopeOf (now (dictionary .entry)) scope) at (now (request .entry)) c) ⌝ }
+{
+    match next_byte(request, c) {
+        ByteStep::Is(x, first) => match target_class(x) {
+            TargetClass::Due(code) => read_reference(
+                request,
+                dictionary,
+                parameters,
+                messages,
+                scope,
+                Role::AsTarget(at),
+                c.at,
+                code,
+                first,
+            ),
+            TargetClass::Foreign => Step::Refused(Refusal::NotDue, c.at),
+        },
+        ByteStep::Refused(r, p) => Step::Refused(r, p),
+    }
+}
