@@ -1,8 +1,10 @@
-//! Links the static library of test exports, which `rt staticlib leaf_exports` writes.
+//! Links the product's static library and that of test exports, which `rt staticlib` writes.
 
 fn main() {
     let root = std::env::var("CARGO_MANIFEST_DIR").expect("cargo sets the folder of the package");
     println!("cargo:rustc-link-search=native={root}/../target/staticlib");
-    println!("cargo:rustc-link-lib=static=leaf_exports");
-    println!("cargo:rerun-if-changed={root}/../target/staticlib/libleaf_exports.a");
+    for library in ["exports", "leaf_exports"] {
+        println!("cargo:rustc-link-lib=static={library}");
+        println!("cargo:rerun-if-changed={root}/../target/staticlib/lib{library}.a");
+    }
 }

@@ -1,9 +1,10 @@
 //! `compare leaves SEED COUNT` compares the proved leaves with the second program's, `compare dictionaries SEED COUNT` the check of
-//! dictionaries, look-ups and records; `compare times` times the leaves of both.
+//! dictionaries, look-ups and records, `compare requests SEED COUNT` the reader; `compare times` times both.
 
 mod houses;
 mod leaves;
 mod proved;
+mod requests;
 mod times;
 
 use std::process::ExitCode;
@@ -15,6 +16,7 @@ fn main() -> ExitCode {
         [what, seed, count] => match (*what, seed.parse(), count.parse()) {
             ("leaves", Ok(seed), Ok(count)) => leaves::run(seed, count),
             ("dictionaries", Ok(seed), Ok(count)) => houses::run(seed, count),
+            ("requests", Ok(seed), Ok(count)) => requests::run(seed, count),
             _ => return usage(),
         },
         ["times"] => {
@@ -27,6 +29,6 @@ fn main() -> ExitCode {
 }
 
 fn usage() -> ExitCode {
-    eprintln!("usage: compare leaves|dictionaries SEED COUNT | compare times");
+    eprintln!("usage: compare leaves|dictionaries|requests SEED COUNT | compare times");
     ExitCode::from(2)
 }

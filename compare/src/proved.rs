@@ -1,10 +1,23 @@
 //! The proved functions, behind safe ones. Nothing checks these declarations against the Rattle source
-//! `crates/leaf_exports/src/lib.rt`: they pass numbers and slices only, and every function there is total.
+//! `crates/exports/src/lib.rt` and `crates/leaf_exports/src/lib.rt`: they pass numbers and slices only, and every function there is total.
 
 use std::cmp::Ordering;
 
 #[allow(improper_ctypes)]
 extern "C" {
+    fn blr_read(
+        request: *const u8,
+        request_length: usize,
+        dictionary: *const u8,
+        dictionary_length: usize,
+        statements: *mut u32,
+        statements_length: usize,
+        parameters: *mut u32,
+        parameters_length: usize,
+        contexts: *mut u32,
+        contexts_length: usize,
+        answer: *mut usize,
+    ) -> u32;
     fn leaf_value(operation: u8, a: i64, a_scale: i8, b: i64, b_scale: i8) -> i64;
     fn leaf_scale(operation: u8, a: i64, a_scale: i8, b: i64, b_scale: i8) -> i8;
     fn leaf_refusal(operation: u8, a: i64, a_scale: i8, b: i64, b_scale: i8) -> u32;
@@ -188,5 +201,36 @@ pub fn field(
             house_offset(pointer, length, relation, field),
             house_length(pointer, length, relation),
         )
+    }
+}
+
+/// The counts of rows of an accepted request, or the number and the place of a refusal.
+pub fn read(
+    request: &[u8],
+    dictionary: &[u8],
+    statements: &mut [u32],
+    parameters: &mut [u32],
+    contexts: &mut [u32],
+) -> Result<[u32; 3], (u32, u32)> {
+    let mut answer = [usize::MAX; 3];
+    // Each slice passes as a pointer and its length, and is borrowed for the call alone.
+    let number = unsafe {
+        blr_read(
+            request.as_ptr(),
+            request.len(),
+            dictionary.as_ptr(),
+            dictionary.len(),
+            statements.as_mut_ptr(),
+            statements.len(),
+            parameters.as_mut_ptr(),
+            parameters.len(),
+            contexts.as_mut_ptr(),
+            contexts.len(),
+            answer.as_mut_ptr(),
+        )
+    };
+    match number {
+        0 => Ok(answer.map(|count| count as u32)),
+        _ => Err((number, answer[0] as u32)),
     }
 }

@@ -2,8 +2,9 @@
 
 use crate::proved::{self, Number};
 use second::dictionary::{Dictionary, Relation};
-use second::generate::dictionaries;
 use second::generate::rng::Rng;
+use second::generate::{assemble, dictionaries};
+use second::reader::{self, TABLE_LENGTHS};
 use second::{decimal, text, wire};
 use std::hint::black_box;
 use std::time::Instant;
@@ -171,6 +172,55 @@ fn dictionary_check() {
     );
 }
 
+/// An if with a condition of so many tests, joined by and, and an assignment to a parameter.
+fn branch(tests: usize) -> Vec<u8> {
+    let test = |n: usize| match n % 3 {
+        0 => assemble::operator(wire::GTR, &[&assemble::fid(0, 2), &assemble::short(-1, n as i16)]),
+        1 => assemble::operator(wire::CONTAINING, &[&assemble::fid(0, 3), &assemble::text(b"TOP")]),
+        _ => {
+            let sum = assemble::operator(wire::ADD, &[&assemble::fid(0, 0), &assemble::fid(0, 1)]);
+            assemble::operator(wire::LSS, &[&sum, &assemble::long(0, n as i32)])
+        }
+    };
+    let condition = (1..tests).fold(test(0), |rest, n| assemble::operator(wire::AND, &[&test(n), &rest]));
+    let assign = assemble::assignment(&assemble::fid(0, 1), &assemble::parameter(0, 0));
+    [&[wire::IF], condition.as_slice(), assign.as_slice(), &[wire::END]].concat()
+}
+
+/// A request of about so many bytes: a loop over a relation that sends, with statements, tests, fields, literals and parameters.
+fn request_of_about(length: usize) -> Vec<u8> {
+    let head = assemble::message(0, &[&[wire::LONG, 0]]);
+    let mut body = vec![wire::SEND, 0, wire::BEGIN];
+    while body.len() + 200 < length {
+        body.extend(branch(if length < 1_000 { 3 } else { 16 }));
+    }
+    body.extend(branch(1));
+    body.push(wire::END);
+    assemble::request(&[&head, &assemble::for_house(&body)])
+}
+
+/// Requests of several lengths: the ratio, and the bytes that the proved reader reads in a second.
+fn readings() {
+    let dictionary = dictionaries::encode(&dictionaries::house());
+    for about in [100, 400, 1_600, 6_400, 25_600, 65_300] {
+        let request = request_of_about(about);
+        let length = request.len();
+        let mut tables = TABLE_LENGTHS.map(|length| vec![0u32; length]);
+        let [statements, parameters, contexts] = &mut tables;
+        let calls = 2_000_000 / length;
+        let one = seconds(calls, |_| {
+            let answer = proved::read(&request, &dictionary, statements, parameters, contexts);
+            black_box(answer).expect("a request that the rules allow");
+        });
+        let other = seconds(calls, |_| {
+            let answer = reader::read(&request, &dictionary, statements, parameters, contexts);
+            black_box(answer).expect("a request that the rules allow");
+        });
+        let speed = (length * calls) as f64 / one / 1e6;
+        println!("{:<32} {:>8.2} {speed:>12.1} MB a second", format!("reading {length} bytes"), one / other);
+    }
+}
+
 /// Prints a line for each leaf: its ratio, and the time of a proved call.
 pub fn run() {
     let mut rng = Rng::new(1);
@@ -180,4 +230,5 @@ pub fn run() {
     searches(&mut rng);
     worst(&mut rng);
     dictionary_check();
+    readings();
 }

@@ -1,0 +1,22 @@
+-- Laws that belong to no one function.
+pub mod Stores
+pub mod StreamLaws
+pub mod OpenLaws
+pub mod HeadingLaws
+pub mod Codes
+pub mod Steps
+pub mod Laid
+pub mod Ready
+pub mod Values
+pub mod Inside
+pub mod Chains
+pub mod Rses
+pub mod Statements
+pub mod Openings
+pub mod Headings
+pub mod Requires
+pub mod Leaves
+pub mod Messages
+pub mod Selects
+pub mod Whole
+pub mod Replies

@@ -1,0 +1,202 @@
+-- What reading answers, from what was judged before it and from what the reader of the whole request gives.
+use Prim.Native.Nat.{ℕ, suc, _≤_, _<_}
+use mathlib.Core.Path.{_≡_, refl, sym, ap, subst, _∙_}
+use mathlib.Core.Bool.{Bool, true, false, cond, _&&_}
+use mathlib.Core.List.{List}
+use native.Mathlib.Omega.{arith}
+use lib.Dec.{leb}
+use lib.ListN.{length, replicate, length-replicate}
+use lib.Seq.{sets}
+use borrow.Author.Tests.{le-leb, lt-leb, leb-true, leb-false}
+use Rattle.dictionary.specs.Dictionary.{Relation, Checked, proper, atFault, dictionary}
+use Rattle.dictionary.specs.Answers.{answerOf}
+use Rattle.dictionary.specs.declared.check.Answer.the-variants as Answer
+use Rattle.grammar.specs.declared.Cursor.{Cursor}
+use Rattle.grammar.specs.declared.Refusal.{Refusal}
+use Rattle.grammar.specs.declared.Refusal.the-variants.{TablesTooShort, RequestTooLong, BadDictionary}
+use Rattle.grammar.specs.declared.Fit.{Fit}
+use Rattle.grammar.specs.declared.Step.{Step}
+use Rattle.grammar.specs.declared.Step.the-variants as Step
+use Rattle.grammar.specs.declared.Reading.{Reading}
+use Rattle.grammar.specs.declared.Reading.the-variants.{Accepted, Refused}
+use Rattle.grammar.specs.Tree.{Request}
+use Rattle.grammar.specs.Sizes.{statementsCount, parameterCount, contextsCount}
+use Rattle.grammar.specs.Rows.{requestStatementRows, parameterRows, requestContextRows}
+use Rattle.grammar.specs.Conditions.{requestConditions}
+use Rattle.grammar.specs.Reader.{Read, read, refused}
+use Rattle.grammar.specs.Reading.{request, start, room, reading, answer, relationsOf, statementTable, parameterTable, contextTable}
+use Rattle.grammar.specs.Steps.{noKind}
+use Rattle.grammar.specs.Answered.{Answered, readingOf}
+use Rattle.grammar.proofs.StepLaws.{absurd-eq, step-read, step-refused}
+use Rattle.grammar.proofs.Sound.{request-sound}
+use Rattle.grammar.proofs.FilledTables.{statements-laid, parameters-laid, contexts-laid}
+use Rattle.reader.specs.declared.before.Before.{Before}
+use Rattle.reader.specs.declared.before.Before.the-variants as Before
+use Rattle.reader.specs.declared.request.Whole.{Whole}
+use Rattle.reader.specs.Promises.{after, relations}
+use Rattle.reader.specs.Cycle.{Tables, tables, places}
+use Rattle.reader.specs.Request.{Requested, AnsweredNoting, conditionTable, Beside, Cleared, besideAnswer, beforeOf}
+
+-- ---- the dictionary's answer
+
+pub proper-goes : (x : Checked) → Answer.Proper ≡ answerOf x → Before.Go ≡ besideAnswer x
+proper-goes (proper rs) e = refl
+proper-goes (atFault p) e = absurd-eq (cc)
+
+pub fault-stops : (x : Checked) (p : ℕ) → Answer.Fault p ≡ answerOf x → Before.Stop BadDictionary p ≡ besideAnswer x
+fault-stops (proper rs) p e = absurd-eq (cc)
+fault-stops (atFault q) p e = let u : p ≡ q = cc in rw u
+
+-- ---- what was judged before the request's first byte
+
+module _ (s d : List ℕ) (n m k : ℕ) where
+  -- what holds where reading goes on
+  pub record Goes : Type 0 where
+    pub statements-room : 2048 ≤ n
+    pub parameters-room : 1536 ≤ m
+    pub contexts-room : 160 ≤ k
+    pub short : length s ≤ 65535
+    pub is-proper : dictionary d ≡ proper (relations d)
+
+  pub goes : beforeOf s d n m k ≡ Before.Go → Goes
+  unfolding beforeOf
+  goes h = by (leb 2048 n) (leb 1536 m) (leb 160 k) (leb (length s) 65535) (dictionary d) refl refl refl refl refl h
+    where
+      by : (a b c e : Bool) (x : Checked) → leb 2048 n ≡ a → leb 1536 m ≡ b → leb 160 k ≡ c → leb (length s) 65535 ≡ e → dictionary d ≡ x →
+          cond (a && b && c) (cond e (besideAnswer x) (Before.Stop RequestTooLong 0)) (Before.Stop TablesTooShort 0) ≡ Before.Go → Goes
+      by true true true true (proper rs) i j l o q u =
+          record {
+            statements-room = leb-true 2048 n i;
+            parameters-room = leb-true 1536 m j;
+            contexts-room = leb-true 160 k l;
+            short = leb-true (length s) 65535 o;
+            is-proper = q ∙ ap proper (sym (ap relationsOf q));
+          }
+      by true true true true (atFault p) i j l o q u = absurd-eq (cc)
+      by true true true false x i j l o q u = absurd-eq (cc)
+      by true true false e x i j l o q u = absurd-eq (cc)
+      by true false c e x i j l o q u = absurd-eq (cc)
+      by false b c e x i j l o q u = absurd-eq (cc)
+
+  pub answer-goes : Goes → answer s d n m k ≡ request (relations d) s start
+  unfolding answer reading
+  answer-goes g =
+      rw (
+        answer,
+        le-leb 2048 n (g .statements-room),
+        le-leb 1536 m (g .parameters-room),
+        le-leb 160 k (g .contexts-room),
+        reading,
+        le-leb (length s) 65535 (g .short),
+        g .is-proper,
+      )
+
+  pub answer-stops : (x : Refusal) (p : ℕ) → beforeOf s d n m k ≡ Before.Stop x p → answer s d n m k ≡ refused x p
+  unfolding beforeOf answer reading
+  answer-stops x p h = by (leb 2048 n) (leb 1536 m) (leb 160 k) (leb (length s) 65535) (dictionary d) refl refl refl refl refl h
+    where
+      by : (a b c e : Bool) (y : Checked) → leb 2048 n ≡ a → leb 1536 m ≡ b → leb 160 k ≡ c → leb (length s) 65535 ≡ e → dictionary d ≡ y →
+          cond (a && b && c) (cond e (besideAnswer y) (Before.Stop RequestTooLong 0)) (Before.Stop TablesTooShort 0) ≡ Before.Stop x p →
+          answer s d n m k ≡ refused x p
+      by true true true true (proper rs) i j l o q u = absurd-eq (cc)
+      by true true true true (atFault z) i j l o q u = rw (answer, i, j, l, reading, o, q) (cc)
+      by true true true false y i j l o q u = rw (answer, i, j, l, reading, o) (cc)
+      by true true false e y i j l o q u = rw (answer, i, j, l) (cc)
+      by true false c e y i j l o q u = rw (answer, i, j) (cc)
+      by false b c e y i j l o q u = rw (answer, i) (cc)
+
+-- ---- the answers
+
+module _ (s d st pa ct nd : List ℕ) where
+  -- a refusal, with zeros in the tables
+  pub refuses : (st′ pa′ ct′ nd′ : List ℕ) (x : Refusal) (p : ℕ) → answer s d (length st) (length pa) (length ct) ≡ refused x p →
+      st′ ≡ replicate (length st) 0 → pa′ ≡ replicate (length pa) 0 → ct′ ≡ replicate (length ct) 0 → nd′ ≡ replicate (length nd) 0 →
+      AnsweredNoting s d st pa ct nd st′ pa′ ct′ nd′ (Refused x p)
+  unfolding statementTable parameterTable contextTable conditionTable
+  refuses st′ pa′ ct′ nd′ x p e a b c f =
+      record {
+        answered = record { answered = rw e; statements-filled = rw e a; parameters-filled = rw e b; contexts-filled = rw e c };
+        conditions-filled = rw e f;
+      }
+
+  module _ (h : Cleared s d st pa ct nd) where
+    was : Goes s d (length st) (length pa) (length ct)
+    was = goes s d (length st) (length pa) (length ct) (h .before-goes)
+
+    pub beside-cleared : Beside s d pa
+    beside-cleared =
+        record { short = was .short; is-proper = was .is-proper; octets = h .octets; room = was .parameters-room }
+
+    module _ (st′ pa′ ct′ nd′ : List ℕ) (w : Whole)
+        (g : Requested (request (relations d) s start) d pa pa′ (tables st ct nd) (tables st′ ct′ nd′) w) where
+      pub refuses-whole : (x : Refusal) (p : ℕ) → w .step ≡ Step.Refused x p → answer s d (length st) (length pa) (length ct) ≡ refused x p
+      refuses-whole x p e =
+          answer-goes s d (length st) (length pa) (length ct) was ∙
+          step-refused noKind (request (relations d) s start) (sym e ∙ g .answer-is)
+
+      accepted-as : (r : Request) (c : Cursor) → request (relations d) s start ≡ read r c →
+          AnsweredNoting s d st pa ct nd st′ pa′ ct′ nd′ (Accepted (c .statements) (w .parameters) (c .contexts))
+      unfolding statementTable parameterTable contextTable conditionTable
+      accepted-as r c i =
+          let a = answer-goes s d (length st) (length pa) (length ct) was ∙ i in
+          let v = request-sound s (h .octets) (was .short) (relations d) r c i in
+          let filled = rw i at (g .filled) in
+          let counts : w .parameters ≡ parameterCount (r .messages) = rw i at (g .rows-are) in
+          record {
+            answered = record {
+              answered = rw (a, counts, v .counted, v .declared);
+              statements-filled =
+                  rw a (ap (λ t. t .statements) filled ∙ ap (λ l. sets l 0 (requestStatementRows r)) (h .no-statements) ∙
+                  statements-laid (relations d) r (v .allowed) (length st) (was .statements-room));
+              parameters-filled =
+                  rw a ((rw i at (g .parameters-filled)) ∙ ap (λ l. sets l 0 (parameterRows (r .messages))) (h .no-parameters) ∙
+                  parameters-laid (relations d) r (v .allowed) (length pa) (was .parameters-room));
+              contexts-filled =
+                  rw a (ap (λ t. t .contexts) filled ∙ ap (λ l. sets l 0 (requestContextRows (relations d) r)) (h .no-contexts) ∙
+                  contexts-laid (relations d) r (v .allowed) (length ct) (was .contexts-room));
+            };
+            conditions-filled =
+                rw a (ap (λ t. t .conditions) filled ∙ ap (λ l. sets l 0 (places (requestConditions (relations d) r))) (h .no-conditions));
+          }
+
+      pub accepts : (f : Fit) (c : Cursor) → w .step ≡ Step.Next f c →
+          AnsweredNoting s d st pa ct nd st′ pa′ ct′ nd′ (Accepted (c .statements) (w .parameters) (c .contexts))
+      accepts f c e =
+          let u = step-read noKind (request (relations d) s start) (sym e ∙ g .answer-is) in
+          accepted-as (u .0) c (u .1)
+
+-- ---- tables that were cleared first
+
+cleared-length : (t e : List ℕ) → t ≡ replicate (length e) 0 → length t ≡ length e
+cleared-length t e h = ap length h ∙ length-replicate (length e) 0
+
+pub zeros-own : (t e : List ℕ) → t ≡ replicate (length e) 0 → t ≡ replicate (length t) 0
+zeros-own t e h = h ∙ ap (λ n. replicate n 0) (sym (cleared-length t e h))
+
+module _ (s d st pa ct nd st₀ pa₀ ct₀ nd₀ : List ℕ) (a : st ≡ replicate (length st₀) 0) (b : pa ≡ replicate (length pa₀) 0)
+    (c : ct ≡ replicate (length ct₀) 0) (f : nd ≡ replicate (length nd₀) 0) where
+  -- what was read into cleared tables was read into those that were lent
+  pub as-lent : (st′ pa′ ct′ nd′ : List ℕ) (r : Reading) → AnsweredNoting s d st pa ct nd st′ pa′ ct′ nd′ r →
+      AnsweredNoting s d st₀ pa₀ ct₀ nd₀ st′ pa′ ct′ nd′ r
+  as-lent st′ pa′ ct′ nd′ r h =
+      let i = cleared-length st st₀ a in
+      let j = cleared-length pa pa₀ b in
+      let k = cleared-length ct ct₀ c in
+      let l = cleared-length nd nd₀ f in
+      record {
+        answered = record {
+          answered = rw (i, j, k) at (h .answered .answered);
+          statements-filled = rw (i, j, k) at (h .answered .statements-filled);
+          parameters-filled = rw (i, j, k) at (h .answered .parameters-filled);
+          contexts-filled = rw (i, j, k) at (h .answered .contexts-filled);
+        };
+        conditions-filled = rw (i, j, k, l) at (h .conditions-filled);
+      }
+
+  pub stops : (x : Refusal) (p : ℕ) → beforeOf s d (length st) (length pa) (length ct) ≡ Before.Stop x p →
+      AnsweredNoting s d st₀ pa₀ ct₀ nd₀ st pa ct nd (Refused x p)
+  stops x p h =
+      let i = cleared-length st st₀ a in
+      let j = cleared-length pa pa₀ b in
+      let k = cleared-length ct ct₀ c in
+      refuses s d st₀ pa₀ ct₀ nd₀ st pa ct nd x p (rw (i, j, k) at (answer-stops s d (length st) (length pa) (length ct) x p h)) a b c f

@@ -1,0 +1,110 @@
+use Rattle.reader.proofs.Codes.{coded-due, coded-out, coded-foreign, coded-cut, leveled-due, leveled-deep, leveled-refused}
+use Rattle.reader.specs.Cycle.{booleanHead}
+use Rattle.classes.specs.Signs.{booleanClassOf}
+use Rattle.wire.specs.Classes.{booleanClass}
+use Rattle.grammar.proofs.StepLaws.{byte-read, byte-refused}
+use Rattle.grammar.specs.Reader.{byte}
+use mathlib.Core.Path.{_≡_, refl, sym, ap, _∙_}
+use lib.ListN.{length-set}
+use borrow.Author.Needs.{needs}
+use Rattle.reader.proofs.heads.boolean_at.Statement.{statement}
+use Rattle.reader.proofs.heads.boolean_at.Tie as tie
+use Rattle.reader.proofs.heads.boolean_at.Reads as reads
+use Rattle.reader.proofs.heads.boolean_at.Lts as lts
+use Rattle.classes.proofs.boolean_class.Reads as boolean-class-reads
+use Rattle.steps.proofs.next_byte.Reads as next-byte-reads
+
+-- src/heads.rt:56:11
+next-byte-requires : tie.Need-next-byte-requires
+next-byte-requires c κs = search needs
+
+-- src/heads.rt:57:22
+enum-known-x : tie.Need-enum-known-x
+enum-known-x c = search needs
+
+-- src/heads.rt:57:41
+boolean-class-requires : tie.Need-boolean-class-requires
+boolean-class-requires c κs = search needs
+
+-- src/heads.rt:58:31
+enum-known-k : tie.Need-enum-known-k
+enum-known-k c = search needs
+
+-- src/heads.rt:63:59
+enum-told : tie.Need-enum-told
+enum-told c = search needs
+
+-- src/heads.rt:64:59
+enum-told-2 : tie.Need-enum-told-2
+enum-told-2 c = search needs
+
+-- src/heads.rt:66:27
+enum-known-r : tie.Need-enum-known-r
+enum-known-r c = search needs
+
+-- src/heads.rt:53:1
+returns : tie.Need-returns
+returns c =
+    let args′ = c .before .before .before .before .before .before .before .before .before .before .args in
+    let x′ = c .before .before .before .before .before .before .x in
+    let next-byte′ = c .before .before .before .before .before .before .before .before .next-byte in
+    let boolean-class′ = c .before .before .before .before .boolean-class in
+    let k′ = c .before .before .k in
+    let if1′ = c .if1 in
+    sym (ap booleanHead (leveled-deep booleanClass (args′ .request .now) (args′ .c) (args′ .levels) (coded-due booleanClass _ _ (byte-read (byte (args′ .request .now) (args′ .c)) (sym (x′ .given .1) ∙ next-byte′ .ensures)) (sym (boolean-class′ .ensures) ∙ ap booleanClassOf (k′ .given .1))) (if1′ .taken)))
+
+-- src/heads.rt:53:1
+returns-2 : tie.Need-returns-2
+returns-2 c =
+    let args′ = c .before .before .before .before .before .before .before .before .before .before .args in
+    let x′ = c .before .before .before .before .before .before .x in
+    let next-byte′ = c .before .before .before .before .before .before .before .before .next-byte in
+    let boolean-class′ = c .before .before .before .before .boolean-class in
+    let k′ = c .before .before .k in
+    let if1′ = c .if1 in
+    sym (ap booleanHead (leveled-due booleanClass (args′ .request .now) (args′ .c) (args′ .levels) (coded-due booleanClass _ _ (byte-read (byte (args′ .request .now) (args′ .c)) (sym (x′ .given .1) ∙ next-byte′ .ensures)) (sym (boolean-class′ .ensures) ∙ ap booleanClassOf (k′ .given .1))) (if1′ .left)))
+
+-- src/heads.rt:53:1
+returns-3 : tie.Need-returns-3
+returns-3 c =
+    let args′ = c .before .before .before .before .before .before .before .before .args in
+    let x′ = c .before .before .before .before .x in
+    let next-byte′ = c .before .before .before .before .before .before .next-byte in
+    let boolean-class′ = c .before .before .boolean-class in
+    let enum-told′ = c .enum-told in
+    sym (ap booleanHead (leveled-refused booleanClass (args′ .request .now) (args′ .c) (args′ .levels) (coded-out booleanClass _ _ (byte-read (byte (args′ .request .now) (args′ .c)) (sym (x′ .given .1) ∙ next-byte′ .ensures)) (sym (boolean-class′ .ensures) ∙ ap booleanClassOf (enum-told′ .given .1)))))
+
+-- src/heads.rt:53:1
+returns-4 : tie.Need-returns-4
+returns-4 c =
+    let args′ = c .before .before .before .before .before .before .before .before .args in
+    let x′ = c .before .before .before .before .x in
+    let next-byte′ = c .before .before .before .before .before .before .next-byte in
+    let boolean-class′ = c .before .before .boolean-class in
+    let enum-told2′ = c .enum-told2 in
+    sym (ap booleanHead (leveled-refused booleanClass (args′ .request .now) (args′ .c) (args′ .levels) (coded-foreign booleanClass _ _ (byte-read (byte (args′ .request .now) (args′ .c)) (sym (x′ .given .1) ∙ next-byte′ .ensures)) (sym (boolean-class′ .ensures) ∙ ap booleanClassOf (enum-told2′ .given .1)))))
+
+-- src/heads.rt:53:1
+returns-5 : tie.Need-returns-5
+returns-5 c =
+    let args′ = c .before .before .before .before .before .args in
+    let r′ = c .before .r in
+    let next-byte′ = c .before .before .before .next-byte in
+    sym (ap booleanHead (leveled-refused booleanClass (args′ .request .now) (args′ .c) (args′ .levels) (coded-cut booleanClass _ _ (byte-refused (byte (args′ .request .now) (args′ .c)) (sym (r′ .given .1) ∙ next-byte′ .ensures)))))
+
+pub boolean-at-spec : {M : Type 1} → statement M
+boolean-at-spec =
+    tie.close
+    (tie.spec
+    next-byte-requires
+    enum-known-x
+    boolean-class-requires
+    enum-known-k
+    enum-told
+    enum-told-2
+    enum-known-r
+    returns
+    returns-2
+    returns-3
+    returns-4
+    returns-5)

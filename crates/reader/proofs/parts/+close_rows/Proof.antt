@@ -1,0 +1,125 @@
+use Rattle.reader.proofs.Leaves.{closed-none, closed-on}
+use borrow.Author.Needs.{needs}
+use native.Mathlib.Omega.{arith}
+use mathlib.Core.Path.{_≡_, refl, sym, ap, _∙_}
+use Prim.Native.Nat.{ℕ, _<_}
+use borrow.Fn.Kinds.{In}
+use borrow.Fn.PlainCycle.{Measures, is, falls, and}
+use Rattle.reader.proofs.parts.close_rows.Reads as close-rows
+use Rattle.reader.proofs.parts.close_rows.Kinds as close-rows-kinds
+use Rattle.reader.proofs.parts.+close_rows.Lts-close_rows as close-rows-lts
+use Rattle.reader.proofs.tables.put.Reads as put-reads
+use Rattle.reader.proofs.parts.+close_rows.{statement}
+use Rattle.reader.proofs.parts.+close_rows.Tie.{close}
+
+abbrev μ-close-rows : Measures 1 close-rows-kinds.ps ℕ
+μ-close-rows κs a = (a .1 .1 .0)
+
+abbrev close-rows-at : ℕ → In 1 close-rows-kinds.ps
+close-rows-at t =
+    and 1 close-rows-kinds.ps (is 1 close-rows-kinds.ps μ-close-rows t) close-rows.Pre
+
+abbrev close-rows-below : ℕ → In 1 close-rows-kinds.ps
+close-rows-below t =
+    and 1 close-rows-kinds.ps (falls 1 close-rows-kinds.ps _<_ μ-close-rows t) close-rows.Pre
+
+-- src/parts.rt:120:9
+close-rows-returns : (t : ℕ) → close-rows-lts.Need-returns (put-reads.Asked, put-reads.Learnt, close-rows-below t, close-rows.Post) (close-rows-at t) close-rows.Post
+close-rows-returns t c =
+    let args′ = c .before .before .args in
+    let if1′ = c .if1 in
+    closed-none (args′ .contexts .now) (args′ .row) (args′ .left) (args′ .start) (args′ .end) (if1′ .taken)
+
+-- src/parts.rt:122:14
+close-rows-mul-at : (t : ℕ) → close-rows-lts.Need-mul-at (put-reads.Asked, put-reads.Learnt, close-rows-below t, close-rows.Post) (close-rows-at t) close-rows.Post
+close-rows-mul-at t c =
+    let pre′ = c .before .before .pre in
+    omega (arith, pre′ .1 .0)
+
+-- src/parts.rt:123:19
+close-rows-add-put : (t : ℕ) → close-rows-lts.Need-add-put (put-reads.Asked, put-reads.Learnt, close-rows-below t, close-rows.Post) (close-rows-at t) close-rows.Post
+close-rows-add-put t c =
+    let pre′ = c .before .before .before .pre in
+    omega (arith, pre′ .1 .0)
+
+-- src/parts.rt:123:27
+close-rows-cast-put : (t : ℕ) → close-rows-lts.Need-cast-put (put-reads.Asked, put-reads.Learnt, close-rows-below t, close-rows.Post) (close-rows-at t) close-rows.Post
+close-rows-cast-put t c =
+    let pre′ = c .before .before .before .pre in
+    omega (arith, pre′ .1 .1 .0)
+
+-- src/parts.rt:123:5
+close-rows-put-requires : (t : ℕ) → close-rows-lts.Need-put-requires (put-reads.Asked, put-reads.Learnt, close-rows-below t, close-rows.Post) (close-rows-at t) close-rows.Post
+close-rows-put-requires t c κs = search needs
+
+-- src/parts.rt:124:19
+close-rows-add-put-2 : (t : ℕ) → close-rows-lts.Need-add-put-2 (put-reads.Asked, put-reads.Learnt, close-rows-below t, close-rows.Post) (close-rows-at t) close-rows.Post
+close-rows-add-put-2 t c =
+    let pre′ = c .before .before .before .before .before .before .before .pre in
+    omega (arith, pre′ .1 .0)
+
+-- src/parts.rt:124:27
+close-rows-cast-put-2 : (t : ℕ) → close-rows-lts.Need-cast-put-2 (put-reads.Asked, put-reads.Learnt, close-rows-below t, close-rows.Post) (close-rows-at t) close-rows.Post
+close-rows-cast-put-2 t c =
+    let pre′ = c .before .before .before .before .before .before .before .pre in
+    omega (arith, pre′ .1 .1 .1)
+
+-- src/parts.rt:124:5
+close-rows-put-requires-2 : (t : ℕ) → close-rows-lts.Need-put-requires-2 (put-reads.Asked, put-reads.Learnt, close-rows-below t, close-rows.Post) (close-rows-at t) close-rows.Post
+close-rows-put-requires-2 t c κs = search needs
+
+-- src/parts.rt:125:26
+close-rows-add-close-rows : (t : ℕ) → close-rows-lts.Need-add-close-rows (put-reads.Asked, put-reads.Learnt, close-rows-below t, close-rows.Post) (close-rows-at t) close-rows.Post
+close-rows-add-close-rows t c =
+    let pre′ = c .before .before .before .before .before .before .before .before .before .before .before .pre in
+    omega (arith, pre′ .1 .0)
+
+-- src/parts.rt:125:35
+close-rows-sub-close-rows : (t : ℕ) → close-rows-lts.Need-sub-close-rows (put-reads.Asked, put-reads.Learnt, close-rows-below t, close-rows.Post) (close-rows-at t) close-rows.Post
+close-rows-sub-close-rows t c =
+    let if1′ = c .before .before .before .before .before .before .before .before .before .if1 in
+    omega (arith, if1′ .left)
+
+-- src/parts.rt:125:5
+close-rows-close-rows-requires : (t : ℕ) → close-rows-lts.Need-close-rows-requires (put-reads.Asked, put-reads.Learnt, close-rows-below t, close-rows.Post) (close-rows-at t) close-rows.Post
+close-rows-close-rows-requires t c κs =
+    let pre′ = c .before .before .before .before .before .before .before .before .before .before .before .pre in
+    let if1′ = c .before .before .before .before .before .before .before .before .before .if1 in
+    (omega (arith, pre′ .0, if1′ .left), (omega (arith, pre′ .1 .0, if1′ .left), (pre′ .1 .1 .0, pre′ .1 .1 .1)))
+
+-- src/parts.rt:115:1
+close-rows-same-length : (t : ℕ) → close-rows-lts.Need-same-length (put-reads.Asked, put-reads.Learnt, close-rows-below t, close-rows.Post) (close-rows-at t) close-rows.Post
+close-rows-same-length t c = search needs
+
+-- src/parts.rt:115:1
+close-rows-returns-2 : (t : ℕ) → close-rows-lts.Need-returns-2 (put-reads.Asked, put-reads.Learnt, close-rows-below t, close-rows.Post) (close-rows-at t) close-rows.Post
+close-rows-returns-2 t c =
+    let close-rows′ = c .before .before .close-rows in
+    let put2′ = c .before .before .before .before .before .before .put2 in
+    let put′ = c .before .before .before .before .before .before .before .before .before .before .put in
+    let args′ = c .before .before .before .before .before .before .before .before .before .before .before .before .before .before .args in
+    let if1′ = c .before .before .before .before .before .before .before .before .before .before .before .before .if1 in
+    rw (close-rows′ .ensures, put2′ .ensures, put′ .ensures) (sym (closed-on (args′ .contexts .now) (args′ .row) (args′ .left) (args′ .start) (args′ .end) (if1′ .left)))
+
+pub +close-rows-spec : {M : Type 1} → statement M
++close-rows-spec = close μ-close-rows λ t. close-rows-lts.spec (
+  put-reads.Asked,
+  put-reads.Learnt,
+  close-rows-below t,
+  close-rows.Post,
+)
+    (close-rows-at t)
+    close-rows.Post
+    (close-rows-returns t)
+    (close-rows-mul-at t)
+    (close-rows-add-put t)
+    (close-rows-cast-put t)
+    (close-rows-put-requires t)
+    (close-rows-add-put-2 t)
+    (close-rows-cast-put-2 t)
+    (close-rows-put-requires-2 t)
+    (close-rows-add-close-rows t)
+    (close-rows-sub-close-rows t)
+    (close-rows-close-rows-requires t)
+    (close-rows-same-length t)
+    (close-rows-returns-2 t)

@@ -1,0 +1,5 @@
+pub mod Promises
+pub mod Streams
+pub mod Headings
+pub mod Cycle
+pub mod Request

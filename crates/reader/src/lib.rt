@@ -1,0 +1,108 @@
+// The reader of requests: the answer to a request beside a dictionary, and its rows in three lent tables.
+mod before;
+mod cycle;
+mod fits;
+mod heads;
+mod opening;
+mod parts;
+mod request;
+mod streams;
+mod tables;
+
+ghost use mathlib.Core.Path.{_≡_};
+ghost use Rattle.grammar.specs.Answered.{Answered};
+ghost use Rattle.reader.specs.Request.{AnsweredNoting, Cleared};
+use before::Before;
+use before::judge;
+use grammar::Reading;
+use grammar::Step;
+use request::read_whole;
+use tables::clear;
+
+// A request that nothing before its first byte refuses; the tables hold zeros.
+fn read_beside(
+    request: &[u8],
+    dictionary: &[u8],
+    statements: &mut [u32],
+    parameters: &mut [u32],
+    contexts: &mut [u32],
+    conditions: &mut [u32],
+) -> Reading
+    requires { ⌜ Cleared (now request) (now dictionary) (now statements) (now parameters) (now contexts) (now conditions) ⌝ }
+    ensures { λ r. ⌜ AnsweredNoting (now (request .entry)) (now (dictionary .entry)) (now (statements .entry)) (now (parameters .entry)) (now (contexts .entry)) (now (conditions .entry)) (now (statements .exit)) (now (parameters .exit)) (now (contexts .exit)) (now (conditions .exit)) r ⌝ }
+{
+    let whole = read_whole(
+        request,
+        dictionary,
+        statements,
+        parameters,
+        contexts,
+        conditions,
+    );
+    let step = whole.step;
+    match step {
+        Step::Next(_, c) => Reading::Accepted(c.statements, whole.parameters, c.contexts),
+        Step::Refused(r, p) => {
+            clear(statements);
+            clear(parameters);
+            clear(contexts);
+            clear(conditions);
+            Reading::Refused(r, p)
+        }
+    }
+}
+
+// Reads a request, fills the tables with its rows, and a fourth with the places of its conditions, which evaluation needs.
+pub fn read_noting(
+    request: &[u8],
+    dictionary: &[u8],
+    statements: &mut [u32],
+    parameters: &mut [u32],
+    contexts: &mut [u32],
+    conditions: &mut [u32],
+) -> Reading
+    ensures { λ r. ⌜ AnsweredNoting (now (request .entry)) (now (dictionary .entry)) (now (statements .entry)) (now (parameters .entry)) (now (contexts .entry)) (now (conditions .entry)) (now (statements .exit)) (now (parameters .exit)) (now (contexts .exit)) (now (conditions .exit)) r ⌝ }
+{
+    clear(statements);
+    clear(parameters);
+    clear(contexts);
+    clear(conditions);
+    match judge(
+        request,
+        dictionary,
+        statements.len(),
+        parameters.len(),
+        contexts.len(),
+    ) {
+        Before::Go => read_beside(
+            request,
+            dictionary,
+            statements,
+            parameters,
+            contexts,
+            conditions,
+        ),
+        Before::Stop(r, p) => Reading::Refused(r, p),
+    }
+}
+
+// Reads a request, and fills the tables with its rows; a refusal leaves zeros in them.
+pub fn read(
+    request: &[u8],
+    dictionary: &[u8],
+    statements: &mut [u32],
+    parameters: &mut [u32],
+    contexts: &mut [u32],
+) -> Reading
+    ensures { λ r. ⌜ Answered (now (request .entry)) (now (dictionary .entry)) (now (statements .entry)) (now (parameters .entry)) (now (contexts .entry)) (now (statements .exit)) (now (parameters .exit)) (now (contexts .exit)) r ⌝ }
+{
+    let mut places = [0u32; 512];
+    read_noting(
+        request,
+        dictionary,
+        statements,
+        parameters,
+        contexts,
+        &mut places,
+    )
+}

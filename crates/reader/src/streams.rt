@@ -1,0 +1,186 @@
+// A stream: its code, a relation by name or by id, and a context that is not in scope.
+ghost use mathlib.Core.Path.{_≡_};
+ghost use Rattle.wire.specs.Classes.{streamClass};
+ghost use Rattle.grammar.specs.Reader.{coded};
+ghost use Rattle.grammar.specs.Values.{byName, byNumber};
+ghost use Rattle.grammar.specs.Statements.{naming, stream};
+ghost use Rattle.scopes.specs.Scopes.{scopeOf};
+ghost use Rattle.reader.specs.Promises.{relations};
+ghost use Rattle.reader.specs.Streams.{Proper, Counted, Fresh, codeStep, placedStep};
+ghost use Rattle.reader.specs.Streams.{relationStep, relationNamed, streamStep, streamUnder};
+use classes::StreamClass;
+use classes::stream_class;
+use dictionary::lookup::Place;
+use dictionary::lookup::relation_named;
+use dictionary::lookup::relation_numbered;
+use dictionary::names::name_at;
+use grammar::ByteStep;
+use grammar::Cursor;
+use grammar::Fit;
+use grammar::Refusal;
+use grammar::Step;
+use grammar::WordStep;
+use scopes::scope::Context;
+use scopes::scope::Found;
+use scopes::scope::Scope;
+use steps::next_byte;
+use steps::next_word;
+use steps::skip_name;
+use wire::codes::StreamCode;
+use wire::numbers::ContextNumber;
+
+// The code of a stream that was read.
+pub enum CodeStep {
+    Is(StreamCode, Cursor),
+    Refused(Refusal, usize),
+}
+
+// A relation that was read: the place of its entry in the dictionary.
+pub enum RelationStep {
+    Is(usize, Cursor),
+    Refused(Refusal, usize),
+}
+
+// A context that was declared.
+pub enum StreamStep {
+    Is(Context, Cursor),
+    Refused(Refusal, usize),
+}
+
+// The code of a stream.
+fn stream_code(request: &[u8], c: Cursor) -> CodeStep
+    ensures { λ r. ⌜ r ≡ codeStep (coded streamClass (now (request .entry)) c) ⌝ }
+{
+    match next_byte(request, c) {
+        ByteStep::Is(x, next) => match stream_class(x) {
+            StreamClass::Due(k) => CodeStep::Is(k, next),
+            StreamClass::LeftOut => CodeStep::Refused(Refusal::LeftOut, c.at),
+            StreamClass::Foreign => CodeStep::Refused(Refusal::NotDue, c.at),
+        },
+        ByteStep::Refused(r, p) => CodeStep::Refused(r, p),
+    }
+}
+
+// "32 context declarations": one more, whose code stands at a place.
+pub fn open_context(c: Cursor, at: usize) -> Step
+    ensures { λ r. ⌜ Counted at c r ⌝ }
+{
+    if c.contexts < 32 {
+        let mut next = c;
+        next.contexts = c.contexts + 1;
+        Step::Next(Fit::NoKind, next)
+    } else {
+        Step::Refused(Refusal::TooGreat, at)
+    }
+}
+
+// The relation that was looked up for what stands at a place.
+fn placed(found: Place, at: usize, next: Cursor) -> RelationStep
+    ensures { λ r. ⌜ r ≡ placedStep found at next ⌝ }
+{
+    match found {
+        Place::At(q) => RelationStep::Is(q, next),
+        Place::Unknown => RelationStep::Refused(Refusal::Unknown, at),
+    }
+}
+
+fn relation_by_name(request: &[u8], dictionary: &[u8], c: Cursor) -> RelationStep
+    requires { ⌜ Proper (now dictionary) ⌝ }
+    ensures { λ r. ⌜ r ≡ relationStep (now (dictionary .entry))
+        (relationNamed (relations (now (dictionary .entry))) byName (now (request .entry)) c) ⌝ }
+{
+    match skip_name(request, c) {
+        Step::Next(_, next) => placed(
+            relation_named(dictionary, name_at(request, c.at)),
+            c.at,
+            next,
+        ),
+        Step::Refused(r, p) => RelationStep::Refused(r, p),
+    }
+}
+
+fn relation_by_id(request: &[u8], dictionary: &[u8], c: Cursor) -> RelationStep
+    requires { ⌜ Proper (now dictionary) ⌝ }
+    ensures { λ r. ⌜ r ≡ relationStep (now (dictionary .entry))
+        (relationNamed (relations (now (dictionary .entry))) byNumber (now (request .entry)) c) ⌝ }
+{
+    match next_word(request, c) {
+        WordStep::Is(i, next) => placed(relation_numbered(dictionary, i), c.at, next),
+        WordStep::Refused(r, p) => RelationStep::Refused(r, p),
+    }
+}
+
+// The relation of a stream.
+fn read_relation(request: &[u8], dictionary: &[u8], k: StreamCode, c: Cursor) -> RelationStep
+    requires { ⌜ Proper (now dictionary) ⌝ }
+    ensures { λ r. ⌜ r ≡ relationStep (now (dictionary .entry))
+        (relationNamed (relations (now (dictionary .entry))) (naming k) (now (request .entry)) c) ⌝ }
+{
+    match k {
+        StreamCode::Relation => relation_by_name(request, dictionary, c),
+        StreamCode::Rid => relation_by_id(request, dictionary, c),
+    }
+}
+
+// A context byte that is not in scope.
+pub fn fresh_context(request: &[u8], scope: Scope, c: Cursor) -> ByteStep
+    ensures { λ r. ⌜ Fresh scope (now (request .entry)) c r ⌝ }
+{
+    match next_byte(request, c) {
+        ByteStep::Is(n, next) => match scope.find(ContextNumber(n)) {
+            Found::Is(_) => ByteStep::Refused(Refusal::BadContext, c.at),
+            Found::Nothing => ByteStep::Is(n, next),
+        },
+        ByteStep::Refused(r, p) => ByteStep::Refused(r, p),
+    }
+}
+
+// A stream after its code.
+fn stream_under(
+    request: &[u8],
+    dictionary: &[u8],
+    scope: Scope,
+    from_for: bool,
+    k: StreamCode,
+    c: Cursor,
+) -> StreamStep
+    requires { ⌜ Proper (now dictionary) ⌝ }
+    ensures { λ r. ⌜ r ≡ streamStep (now (dictionary .entry)) «from_for»
+        (streamUnder (relations (now (dictionary .entry))) (scopeOf (now (dictionary .entry)) scope) k (now (request .entry)) c) ⌝ }
+{
+    match read_relation(request, dictionary, k, c) {
+        RelationStep::Is(q, next) => match fresh_context(request, scope, next) {
+            ByteStep::Is(n, last) => StreamStep::Is(
+                Context {
+                    number: n,
+                    relation: q,
+                    from_for: from_for,
+                },
+                last,
+            ),
+            ByteStep::Refused(r, p) => StreamStep::Refused(r, p),
+        },
+        RelationStep::Refused(r, p) => StreamStep::Refused(r, p),
+    }
+}
+
+// A stream, of an rse or of a store.
+pub fn read_stream(
+    request: &[u8],
+    dictionary: &[u8],
+    scope: Scope,
+    from_for: bool,
+    c: Cursor,
+) -> StreamStep
+    requires { ⌜ Proper (now dictionary) ⌝ }
+    ensures { λ r. ⌜ r ≡ streamStep (now (dictionary .entry)) «from_for»
+        (stream (relations (now (dictionary .entry))) (scopeOf (now (dictionary .entry)) scope) (now (request .entry)) c) ⌝ }
+{
+    match stream_code(request, c) {
+        CodeStep::Is(k, first) => match open_context(first, c.at) {
+            Step::Next(_, next) => stream_under(request, dictionary, scope, from_for, k, next),
+            Step::Refused(r, p) => StreamStep::Refused(r, p),
+        },
+        CodeStep::Refused(r, p) => StreamStep::Refused(r, p),
+    }
+}
