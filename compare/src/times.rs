@@ -192,7 +192,7 @@ fn request_of_about(length: usize) -> Vec<u8> {
     let head = assemble::message(0, &[&[wire::LONG, 0]]);
     let mut body = vec![wire::SEND, 0, wire::BEGIN];
     while body.len() + 200 < length {
-        body.extend(branch(if length < 1_000 { 3 } else { 16 }));
+        body.extend(branch(if length < 1_000 { 3 } else { 20 }));
     }
     body.extend(branch(1));
     body.push(wire::END);
