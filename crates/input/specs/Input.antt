@@ -1,5 +1,5 @@
--- The input of the listing program. 01: "The listing program reads an entry of kind 4 (dictionary), then kind 5 (request)"; "input that isn't
--- these two entries, `bad input`."
+-- The input of the listing program. 01: "The listing program reads an entry of kind 4 (dictionary), then kind 5 (request)"; "input that
+-- isn't these two entries, `bad input`."
 use Prim.Native.Nat.{ℕ, _+_}
 use mathlib.Core.Bool.{Bool, cond, _&&_}
 use mathlib.Core.List.{List}
