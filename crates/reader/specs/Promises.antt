@@ -76,7 +76,8 @@ openRow rs sc (store s) p = contextRow (streamContext rs false s) (p + 1) 0 0
 openRow rs sc (label n) p = []
 
 -- a reading that opened contexts: the rows, the scope below, and how many contexts that has
-pub record Opens {A : Type 0} (x : Read A) (d ct : List ℕ) (row : ℕ) (rows : A → List ℕ) (below : A → Names.Scope) (opened : A → ℕ) (sc : Scope)
+pub record Opens {A : Type 0} (x : Read A) (d ct : List ℕ) (row : ℕ) (rows : A → List ℕ) (below : A → Names.Scope) (opened : A → ℕ)
+    (sc : Scope)
     (ct′ : List ℕ) (r : Opened) : Type 0 where
   pub answer : r .step ≡ stepOf noKind x
   pub contexts-filled : ct′ ≡ after (λ a. sets ct (row * 5) (rows a)) ct′ x
@@ -88,9 +89,11 @@ pub record Opens {A : Type 0} (x : Read A) (d ct : List ℕ) (row : ℕ) (rows :
 -- the head of an rse, whose code stands at the cursor
 abbrev pub OpensHead : Read (List Stream) → List ℕ → Scope → Cursor → List ℕ → List ℕ → Opened → Type 0
 OpensHead x d sc c ct =
-    Opens x d ct (c .contexts) (λ ss. streamRows (relations d) ss (c .at + 2) 0 0) (λ ss. underStreams (relations d) (scopeOf d sc) ss) length sc
+    Opens x d ct (c .contexts) (λ ss. streamRows (relations d) ss (c .at + 2) 0 0) (λ ss. underStreams (relations d) (scopeOf d sc) ss)
+    length sc
 
 -- a heading after the code of its statement at p
 abbrev pub OpensHeading : Read Heading → List ℕ → ℕ → Scope → Cursor → List ℕ → List ℕ → Opened → Type 0
 OpensHeading x d p sc c ct =
-    Opens x d ct (c .contexts) (λ h. openRow (relations d) (scopeOf d sc) h p) (λ h. underHeading (relations d) (scopeOf d sc) h) headingContexts sc
+    Opens x d ct (c .contexts) (λ h. openRow (relations d) (scopeOf d sc) h p) (λ h. underHeading (relations d) (scopeOf d sc) h)
+    headingContexts sc

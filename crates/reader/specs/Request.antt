@@ -109,7 +109,8 @@ besideAnswer (atFault p) = Before.Stop BadDictionary p
 
 unfoldable pub beforeOf : List ℕ → List ℕ → ℕ → ℕ → ℕ → Before
 beforeOf s d n m k =
-    cond (room n m k) (cond (leb (length s) 65535) (besideAnswer (dictionary d)) (Before.Stop RequestTooLong 0)) (Before.Stop TablesTooShort 0)
+    cond (room n m k) (cond (leb (length s) 65535) (besideAnswer (dictionary d)) (Before.Stop RequestTooLong 0))
+    (Before.Stop TablesTooShort 0)
 
 -- what a reading after that is given: tables of zeros
 pub record Cleared (s d st pa ct nd : List ℕ) : Type 0 where

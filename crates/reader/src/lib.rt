@@ -1,4 +1,5 @@
-// The reader of requests: the answer to a request beside a dictionary, and its rows in three lent tables.
+// The reader of requests: the answer to a request beside a dictionary, and its rows in three lent tables. Other crates have `read` and
+// `read_noting`, which ask for nothing; the modules are private, and their functions may ask for something of each other.
 mod before;
 mod cycle;
 mod fits;
