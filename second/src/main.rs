@@ -3,10 +3,12 @@
 use second::cases;
 use second::count::Tally;
 use second::evaluator::evaluate;
-use second::generate::{self, Size};
+use second::generate::{self, inputs::inputs, Size};
 use second::hex;
 use second::listing::listing;
+use std::fs;
 use std::io::{self, BufWriter, Read, Write};
+use std::path::Path;
 use std::process::ExitCode;
 
 const USAGE: &str = "usage:
@@ -14,6 +16,7 @@ const USAGE: &str = "usage:
   second evaluate DICTIONARYHEX REQUESTHEX CONDITION MESSAGESHEX RECORDSHEX
   second cases small|mixed SEED COUNT
   second count small|mixed SEED COUNT
+  second inputs SEED COUNT FOLDER
 ";
 
 fn main() -> ExitCode {
@@ -26,6 +29,7 @@ fn main() -> ExitCode {
         }
         ["cases", size, seed, count] => print_cases(size, seed, count),
         ["count", size, seed, count] => print_count(size, seed, count),
+        ["inputs", seed, count, folder] => write_inputs(seed, count, Path::new(folder)),
         _ => None,
     };
     match done {
@@ -81,4 +85,15 @@ fn print_cases(size: &str, seed: &str, count: &str) -> Option<io::Result<()>> {
 fn print_count(size: &str, seed: &str, count: &str) -> Option<io::Result<()>> {
     let tally = Tally::of(run(size, seed, count)?);
     Some(write!(io::stdout(), "{}", tally.table()))
+}
+
+/// Inputs of the listing program as files of a folder, each under its number.
+fn write_inputs(seed: &str, count: &str, folder: &Path) -> Option<io::Result<()>> {
+    let inputs = inputs(seed.parse().ok()?, count.parse().ok()?);
+    for (number, input) in inputs.iter().enumerate() {
+        if let Err(error) = fs::write(folder.join(format!("{number:04}")), input) {
+            return Some(Err(error));
+        }
+    }
+    Some(Ok(()))
 }

@@ -4,8 +4,9 @@ use second::cases;
 use second::count::Tally;
 use second::generate::builder::{self, foci};
 use second::generate::rng::Rng;
-use second::generate::{self, boundaries, dictionaries, Case, Size};
+use second::generate::{self, boundaries, dictionaries, inputs, Case, Size};
 use second::hex;
+use second::listing::listing;
 use second::reader;
 
 /// All numbers given back.
@@ -131,6 +132,21 @@ fn records_are_refused_at_all_three_places() {
 }
 
 #[test]
+fn inputs_reach_every_line() {
+    let outputs: Vec<String> = inputs::inputs(1, 300).iter().map(|input| listing(input)).collect();
+    let with = |start: &str| outputs.iter().filter(|output| output.starts_with(start)).count();
+    assert!(with("request ") >= 100 && with("bad input\n") >= 50);
+    // The program's tables are long enough, and a request in an entry is not too long: no 1, no 2.
+    for number in 3..=16 {
+        assert!(with(&format!("refused {number} at ")) >= 3, "refusal {number}");
+    }
+    let lines = |word: &str| outputs.iter().map(|output| output.matches(word).count()).max();
+    assert_eq!(lines("statement"), Some(512));
+    assert_eq!(lines("parameter"), Some(256));
+    assert_eq!(lines("context"), Some(32));
+}
+
+#[test]
 fn byte_strings_are_written_and_read() {
     let long = [vec![4, 2], vec![0; 65_536], vec![255]].concat();
     assert_eq!(hex::write(&long), "0402(00*65536)ff");
@@ -177,6 +193,6 @@ fn any_bytes_have_an_outcome() {
             };
             assert!(!cases::outcome(&read).is_empty() && !cases::outcome(&evaluate).is_empty());
         }
-        second::listing::listing(&dictionary);
+        listing(&dictionary);
     }
 }

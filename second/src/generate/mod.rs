@@ -20,6 +20,8 @@ pub mod dictionaries;
 pub mod draft;
 /// Evaluations.
 pub mod evaluations;
+/// Inputs of the listing program.
+pub mod inputs;
 /// The generator of pseudo-random numbers.
 pub mod rng;
 /// Statements and record selection expressions of generated requests.
