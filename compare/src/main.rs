@@ -1,10 +1,12 @@
 //! `compare leaves SEED COUNT` compares the proved leaves with the second program's, `compare dictionaries SEED COUNT` the check of
-//! dictionaries, look-ups and records, `compare requests SEED COUNT` the reader; `compare times` times both.
+//! dictionaries, look-ups and records, `compare requests SEED COUNT` the reader; `compare times` times both, and `compare stack`
+//! measures the stack that the reader uses.
 
 mod houses;
 mod leaves;
 mod proved;
 mod requests;
+mod stack;
 mod times;
 
 use std::process::ExitCode;
@@ -19,6 +21,10 @@ fn main() -> ExitCode {
             ("requests", Ok(seed), Ok(count)) => requests::run(seed, count),
             _ => return usage(),
         },
+        ["stack"] => {
+            stack::run();
+            0
+        }
         ["times"] => {
             times::run();
             0
@@ -29,6 +35,6 @@ fn main() -> ExitCode {
 }
 
 fn usage() -> ExitCode {
-    eprintln!("usage: compare leaves|dictionaries|requests SEED COUNT | compare times");
+    eprintln!("usage: compare leaves|dictionaries|requests SEED COUNT | compare times|stack");
     ExitCode::from(2)
 }

@@ -1,5 +1,5 @@
 // The class of a code at each kind of place, by a table of signs: a dot is a foreign code, an exclamation mark a code that document 01
-// leaves out by name, and any other sign a code that is due.
+// leaves out by name, and any other sign a code that is due. A table of 64 signs has a foreign code past its end.
 ghost use mathlib.Core.Path.{_≡_};
 ghost use Rattle.wire.specs.Classes.{statementClass, valueClass, targetClass, booleanClass, streamClass, clauseClass, directionClass, descriptorClass, literalClass, fieldClass};
 ghost use Rattle.classes.specs.Signs.{statementSign, valueSign, targetSign, booleanSign, streamSign, clauseSign, directionSign, descriptorSign, literalSign, fieldSign, statementClassOf, valueClassOf, targetClassOf, booleanClassOf, streamClassOf, clauseClassOf, directionClassOf, descriptorClassOf, literalClassOf, fieldClassOf};
@@ -78,14 +78,14 @@ pub enum FieldClass {
 }
 
 // The classes of codes where a statement may stand.
-const STATEMENTS: [u8; 256] = *b".ab!.e!filmhrxst.nv!!...........................................\
-................................................................\
-................................................................\
-................................................................";
+const STATEMENTS: [u8; 64] = *b".ab!.e!filmhrxst.nv!!...........................................";
 
 fn statement_sign(code: u8) -> u8
     ensures { λ r. ⌜ statementSign r ≡ statementClass code ⌝ }
 {
+    if 64 <= code {
+        return b'.';
+    }
     STATEMENTS[code as usize]
 }
 
@@ -114,14 +114,14 @@ pub fn statement_class(code: u8) -> StatementClass
 }
 
 // Where a value may stand.
-const VALUES: [u8; 256] = *b".....................l!fip!!!!!!..+-*/n!!q!!!!..................\
-................................................................\
-................................................................\
-................................................................";
+const VALUES: [u8; 64] = *b".....................l!fip!!!!!!..+-*/n!!q!!!!..................";
 
 fn value_sign(code: u8) -> u8
     ensures { λ r. ⌜ valueSign r ≡ valueClass code ⌝ }
 {
+    if 64 <= code {
+        return b'.';
+    }
     VALUES[code as usize]
 }
 
@@ -146,14 +146,14 @@ pub fn value_class(code: u8) -> ValueClass
 }
 
 // Where a target stands.
-const TARGETS: [u8; 256] = *b".......................fip...............q......................\
-................................................................\
-................................................................\
-................................................................";
+const TARGETS: [u8; 64] = *b".......................fip...............q......................";
 
 fn target_sign(code: u8) -> u8
     ensures { λ r. ⌜ targetSign r ≡ targetClass code ⌝ }
 {
+    if 64 <= code {
+        return b'.';
+    }
     TARGETS[code as usize]
 }
 
@@ -171,14 +171,14 @@ pub fn target_class(code: u8) -> TargetClass
 }
 
 // Where a boolean may stand.
-const BOOLEANS: [u8; 256] = *b"...............................................=#>g<lcmsboan!?!!\
-................................................................\
-................................................................\
-................................................................";
+const BOOLEANS: [u8; 64] = *b"...............................................=#>g<lcmsboan!?!!";
 
 fn boolean_sign(code: u8) -> u8
     ensures { λ r. ⌜ booleanSign r ≡ booleanClass code ⌝ }
 {
+    if 64 <= code {
+        return b'.';
+    }
     BOOLEANS[code as usize]
 }
 
@@ -279,14 +279,14 @@ pub fn direction_class(code: u8) -> DirectionClass
 }
 
 // Where the type of a descriptor stands.
-const DESCRIPTORS: [u8; 256] = *b".......sl!!!..t............!.......d.v..c.......................\
-................................................................\
-................................................................\
-................................................................";
+const DESCRIPTORS: [u8; 64] = *b".......sl!!!..t............!.......d.v..c.......................";
 
 fn descriptor_sign(code: u8) -> u8
     ensures { λ r. ⌜ descriptorSign r ≡ descriptorClass code ⌝ }
 {
+    if 64 <= code {
+        return b'.';
+    }
     DESCRIPTORS[code as usize]
 }
 
@@ -307,14 +307,14 @@ pub fn descriptor_class(code: u8) -> DescriptorClass
 }
 
 // Where the type of a literal stands.
-const LITERALS: [u8; 256] = *b".......sl!!!..t............!.......!.!..!.......................\
-................................................................\
-................................................................\
-................................................................";
+const LITERALS: [u8; 64] = *b".......sl!!!..t............!.......!.!..!.......................";
 
 fn literal_sign(code: u8) -> u8
     ensures { λ r. ⌜ literalSign r ≡ literalClass code ⌝ }
 {
+    if 64 <= code {
+        return b'.';
+    }
     LITERALS[code as usize]
 }
 

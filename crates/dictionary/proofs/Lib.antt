@@ -9,6 +9,7 @@ pub mod Loop
 pub mod FieldRuns
 pub mod Relations
 pub mod Searches
+pub mod Bounds
 pub mod Fields
 pub mod Records
 pub mod FieldSearches

@@ -10,11 +10,12 @@ use grammar::Fit;
 use scopes::kinds::scale_of;
 use wire::numbers::MessageNumber;
 
-// A message: its number, the row of its first parameter, and how many it has.
+// A message: the row of its first parameter, its number, and how many parameters it has. Messages go by value through every level, so that one
+// is kept small.
 pub struct Message {
+    pub first: u16,
     pub number: u8,
-    pub first: usize,
-    pub parameters: usize,
+    pub parameters: u8,
 }
 
 // The messages in the order of their declarations, and the rows of all their parameters.
@@ -85,13 +86,14 @@ pub fn parameter_fit(parameters: &[u32], x: Message, i: u32) -> Fit
     ensures { λ r. ⌜ r ≡ fitOf (parameterKind (now (parameters .entry)) x i) ⌝ }
 {
     let n = i as usize;
-    if x.parameters <= n {
+    if x.parameters as usize <= n {
         return Fit::NoKind;
     }
-    if 256 <= x.first {
+    let first = x.first as usize;
+    if 256 <= first {
         return Fit::Date;
     }
-    let row = x.first + n;
+    let row = first + n;
     if 256 <= row {
         return Fit::Date;
     }

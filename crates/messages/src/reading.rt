@@ -110,12 +110,15 @@ fn first_parameter(message: u8, row: usize) -> Parameter
 
 // A message of its number, its first row and its parameters.
 fn message_of(number: u8, first: usize, parameters: usize) -> Message
-    ensures { λ r. ⌜ r ≡ record { number = number; first = first; parameters = parameters } ⌝ }
+    requires { ⌜ (first ≤ 256) × (parameters ≤ 128) ⌝ }
+    ensures { λ r. ⌜ r ≡ record { first = first; number = number; parameters = parameters } ⌝ }
 {
+    let row = first as u16;
+    let count = parameters as u8;
     Message {
+        first: row,
         number: number,
-        first: first,
-        parameters: parameters,
+        parameters: count,
     }
 }
 
@@ -157,7 +160,7 @@ fn with_message(x: Messages, m: Message) -> Messages
     if at < 16 {
         next.all[at] = m;
         next.count = at + 1;
-        next.rows = x.rows + m.parameters;
+        next.rows = x.rows + m.parameters as usize;
     }
     next
 }

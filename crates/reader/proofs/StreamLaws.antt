@@ -1,5 +1,6 @@
 -- The ways through the readers of streams. Assumes nothing.
-use Prim.Native.Nat.{ℕ, _+_}
+use Prim.Native.Nat.{ℕ, _+_, _<_}
+use native.Mathlib.Omega.{arith}
 use mathlib.Core.Path.{_≡_, refl, sym, ap, _∙_}
 use mathlib.Core.Bool.{Bool, true, false, cond, false≢true}
 use mathlib.Core.List.{List}
@@ -13,6 +14,7 @@ use Rattle.dictionary.specs.Dictionary.{Relation, nameAt}
 use Rattle.dictionary.specs.Names.{Name, named, numbered, relationOf}
 use Rattle.dictionary.specs.Walk.{relationPlace, relationAt}
 use Rattle.dictionary.specs.Answers.{placeAnswer}
+use Rattle.dictionary.proofs.Bounds as Bounds
 use Rattle.dictionary.proofs.Relations as Relations
 use Rattle.grammar.specs.declared.Cursor.{Cursor}
 use Rattle.grammar.specs.declared.Refusal.{Refusal}
@@ -146,6 +148,14 @@ module _ (d : List ℕ) (is-proper : Proper d) where
       by : (o : Option ℕ) → isSome (Option·map (relationAt d) o) ≡ true → Option·map (relationAt d) o ≡ some (relationAt d (placeOr o))
       by none z = absurd (false≢true z)
       by (some q) z = refl
+
+-- the place of an entry fits in 16 bits
+pub entry-below : (d : List ℕ) (n : Name) → entryOf d n < 65536
+entry-below d n = by (relationPlace d n) refl
+  where
+    by : (o : Option ℕ) → relationPlace d n ≡ o → placeOr o < 65536
+    by none e = omega arith
+    by (some z) e = let low = Bounds.found-below d n z e in omega arith
 
 -- ---- a stream after its code
 

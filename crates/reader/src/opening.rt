@@ -61,12 +61,13 @@ fn add_context(
     requires { ⌜ (row ≤ 32) × (place ≤ 65535) ⌝ }
     ensures { λ r. ⌜ Added (now (dictionary .entry)) scope x row place (now (contexts .entry)) (now (contexts .exit)) r ⌝ }
 {
+    let relation = x.relation as usize;
     put_context(
         contexts,
         row,
         x.number,
         place,
-        relation_id(dictionary, x.relation),
+        relation_id(dictionary, relation),
     );
     scope.with(x)
 }

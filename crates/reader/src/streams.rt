@@ -150,14 +150,17 @@ fn stream_under(
 {
     match read_relation(request, dictionary, k, c) {
         RelationStep::Is(q, next) => match fresh_context(request, scope, next) {
-            ByteStep::Is(n, last) => StreamStep::Is(
-                Context {
-                    number: n,
-                    relation: q,
-                    from_for: from_for,
-                },
-                last,
-            ),
+            ByteStep::Is(n, last) => {
+                let relation = q as u16;
+                StreamStep::Is(
+                    Context {
+                        relation: relation,
+                        number: n,
+                        from_for: from_for,
+                    },
+                    last,
+                )
+            }
             ByteStep::Refused(r, p) => StreamStep::Refused(r, p),
         },
         RelationStep::Refused(r, p) => StreamStep::Refused(r, p),

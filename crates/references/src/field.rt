@@ -118,9 +118,10 @@ pub fn read_field(
     if !field_allowed(dictionary, scope, role, n) {
         return Step::Refused(Refusal::Misplaced, target_place(role));
     }
+    let relation = x.relation as usize;
     if by_name {
-        read_named(request, dictionary, x.relation, first)
+        read_named(request, dictionary, relation, first)
     } else {
-        read_numbered(request, dictionary, x.relation, first)
+        read_numbered(request, dictionary, relation, first)
     }
 }

@@ -11,10 +11,11 @@ pub struct Numbers {
     pub count: usize,
 }
 
-// A context: its number, the place of its relation's entry in the dictionary, and whether a for opened it.
+// A context: the place of its relation's entry in the dictionary, its number, and whether a for opened it. A scope goes by value through every
+// level, so that a context is kept small.
 pub struct Context {
+    pub relation: u16,
     pub number: u8,
-    pub relation: usize,
     pub from_for: bool,
 }
 

@@ -6,11 +6,17 @@ use borrow.Author.Needs.{needs}
 use Rattle.messages.proofs.declared.parameter_fit.Statement.{statement}
 use Rattle.messages.proofs.declared.parameter_fit.Tie as tie
 
+cast-if1 : tie.Need-cast-if1
+cast-if1 c = search needs
+
 returns : tie.Need-returns
 returns c =
     let args′ = c .before .before .before .args in
     let if1′ = c .if1 in
     no-parameter (args′ .parameters .now) (args′ .x) (args′ .i) (if1′ .taken)
+
+cast-first : tie.Need-cast-first
+cast-first c = search needs
 
 returns-2 : tie.Need-returns-2
 returns-2 c =
@@ -22,7 +28,7 @@ add-row c = search needs
 
 returns-3 : tie.Need-returns-3
 returns-3 c =
-    let args′ = c .before .before .before .before .before .before .before .args in
+    let args′ = c .before .before .before .before .before .before .args in
     let if3′ = c .if3 in
     parameter-past (args′ .parameters .now) (args′ .x) (args′ .i) (omega arith) (if3′ .taken)
 
@@ -56,7 +62,7 @@ returns-4 c =
     let number-at′ = c .before .before .before .number-at in
     let number-at2′ = c .before .before .number-at2 in
     let number-at3′ = c .before .number-at3 in
-    let args′ = c .before .before .before .before .before .before .before .before .before .before .before .args in
+    let args′ = c .before .before .before .before .before .before .before .before .before .before .args in
     let if3′ = c .before .before .before .before .if3 in
     row-fit′ .ensures ∙ rw (number-at′ .ensures, number-at2′ .ensures, number-at3′ .ensures)
     (parameter-row (args′ .parameters .now) (args′ .x) (args′ .i) (omega arith) _ refl (if3′ .left))
@@ -65,7 +71,9 @@ pub parameter-fit-spec : {M : Type 1} → statement M
 parameter-fit-spec =
     tie.close
     (tie.spec
+    cast-if1
     returns
+    cast-first
     returns-2
     add-row
     returns-3

@@ -15,6 +15,9 @@ element-set-from-m c = search needs
 add-next : tie.Need-add-next
 add-next c = search needs
 
+cast-next : tie.Need-cast-next
+cast-next c = search needs
+
 add-next-2 : tie.Need-add-next-2
 add-next-2 c = search needs
 
@@ -30,4 +33,4 @@ returns-2 c =
 
 pub with-message-spec : {M : Type 1} → statement M
 with-message-spec =
-    tie.close (tie.spec mul-m element-set-from-m add-next add-next-2 returns returns-2)
+    tie.close (tie.spec mul-m element-set-from-m add-next cast-next add-next-2 returns returns-2)

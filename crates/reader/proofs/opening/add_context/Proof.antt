@@ -3,6 +3,9 @@ use borrow.Author.Needs.{needs}
 use Rattle.reader.proofs.opening.add_context.Statement.{statement}
 use Rattle.reader.proofs.opening.add_context.Tie as tie
 
+cast-relation : tie.Need-cast-relation
+cast-relation c = search needs
+
 relation-id-requires : tie.Need-relation-id-requires
 relation-id-requires c κs = search needs
 
@@ -25,4 +28,4 @@ returns c =
 pub add-context-spec : {M : Type 1} → statement M
 add-context-spec =
     tie.close
-    (tie.spec relation-id-requires put-context-requires with-requires same-length returns)
+    (tie.spec cast-relation relation-id-requires put-context-requires with-requires same-length returns)

@@ -4,7 +4,7 @@ use Rattle.grammar.proofs.StepLaws.{byte-read, byte-refused}
 use Rattle.scopes.specs.Scopes.{scopeOf}
 use Rattle.reader.specs.Promises.{relations}
 use Rattle.reader.specs.Streams.{relationNamed, freshByte, streamUnder}
-use Rattle.reader.proofs.StreamLaws.{relation-read, relation-refused, under-read}
+use Rattle.reader.proofs.StreamLaws.{relation-read, entry-below, relation-refused, under-read}
 use borrow.Author.Needs.{needs}
 use Rattle.reader.proofs.streams.stream_under.Statement.{statement}
 use Rattle.reader.proofs.streams.stream_under.Tie as tie
@@ -20,6 +20,16 @@ fresh-context-requires c κs = search needs
 
 enum-known-n : tie.Need-enum-known-n
 enum-known-n c = search needs
+
+cast-relation : tie.Need-cast-relation
+cast-relation c =
+    let args′ = c .before .before .before .before .before .before .before .before .before .before .args in
+    let d = args′ .dictionary .now in
+    let q′ = c .before .before .before .before .before .q in
+    let read-relation′ = c .before .before .before .before .before .before .before .read-relation in
+    let e = relation-read d (relationNamed (relations d) (naming (args′ .k)) (args′ .request .now) (args′ .c))
+    (sym (q′ .given .1) ∙ read-relation′ .ensures) in
+    rw (e .2) (record { fits = entry-below d (e .0) })
 
 enum-known-r : tie.Need-enum-known-r
 enum-known-r c = search needs
@@ -80,6 +90,7 @@ stream-under-spec =
     enum-known-q
     fresh-context-requires
     enum-known-n
+    cast-relation
     enum-known-r
     enum-known-r-2
     returns

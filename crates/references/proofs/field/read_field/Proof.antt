@@ -69,6 +69,9 @@ returns-3 c e p =
     (is-in-scope _ _ _ _ (sym (find′ .ensures) ∙ x′ .given .1))
     (sym (field-allowed′ .ensures) ∙ not-true _ (if1′ .taken))))
 
+cast-relation : tie.Need-cast-relation
+cast-relation c = search needs
+
 read-named-requires : tie.Need-read-named-requires
 read-named-requires c κs = search needs
 
@@ -77,15 +80,15 @@ read-numbered-requires c κs = search needs
 
 returns-4 : tie.Need-returns-4
 returns-4 c e p =
-    let args′ = c .before .before .before .before .before .before .before .before .before .before .before .before .before .before .args in
+    let args′ = c .before .before .before .before .before .before .before .before .before .before .before .before .before .before .before .args in
     let read-named′ = c .read-named in
     let if2′ = c .before .if2 in
-    let n′ = c .before .before .before .before .before .before .before .before .before .n in
-    let next-byte′ = c .before .before .before .before .before .before .before .before .before .before .before .next-byte in
-    let find′ = c .before .before .before .before .before .before .before .find in
-    let x′ = c .before .before .before .before .before .x in
-    let field-allowed′ = c .before .before .before .field-allowed in
-    let if1′ = c .before .before .if1 in
+    let n′ = c .before .before .before .before .before .before .before .before .before .before .n in
+    let next-byte′ = c .before .before .before .before .before .before .before .before .before .before .before .before .next-byte in
+    let find′ = c .before .before .before .before .before .before .before .before .find in
+    let x′ = c .before .before .before .before .before .before .x in
+    let field-allowed′ = c .before .before .before .before .field-allowed in
+    let if1′ = c .before .before .before .if1 in
     read-named′ .ensures ∙ rw (if2′ .taken)
     (sym (field-placed e _ _ p true (args′ .request .now) (args′ .c)
     (byte-read (byte (args′ .request .now) (args′ .c)) (sym (n′ .given .1) ∙ next-byte′ .ensures))
@@ -95,15 +98,15 @@ returns-4 c e p =
 
 returns-5 : tie.Need-returns-5
 returns-5 c e p =
-    let args′ = c .before .before .before .before .before .before .before .before .before .before .before .before .before .before .args in
+    let args′ = c .before .before .before .before .before .before .before .before .before .before .before .before .before .before .before .args in
     let read-numbered′ = c .read-numbered in
     let if2′ = c .before .if2 in
-    let n′ = c .before .before .before .before .before .before .before .before .before .n in
-    let next-byte′ = c .before .before .before .before .before .before .before .before .before .before .before .next-byte in
-    let find′ = c .before .before .before .before .before .before .before .find in
-    let x′ = c .before .before .before .before .before .x in
-    let field-allowed′ = c .before .before .before .field-allowed in
-    let if1′ = c .before .before .if1 in
+    let n′ = c .before .before .before .before .before .before .before .before .before .before .n in
+    let next-byte′ = c .before .before .before .before .before .before .before .before .before .before .before .before .next-byte in
+    let find′ = c .before .before .before .before .before .before .before .before .find in
+    let x′ = c .before .before .before .before .before .before .x in
+    let field-allowed′ = c .before .before .before .before .field-allowed in
+    let if1′ = c .before .before .before .if1 in
     read-numbered′ .ensures ∙ rw (if2′ .left)
     (sym (field-placed e _ _ p false (args′ .request .now) (args′ .c)
     (byte-read (byte (args′ .request .now) (args′ .c)) (sym (n′ .given .1) ∙ next-byte′ .ensures))
@@ -126,6 +129,7 @@ read-field-spec =
     field-allowed-requires
     target-place-requires
     returns-3
+    cast-relation
     read-named-requires
     read-numbered-requires
     returns-4

@@ -1,0 +1,109 @@
+//! The stack that the proved reader uses: it reads a request on a stack of known bytes, and what is no longer known was used.
+
+use crate::proved;
+use second::generate::{assemble, dictionaries};
+use second::reader::TABLE_LENGTHS;
+use second::wire;
+use std::ffi::{c_int, c_void};
+
+const STACK: usize = 4 << 20;
+const UNUSED: u8 = 0xA5;
+
+/// A thread's attributes, at least as large as the C library's.
+#[repr(C, align(16))]
+struct Attributes([u8; 256]);
+
+extern "C" {
+    fn pthread_attr_init(attributes: *mut Attributes) -> c_int;
+    fn pthread_attr_setstack(attributes: *mut Attributes, stack: *mut c_void, size: usize) -> c_int;
+    fn pthread_create(
+        thread: *mut usize,
+        attributes: *const Attributes,
+        start: extern "C" fn(*mut c_void) -> *mut c_void,
+        argument: *mut c_void,
+    ) -> c_int;
+    fn pthread_join(thread: usize, result: *mut *mut c_void) -> c_int;
+}
+
+struct Job {
+    request: Option<Vec<u8>>,
+    dictionary: Vec<u8>,
+    tables: [Vec<u32>; 3],
+}
+
+/// Reads the request, if there is one.
+extern "C" fn work(job: *mut c_void) -> *mut c_void {
+    let job = unsafe { &mut *job.cast::<Job>() };
+    let [statements, parameters, contexts] = &mut job.tables;
+    if let Some(request) = &job.request {
+        let answer = proved::read(request, &job.dictionary, statements, parameters, contexts);
+        answer.expect("a request that the rules allow");
+    }
+    std::ptr::null_mut()
+}
+
+/// The bytes of a stack that a thread wrote to.
+fn used(request: Option<Vec<u8>>) -> usize {
+    let dictionary = dictionaries::encode(&dictionaries::house());
+    let mut job = Job { request, dictionary, tables: TABLE_LENGTHS.map(|length| vec![0; length]) };
+    let mut stack = vec![UNUSED; STACK + 4096];
+    let start = stack.as_ptr().align_offset(4096);
+    let mut attributes = Attributes([0; 256]);
+    let mut thread = 0;
+    // The stack and the job outlive the thread, which is joined.
+    let failed = unsafe {
+        pthread_attr_init(&mut attributes)
+            | pthread_attr_setstack(&mut attributes, stack[start..].as_mut_ptr().cast(), STACK)
+            | pthread_create(&mut thread, &attributes, work, (&raw mut job).cast())
+            | pthread_join(thread, std::ptr::null_mut())
+    };
+    assert_eq!(failed, 0, "a thread on a stack of its own");
+    STACK - stack[start..start + STACK].iter().take_while(|byte| **byte == UNUSED).count()
+}
+
+/// A request of the greatest depth, 32: so many statements, each inside the one before, around an innermost one.
+fn nested(levels: usize, inner: Vec<u8>, around: impl Fn(usize, Vec<u8>) -> Vec<u8>) -> Vec<u8> {
+    let body = (0..levels).fold(inner, |inner, level| around(level, inner));
+    let message = assemble::message(0, &[&[wire::LONG, 0]]);
+    assemble::request(&[&message, &body])
+}
+
+fn headed(head: &[u8], inner: Vec<u8>) -> Vec<u8> {
+    [head, &inner].concat()
+}
+
+/// Operators around a literal, down to the last level, in an assignment or a condition.
+fn operators(codes: &[u8]) -> Vec<u8> {
+    headed(codes, assemble::short(0, 1))
+}
+
+/// Prints the stack that requests of the greatest depth use, by what is nested in them.
+pub fn run() {
+    let empty = vec![wire::BEGIN, wire::END];
+    let assign = |value: Vec<u8>| {
+        headed(&[wire::SEND, 0], assemble::assignment(&value, &assemble::parameter(0, 0)))
+    };
+    let conditional = |boolean: Vec<u8>| [&[wire::IF], boolean.as_slice(), &empty, &[wire::END]].concat();
+    let loops = |level, inner| {
+        assemble::for_loop(&[&assemble::rid(1, level as u8)], &[], &Vec::<u8>::clone(&inner))
+    };
+    let cases = [
+        ("begin", nested(30, empty.clone(), |_, inner| [&[wire::BEGIN], inner.as_slice(), &[wire::END]].concat())),
+        ("loop", nested(30, empty.clone(), |_, inner| headed(&[wire::LOOP], inner))),
+        ("label", nested(30, empty.clone(), |_, inner| headed(&[wire::LABEL, 1], inner))),
+        ("if", nested(29, empty.clone(), |_, inner| {
+            let test = assemble::operator(wire::MISSING, &[&assemble::short(0, 1)]);
+            [&[wire::IF], test.as_slice(), &inner, &[wire::END]].concat()
+        })),
+        ("select", nested(15, empty.clone(), |_, inner| {
+            [&[wire::SELECT, wire::RECEIVE, 0], inner.as_slice(), &[wire::END]].concat()
+        })),
+        ("for", nested(30, empty.clone(), loops)),
+        ("negate", nested(1, operators(&[wire::NEGATE; 28]), |_, value| assign(value))),
+        ("not", nested(1, operators(&[&[wire::NOT; 28][..], &[wire::MISSING]].concat()), |_, test| conditional(test))),
+    ];
+    let own = used(None);
+    for (name, request) in cases {
+        println!("{name:<32} {:>8} bytes of stack", used(Some(request)) - own);
+    }
+}
