@@ -1,5 +1,5 @@
 -- What the readers are given stays so along the way.
-use Prim.Native.Nat.{ℕ, _≤_}
+use Prim.Native.Nat.{ℕ, suc, _≤_}
 use mathlib.Core.Path.{_≡_, refl, sym, _∙_, subst}
 use mathlib.Core.List.{List}
 use native.Mathlib.Omega.{arith}
@@ -23,7 +23,9 @@ use Rattle.grammar.proofs.SoundStatements.{statement-sound}
 use Rattle.grammar.proofs.Codes.{direction-due, coded-went}
 use Rattle.reader.proofs.Laid.{clauses-few, conditions-within}
 use Rattle.scopes.specs.declared.scope.Scope.{Scope}
-use Rattle.reader.specs.Cycle.{Tables, Wrote, From, Given, GivenAfter}
+use Rattle.reader.specs.declared.cycle.Part.{Part}
+use Rattle.reader.specs.declared.cycle.Part.the-variants as Part
+use Rattle.reader.specs.Cycle.{Tables, Wrote, From, Given, GivenAfter, Descended}
 use Rattle.reader.proofs.Steps.{not-both, same-cursor}
 
 -- the cursor of a reading
@@ -153,3 +155,10 @@ module _ {s d : List ℕ} {sc : Scope} where
     where
       refl-le : (n : ℕ) → n ≤ n
       refl-le n = omega arith
+
+  -- after a part one level down
+  pub given-descended : (part : Part) (e : Environment) (n : Names.Scope) (m parent : ℕ) (t t′ : Tables) (from r : Step) {l : ℕ} →
+      GivenAfter s d sc from l → Descended part e n m parent s from t t′ r → GivenAfter s d sc r l
+  given-descended Part.Statement e n m parent t t′ from r g w = given-again g w (statement-onward s (g .octets) e n (suc m))
+  given-descended Part.Boolean e n m parent t t′ from r g w = given-again g w (boolean-onward s (g .octets) e n (suc m))
+  given-descended Part.Value e n m parent t t′ from r g w = given-again g w (value-onward s (g .octets) e n (suc m))

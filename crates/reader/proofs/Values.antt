@@ -40,7 +40,9 @@ use Rattle.reader.specs.declared.heads.ValueHead.the-variants as ValueHe
 use Rattle.reader.specs.declared.heads.BooleanHead.{BooleanHead}
 use Rattle.reader.specs.declared.heads.BooleanHead.the-variants as BooleanHead
 use Rattle.reader.specs.declared.cycle.Part.the-variants as Part
-use Rattle.reader.specs.Cycle.{Tables, nothing, Wrote, From, Descended, onStep, kindStep, testStep, noRows, valueFit, leveled, valueHead, booleanHead}
+use Rattle.reader.specs.declared.operands.Operands.{Operands}
+use Rattle.reader.specs.Operands.{operandPart, operandCount, booleanAnswer}
+use Rattle.reader.specs.Cycle.{Tables, nothing, Wrote, From, Descended, Operated, onStep, kindStep, testStep, noRows, valueFit, leveled, valueHead, booleanHead}
 use Rattle.reader.proofs.Steps.{started, from-next, stop, kept, likewise, by-read}
 
 -- ---- operands one after another
@@ -239,6 +241,32 @@ module _ (inner : Reader Boolean) (operand : Reader Value) (e : Environment) (sc
       unfolding booleanUnder
       connect-kept {o} ke {b} wb = rw ke (two-kept (inner s) noKind noKind wa (inner s) noKind wb _ (λ x y q. Step.Next y q)
           (λ v w q. refl) (through a b wb))
+
+-- a boolean from its operands
+module _ (e : Environment) (sc : Scope) (p : ℕ) (s : List ℕ) (c : Cursor) (l : ℕ) (deep : 0 < l) where
+  pub boolean-kept : (k : BooleanCode) (x : Operands) {t t′ : Tables} {r : Step} →
+      Operated (operandCount k) (operandPart k) e sc (l - 1) s c t t′ x → r ≡ booleanAnswer k x p →
+      Wrote (booleanUnder (readBoolean l e sc) (readValue l e sc) e sc p k s c) noKind c (noRows c) t t′ r
+  boolean-kept (Compare o) x w h =
+      let d = w .double refl in
+      compare-kept (readBoolean l e sc) (readValue l e sc) e sc p s c (values-below e sc s l deep 0 (d .one))
+      (values-below e sc s l deep 0 (d .two)) refl h
+  boolean-kept (Search o) x w h =
+      let d = w .double refl in
+      search-kept (readBoolean l e sc) (readValue l e sc) e sc p s c (values-below e sc s l deep 0 (d .one))
+      (values-below e sc s l deep 0 (d .two)) refl h
+  boolean-kept Between x w h =
+      let d = w .triple refl in
+      between-kept (readBoolean l e sc) (readValue l e sc) e sc p s c (values-below e sc s l deep 0 (d .one))
+      (values-below e sc s l deep 0 (d .two)) refl (values-below e sc s l deep 0 (d .three)) h
+  boolean-kept (Connect o) x w h =
+      let d = w .double refl in
+      rw h (connect-kept (readBoolean l e sc) (readValue l e sc) e sc p s c (booleans-below e sc s l deep 0 (d .one)) refl
+      (booleans-below e sc s l deep 0 (d .two)))
+  boolean-kept Not x w h =
+      rw h (not-kept (readBoolean l e sc) (readValue l e sc) e sc p s c (booleans-below e sc s l deep 0 (w .single refl)) refl)
+  boolean-kept Missing x w h =
+      missing-kept (readBoolean l e sc) (readValue l e sc) e sc p s c (values-below e sc s l deep 0 (w .single refl)) refl h
 
 -- ---- one level down
 

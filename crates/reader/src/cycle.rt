@@ -8,13 +8,11 @@ ghost use Rattle.grammar.specs.Steps.{noKind};
 ghost use Rattle.references.specs.Promises.{environmentOf};
 ghost use Rattle.scopes.specs.Scopes.{scopeOf};
 ghost use Rattle.reader.specs.Promises.{headingReader};
-ghost use Rattle.reader.specs.Cycle.{Wrote, From, Given, GivenAfter, Inside, Descended, tables, noRows, valueFit, innerAt, belowTables, statementsTables, receivesTables, clausesTables, Receiving, Marks};
+ghost use Rattle.reader.specs.Cycle.{Wrote, From, Given, GivenAfter, Inside, Descended, Operated, tables, noRows, valueFit, innerAt, belowTables, statementsTables, receivesTables, clausesTables, Receiving, Marks};
 use crate::fits::alike;
-use crate::fits::all_alike;
 use crate::fits::arithmetic;
 use crate::fits::negation;
 use crate::fits::plain;
-use crate::fits::texts;
 use crate::heads::BooleanHead;
 use crate::heads::ClauseHead;
 use crate::heads::Ending;
@@ -29,6 +27,11 @@ use crate::heads::value_at;
 use crate::opening::Opened;
 use crate::opening::read_head;
 use crate::opening::read_heading;
+use crate::operands::Operands;
+use crate::operands::all_of;
+use crate::operands::boolean_answer;
+use crate::operands::operand_count;
+use crate::operands::operand_part;
 use crate::parts::Selected;
 use crate::parts::close;
 use crate::parts::erase;
@@ -247,177 +250,92 @@ fn boolean(
     requires { ⌜ Inside (now request) (now dictionary) scope at c levels ⌝ }
     ensures { λ r. ⌜ Wrote (booleanUnder (readBoolean levels (environmentOf (now (dictionary .entry)) (now (parameters .entry)) messages) (scopeOf (now (dictionary .entry)) scope)) (readValue levels (environmentOf (now (dictionary .entry)) (now (parameters .entry)) messages) (scopeOf (now (dictionary .entry)) scope)) (environmentOf (now (dictionary .entry)) (now (parameters .entry)) messages) (scopeOf (now (dictionary .entry)) scope) at k (now (request .entry)) c) noKind c (noRows c) (tables (now (statements .entry)) (now (contexts .entry)) (now (conditions .entry))) (tables (now (statements .exit)) (now (contexts .exit)) (now (conditions .exit))) r ⌝ }
 {
-    let from = Step::Next(Fit::NoKind, c);
-    match k {
-        BooleanCode::Compare(_) => {
-            let a = descend(
-                request,
-                dictionary,
-                parameters,
-                statements,
-                contexts,
-                conditions,
-                messages,
-                scope,
-                Part::Value,
-                from,
-                levels - 1,
-                0,
-            );
-            let b = descend(
-                request,
-                dictionary,
-                parameters,
-                statements,
-                contexts,
-                conditions,
-                messages,
-                scope,
-                Part::Value,
-                a,
-                levels - 1,
-                0,
-            );
-            alike(a, b, at)
-        }
-        BooleanCode::Search(_) => {
-            let a = descend(
-                request,
-                dictionary,
-                parameters,
-                statements,
-                contexts,
-                conditions,
-                messages,
-                scope,
-                Part::Value,
-                from,
-                levels - 1,
-                0,
-            );
-            let b = descend(
-                request,
-                dictionary,
-                parameters,
-                statements,
-                contexts,
-                conditions,
-                messages,
-                scope,
-                Part::Value,
-                a,
-                levels - 1,
-                0,
-            );
-            texts(a, b, at)
-        }
-        BooleanCode::Between => {
-            let a = descend(
-                request,
-                dictionary,
-                parameters,
-                statements,
-                contexts,
-                conditions,
-                messages,
-                scope,
-                Part::Value,
-                from,
-                levels - 1,
-                0,
-            );
-            let b = descend(
-                request,
-                dictionary,
-                parameters,
-                statements,
-                contexts,
-                conditions,
-                messages,
-                scope,
-                Part::Value,
-                a,
-                levels - 1,
-                0,
-            );
-            let d = descend(
-                request,
-                dictionary,
-                parameters,
-                statements,
-                contexts,
-                conditions,
-                messages,
-                scope,
-                Part::Value,
-                b,
-                levels - 1,
-                0,
-            );
-            all_alike(a, b, d, at)
-        }
-        BooleanCode::Connect(_) => {
-            let a = descend(
-                request,
-                dictionary,
-                parameters,
-                statements,
-                contexts,
-                conditions,
-                messages,
-                scope,
-                Part::Boolean,
-                from,
-                levels - 1,
-                0,
-            );
-            descend(
-                request,
-                dictionary,
-                parameters,
-                statements,
-                contexts,
-                conditions,
-                messages,
-                scope,
-                Part::Boolean,
-                a,
-                levels - 1,
-                0,
-            )
-        }
-        BooleanCode::Not => descend(
-            request,
-            dictionary,
-            parameters,
-            statements,
-            contexts,
-            conditions,
-            messages,
-            scope,
-            Part::Boolean,
-            from,
-            levels - 1,
-            0,
-        ),
-        BooleanCode::Missing => {
-            let a = descend(
-                request,
-                dictionary,
-                parameters,
-                statements,
-                contexts,
-                conditions,
-                messages,
-                scope,
-                Part::Value,
-                from,
-                levels - 1,
-                0,
-            );
-            plain(a)
-        }
+    let part = operand_part(k);
+    let count = operand_count(k);
+    let x = operands(
+        request,
+        dictionary,
+        parameters,
+        statements,
+        contexts,
+        conditions,
+        messages,
+        scope,
+        part,
+        count,
+        c,
+        levels - 1,
+    );
+    boolean_answer(k, x, at)
+}
+
+// The operands of a boolean, so many, one after another from a cursor. Past the last of them the last stands again.
+fn operands(
+    request: &[u8],
+    dictionary: &[u8],
+    parameters: &[u32],
+    statements: &mut [u32],
+    contexts: &mut [u32],
+    conditions: &mut [u32],
+    messages: Messages,
+    scope: Scope,
+    part: Part,
+    count: usize,
+    c: Cursor,
+    levels: usize,
+) -> Operands
+    requires { ⌜ Given (now request) (now dictionary) scope c levels ⌝ }
+    ensures { λ r. ⌜ Operated count part (environmentOf (now (dictionary .entry)) (now (parameters .entry)) messages) (scopeOf (now (dictionary .entry)) scope) levels (now (request .entry)) c (tables (now (statements .entry)) (now (contexts .entry)) (now (conditions .entry))) (tables (now (statements .exit)) (now (contexts .exit)) (now (conditions .exit))) r ⌝ }
+{
+    let first = descend(
+        request,
+        dictionary,
+        parameters,
+        statements,
+        contexts,
+        conditions,
+        messages,
+        scope,
+        part,
+        Step::Next(Fit::NoKind, c),
+        levels,
+        0,
+    );
+    if count == 1 {
+        return all_of(first, first, first);
     }
+    let second = descend(
+        request,
+        dictionary,
+        parameters,
+        statements,
+        contexts,
+        conditions,
+        messages,
+        scope,
+        part,
+        first,
+        levels,
+        0,
+    );
+    if count == 2 {
+        return all_of(first, second, second);
+    }
+    let third = descend(
+        request,
+        dictionary,
+        parameters,
+        statements,
+        contexts,
+        conditions,
+        messages,
+        scope,
+        part,
+        second,
+        levels,
+        0,
+    );
+    all_of(first, second, third)
 }
 
 // The values of a sort, so many.

@@ -5,6 +5,7 @@ mod cycle;
 mod fits;
 mod heads;
 mod opening;
+mod operands;
 mod parts;
 mod request;
 mod streams;

@@ -7,10 +7,11 @@ mod Each
 mod Headed
 mod Keys
 mod Many
+mod Operands
 mod Receives
 mod Under
 mod Value
-use Rattle.reader.proofs.cycle.+boolean+branch+clauses+descend+each+headed+keys+many+receives+under+value.Proof.Measures.{μ-boolean, μ-branch, μ-clauses, μ-descend, μ-each, μ-headed, μ-keys, μ-many, μ-receives, μ-under, μ-value, boolean-at, boolean-below, branch-at, branch-below, clauses-at, clauses-below, descend-at, descend-below, each-at, each-below, headed-at, headed-below, keys-at, keys-below, many-at, many-below, receives-at, receives-below, under-at, under-below, value-at, value-below}
+use Rattle.reader.proofs.cycle.+boolean+branch+clauses+descend+each+headed+keys+many+operands+receives+under+value.Proof.Measures.{μ-boolean, μ-branch, μ-clauses, μ-descend, μ-each, μ-headed, μ-keys, μ-many, μ-operands, μ-receives, μ-under, μ-value, boolean-at, boolean-below, branch-at, branch-below, clauses-at, clauses-below, descend-at, descend-below, each-at, each-below, headed-at, headed-below, keys-at, keys-below, many-at, many-below, operands-at, operands-below, receives-at, receives-below, under-at, under-below, value-at, value-below}
 use Rattle.reader.proofs.cycle.boolean.Reads as boolean
 use Rattle.reader.proofs.cycle.branch.Reads as branch
 use Rattle.reader.proofs.cycle.clauses.Reads as clauses
@@ -19,6 +20,7 @@ use Rattle.reader.proofs.cycle.each.Reads as each
 use Rattle.reader.proofs.cycle.headed.Reads as headed
 use Rattle.reader.proofs.cycle.keys.Reads as keys
 use Rattle.reader.proofs.cycle.many.Reads as many
+use Rattle.reader.proofs.cycle.operands.Reads as operands
 use Rattle.reader.proofs.cycle.receives.Reads as receives
 use Rattle.reader.proofs.cycle.under.Reads as under
 use Rattle.reader.proofs.cycle.value.Reads as value
@@ -36,6 +38,10 @@ use Rattle.reader.proofs.heads.statement_at.Reads as statement-at-reads
 use Rattle.reader.proofs.heads.value_at.Reads as value-at-reads
 use Rattle.reader.proofs.opening.read_head.Reads as read-head-reads
 use Rattle.reader.proofs.opening.read_heading.Reads as read-heading-reads
+use Rattle.reader.proofs.operands.all_of.Reads as all-of-reads
+use Rattle.reader.proofs.operands.boolean_answer.Reads as boolean-answer-reads
+use Rattle.reader.proofs.operands.operand_count.Reads as operand-count-reads
+use Rattle.reader.proofs.operands.operand_part.Reads as operand-part-reads
 use Rattle.reader.proofs.parts.Selected.with.Reads as with-reads
 use Rattle.reader.proofs.parts.close.Reads as close-reads
 use Rattle.reader.proofs.parts.erase.Reads as erase-reads
@@ -48,23 +54,24 @@ use Rattle.references.proofs.literal.read_literal.Reads as read-literal-reads
 use Rattle.references.proofs.reference.read_reference.Reads as read-reference-reads
 use Rattle.steps.proofs.count_byte.Reads as count-byte-reads
 use Rattle.wire.proofs.bytes.byte_at.Reads as byte-at-reads
-use Rattle.reader.proofs.cycle.+boolean+branch+clauses+descend+each+headed+keys+many+receives+under+value.Lts-boolean as boolean-lts
-use Rattle.reader.proofs.cycle.+boolean+branch+clauses+descend+each+headed+keys+many+receives+under+value.Lts-branch as branch-lts
-use Rattle.reader.proofs.cycle.+boolean+branch+clauses+descend+each+headed+keys+many+receives+under+value.Lts-clauses as clauses-lts
-use Rattle.reader.proofs.cycle.+boolean+branch+clauses+descend+each+headed+keys+many+receives+under+value.Lts-descend as descend-lts
-use Rattle.reader.proofs.cycle.+boolean+branch+clauses+descend+each+headed+keys+many+receives+under+value.Lts-each as each-lts
-use Rattle.reader.proofs.cycle.+boolean+branch+clauses+descend+each+headed+keys+many+receives+under+value.Lts-headed as headed-lts
-use Rattle.reader.proofs.cycle.+boolean+branch+clauses+descend+each+headed+keys+many+receives+under+value.Lts-keys as keys-lts
-use Rattle.reader.proofs.cycle.+boolean+branch+clauses+descend+each+headed+keys+many+receives+under+value.Lts-many as many-lts
-use Rattle.reader.proofs.cycle.+boolean+branch+clauses+descend+each+headed+keys+many+receives+under+value.Lts-receives as receives-lts
-use Rattle.reader.proofs.cycle.+boolean+branch+clauses+descend+each+headed+keys+many+receives+under+value.Lts-under as under-lts
-use Rattle.reader.proofs.cycle.+boolean+branch+clauses+descend+each+headed+keys+many+receives+under+value.Lts-value as value-lts
-use Rattle.reader.proofs.cycle.+boolean+branch+clauses+descend+each+headed+keys+many+receives+under+value.{statement}
-use Rattle.reader.proofs.cycle.+boolean+branch+clauses+descend+each+headed+keys+many+receives+under+value.Tie.{close}
+use Rattle.reader.proofs.cycle.+boolean+branch+clauses+descend+each+headed+keys+many+operands+receives+under+value.Lts-boolean as boolean-lts
+use Rattle.reader.proofs.cycle.+boolean+branch+clauses+descend+each+headed+keys+many+operands+receives+under+value.Lts-branch as branch-lts
+use Rattle.reader.proofs.cycle.+boolean+branch+clauses+descend+each+headed+keys+many+operands+receives+under+value.Lts-clauses as clauses-lts
+use Rattle.reader.proofs.cycle.+boolean+branch+clauses+descend+each+headed+keys+many+operands+receives+under+value.Lts-descend as descend-lts
+use Rattle.reader.proofs.cycle.+boolean+branch+clauses+descend+each+headed+keys+many+operands+receives+under+value.Lts-each as each-lts
+use Rattle.reader.proofs.cycle.+boolean+branch+clauses+descend+each+headed+keys+many+operands+receives+under+value.Lts-headed as headed-lts
+use Rattle.reader.proofs.cycle.+boolean+branch+clauses+descend+each+headed+keys+many+operands+receives+under+value.Lts-keys as keys-lts
+use Rattle.reader.proofs.cycle.+boolean+branch+clauses+descend+each+headed+keys+many+operands+receives+under+value.Lts-many as many-lts
+use Rattle.reader.proofs.cycle.+boolean+branch+clauses+descend+each+headed+keys+many+operands+receives+under+value.Lts-operands as operands-lts
+use Rattle.reader.proofs.cycle.+boolean+branch+clauses+descend+each+headed+keys+many+operands+receives+under+value.Lts-receives as receives-lts
+use Rattle.reader.proofs.cycle.+boolean+branch+clauses+descend+each+headed+keys+many+operands+receives+under+value.Lts-under as under-lts
+use Rattle.reader.proofs.cycle.+boolean+branch+clauses+descend+each+headed+keys+many+operands+receives+under+value.Lts-value as value-lts
+use Rattle.reader.proofs.cycle.+boolean+branch+clauses+descend+each+headed+keys+many+operands+receives+under+value.{statement}
+use Rattle.reader.proofs.cycle.+boolean+branch+clauses+descend+each+headed+keys+many+operands+receives+under+value.Tie.{close}
 
-pub +boolean+branch+clauses+descend+each+headed+keys+many+receives+under+value-spec :
+pub +boolean+branch+clauses+descend+each+headed+keys+many+operands+receives+under+value-spec :
     {M : Type 1} → statement M
-+boolean+branch+clauses+descend+each+headed+keys+many+receives+under+value-spec =
++boolean+branch+clauses+descend+each+headed+keys+many+operands+receives+under+value-spec =
     close
     μ-boolean
     μ-branch
@@ -74,79 +81,31 @@ pub +boolean+branch+clauses+descend+each+headed+keys+many+receives+under+value-s
     μ-headed
     μ-keys
     μ-many
+    μ-operands
     μ-receives
     μ-under
     μ-value
     (λ t. boolean-lts.spec (
-      descend-below t,
-      descend.Post,
-      alike-reads.Asked,
-      alike-reads.Learnt,
-      texts-reads.Asked,
-      texts-reads.Learnt,
-      all-alike-reads.Asked,
-      all-alike-reads.Learnt,
-      plain-reads.Asked,
-      plain-reads.Learnt,
+      operand-part-reads.Asked,
+      operand-part-reads.Learnt,
+      operand-count-reads.Asked,
+      operand-count-reads.Learnt,
+      operands-below t,
+      operands.Post,
+      boolean-answer-reads.Asked,
+      boolean-answer-reads.Learnt,
     )
     (boolean-at t)
     boolean.Post
-    (Boolean.enum-told t)
-    (Boolean.sub-descend t)
-    (Boolean.descend-requires t)
-    (Boolean.sub-descend-2 t)
-    (Boolean.descend-requires-2 t)
-    (Boolean.alike-requires t)
-    (Boolean.enum-told-2 t)
-    (Boolean.sub-descend-3 t)
-    (Boolean.descend-requires-3 t)
-    (Boolean.sub-descend-4 t)
-    (Boolean.descend-requires-4 t)
-    (Boolean.texts-requires t)
-    (Boolean.enum-told-3 t)
-    (Boolean.sub-descend-5 t)
-    (Boolean.descend-requires-5 t)
-    (Boolean.sub-descend-6 t)
-    (Boolean.descend-requires-6 t)
-    (Boolean.sub-descend-7 t)
-    (Boolean.descend-requires-7 t)
-    (Boolean.all-alike-requires t)
-    (Boolean.enum-told-4 t)
-    (Boolean.sub-descend-8 t)
-    (Boolean.descend-requires-8 t)
-    (Boolean.sub-descend-9 t)
-    (Boolean.descend-requires-9 t)
-    (Boolean.enum-told-5 t)
-    (Boolean.sub-descend-10 t)
-    (Boolean.descend-requires-10 t)
-    (Boolean.enum-told-6 t)
-    (Boolean.sub-descend-11 t)
-    (Boolean.descend-requires-11 t)
-    (Boolean.plain-requires t)
+    (Boolean.operand-part-requires t)
+    (Boolean.operand-count-requires t)
+    (Boolean.sub-operands t)
+    (Boolean.operands-requires t)
+    (Boolean.boolean-answer-requires t)
     (Boolean.same-length t)
     (Boolean.same-length-2 t)
     (Boolean.same-length-3 t)
-    (Boolean.returns t)
-    (Boolean.same-length-4 t)
-    (Boolean.same-length-5 t)
-    (Boolean.same-length-6 t)
-    (Boolean.returns-2 t)
-    (Boolean.same-length-7 t)
-    (Boolean.same-length-8 t)
-    (Boolean.same-length-9 t)
-    (Boolean.returns-3 t)
-    (Boolean.same-length-10 t)
-    (Boolean.same-length-11 t)
-    (Boolean.same-length-12 t)
-    (Boolean.returns-4 t)
-    (Boolean.same-length-13 t)
-    (Boolean.same-length-14 t)
-    (Boolean.same-length-15 t)
-    (Boolean.returns-5 t)
-    (Boolean.same-length-16 t)
-    (Boolean.same-length-17 t)
-    (Boolean.same-length-18 t)
-    (Boolean.returns-6 t))
+    (Boolean.returns t))
     (λ t. branch-lts.spec (
       note-reads.Asked,
       note-reads.Learnt,
@@ -367,6 +326,32 @@ pub +boolean+branch+clauses+descend+each+headed+keys+many+receives+under+value-s
     (Many.same-length-3 t)
     (Many.returns-3 t)
     (Many.returns-4 t))
+    (λ t. operands-lts.spec (
+      descend-below t,
+      descend.Post,
+      all-of-reads.Asked,
+      all-of-reads.Learnt,
+    )
+    (operands-at t)
+    operands.Post
+    (Operands.descend-requires t)
+    (Operands.all-of-requires t)
+    (Operands.same-length t)
+    (Operands.same-length-2 t)
+    (Operands.same-length-3 t)
+    (Operands.returns t)
+    (Operands.descend-requires-2 t)
+    (Operands.all-of-requires-2 t)
+    (Operands.same-length-4 t)
+    (Operands.same-length-5 t)
+    (Operands.same-length-6 t)
+    (Operands.returns-2 t)
+    (Operands.descend-requires-3 t)
+    (Operands.all-of-requires-3 t)
+    (Operands.same-length-7 t)
+    (Operands.same-length-8 t)
+    (Operands.same-length-9 t)
+    (Operands.returns-3 t))
     (λ t. receives-lts.spec (
       receive-after-reads.Asked,
       receive-after-reads.Learnt,

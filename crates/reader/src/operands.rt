@@ -1,0 +1,70 @@
+// The operands of a boolean: how many there are, what stands at their places, and what the boolean answers from their answers.
+ghost use mathlib.Core.Path.{_≡_};
+ghost use Rattle.reader.specs.Operands.{operandPart, operandCount, booleanAnswer};
+use crate::cycle::Part;
+use crate::fits::alike;
+use crate::fits::all_alike;
+use crate::fits::plain;
+use crate::fits::texts;
+use grammar::Step;
+use wire::codes::BooleanCode;
+
+// The answers of the operands.
+pub struct Operands {
+    pub first: Step,
+    pub second: Step,
+    pub third: Step,
+}
+
+pub fn all_of(first: Step, second: Step, third: Step) -> Operands
+    ensures { λ r. ⌜ r ≡ record { first = first; second = second; third = third } ⌝ }
+{
+    Operands {
+        first: first,
+        second: second,
+        third: third,
+    }
+}
+
+pub fn operand_part(k: BooleanCode) -> Part
+    ensures { λ r. ⌜ r ≡ operandPart k ⌝ }
+{
+    match k {
+        BooleanCode::Compare(_) => Part::Value,
+        BooleanCode::Search(_) => Part::Value,
+        BooleanCode::Between => Part::Value,
+        BooleanCode::Connect(_) => Part::Boolean,
+        BooleanCode::Not => Part::Boolean,
+        BooleanCode::Missing => Part::Value,
+    }
+}
+
+pub fn operand_count(k: BooleanCode) -> usize
+    ensures { λ r. ⌜ r ≡ operandCount k ⌝ }
+{
+    match k {
+        BooleanCode::Compare(_) => 2,
+        BooleanCode::Search(_) => 2,
+        BooleanCode::Between => 3,
+        BooleanCode::Connect(_) => 2,
+        BooleanCode::Not => 1,
+        BooleanCode::Missing => 1,
+    }
+}
+
+// The answer of a boolean at a place. Of two booleans it is that of the second, which a refusal of the first passes through.
+pub fn boolean_answer(k: BooleanCode, x: Operands, at: usize) -> Step
+    ensures { λ r. ⌜ r ≡ booleanAnswer k x at ⌝ }
+{
+    let first = x.first;
+    let second = x.second;
+    let third = x.third;
+    match k {
+        BooleanCode::Compare(_) => alike(first, second, at),
+        BooleanCode::Search(_) => texts(first, second, at),
+        BooleanCode::Between => all_alike(first, second, third, at),
+        BooleanCode::Connect(_) => second,
+        BooleanCode::Not => first,
+        BooleanCode::Missing => plain(first),
+    }
+}
