@@ -11,8 +11,7 @@ use lib.ListN.{length, getElem?}
 use Rattle.wire.specs.Lists.{indexOf, sameBytes}
 use Rattle.dictionary.specs.Dictionary.{Field, nameAt}
 use Rattle.dictionary.specs.Names.{named, fieldOf}
-use Rattle.dictionary.specs.Walk.{fieldsOf, entryField, relationAt}
-use Rattle.dictionary.specs.RecordAnswers.{isField, nextPlace, fieldsFrom}
+use Rattle.dictionary.specs.Walk.{fieldsOf, isField, nextPlace, fieldsFrom, entryField, relationAt}
 use Rattle.dictionary.specs.FieldAnswers.{indexAnswer}
 use Rattle.dictionary.specs.declared.field.Index.the-variants.{Is, Unknown}
 use Rattle.dictionary.specs.declared.lookup.Place.the-variants.{At as AtPlace, Unknown as NoPlace}

@@ -11,5 +11,4 @@ pub mod Relations
 pub mod Searches
 pub mod Bounds
 pub mod Fields
-pub mod Records
 pub mod FieldSearches

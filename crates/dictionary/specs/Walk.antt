@@ -46,6 +46,18 @@ fieldPlaces (suc n) d q =
 unfoldable pub fieldsOf : List ℕ → ℕ → List ℕ
 fieldsOf d r = fieldPlaces (length d) d (r + wordAt d r)
 
+-- the entry at q is a field's
+unfoldable pub isField : List ℕ → ℕ → Bool
+isField d q = ltb q (length d) && ltb 0 (wordAt d q) && eqb (kindAt d q) 2
+
+-- the place after the entry at q, or the end
+unfoldable pub nextPlace : List ℕ → ℕ → ℕ
+nextPlace d q = cond (ltb (q + wordAt d q) (length d)) (q + wordAt d q) (length d)
+
+-- the fields from q on
+unfoldable pub fieldsFrom : List ℕ → ℕ → List ℕ
+fieldsFrom d q = fieldPlaces (length d) d q
+
 -- ---- the check
 
 -- the entry at q is a relation's with the id or the name of the one at p

@@ -8,14 +8,14 @@ ghost use Rattle.dictionary.specs.Names.{named, fieldOf};
 ghost use Rattle.dictionary.specs.Walk.{fieldsOf, relationAt, entryField};
 ghost use Rattle.dictionary.specs.Answers.{placeAnswer};
 ghost use Rattle.dictionary.specs.FieldAnswers.{indexAnswer, formatIs};
+use crate::entries::byte_on;
+use crate::entries::is_field;
+use crate::entries::next_place;
+use crate::entries::type_at;
+use crate::entries::word_on;
 use crate::lookup::Place;
 use crate::names::name_at;
 use crate::names::same_bytes;
-use crate::record::byte_on;
-use crate::record::is_field;
-use crate::record::next_place;
-use crate::record::type_at;
-use crate::record::word_on;
 use wire::codes::FieldType;
 
 // The id of a field, or that there is none.

@@ -1,6 +1,6 @@
-// The house dictionary and its records.
+// The house dictionary.
 pub mod check;
+pub mod entries;
 pub mod field;
 pub mod lookup;
 pub mod names;
-pub mod record;

@@ -11,7 +11,7 @@ use Rattle.decimal.specs.Number
 use Rattle.dictionary.specs.Dictionary
 use Rattle.dictionary.specs.Format
 use Rattle.dictionary.specs.Names as DictionaryNames
-use Rattle.dictionary.specs.Record
+use Rattle.records.specs.Record
 use Rattle.grammar.specs.Bytes
 use Rattle.grammar.specs.Conditions
 use Rattle.grammar.specs.Kinds

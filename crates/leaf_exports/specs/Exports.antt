@@ -19,10 +19,10 @@ use Rattle.dictionary.specs.declared.check.Answer.{Answer}
 use Rattle.dictionary.specs.declared.check.Answer.the-variants.{Proper, Fault}
 use Rattle.dictionary.specs.declared.lookup.Place.{Place}
 use Rattle.dictionary.specs.declared.lookup.Place.the-variants.{At, Unknown}
-use Rattle.dictionary.specs.declared.record.Length.{Length}
-use Rattle.dictionary.specs.declared.record.Length.the-variants as Length
-use Rattle.dictionary.specs.declared.record.RunAnswer.{RunAnswer}
-use Rattle.dictionary.specs.declared.record.RunAnswer.the-variants.{AsDue, WrongAt}
+use Rattle.records.specs.declared.lengths.Length.{Length}
+use Rattle.records.specs.declared.lengths.Length.the-variants as Length
+use Rattle.records.specs.declared.proper.RunAnswer.{RunAnswer}
+use Rattle.records.specs.declared.proper.RunAnswer.the-variants.{AsDue, WrongAt}
 use Rattle.text.specs.declared.Part.{Part}
 use Rattle.text.specs.declared.Part.the-variants.{Is, Malformed}
 

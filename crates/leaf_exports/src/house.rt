@@ -4,16 +4,16 @@ ghost use mathlib.Core.List.{map};
 ghost use lib.ListN.{length};
 ghost use Rattle.dictionary.specs.Dictionary.{dictionary as checked};
 ghost use Rattle.dictionary.specs.Names.{named, numbered};
-ghost use Rattle.dictionary.specs.Record.{offsetOf, recordLength, fieldMissing};
-ghost use Rattle.dictionary.specs.Record.{records as recordRun};
 ghost use Rattle.dictionary.specs.Walk.{relationPlace, relationAt, entryField};
-ghost use Rattle.dictionary.specs.RecordAnswers.{lengthAnswer, runAnswer};
 ghost use Rattle.dictionary.specs.Answers.{answerOf, placeAnswer};
+ghost use Rattle.records.specs.Record.{offsetOf, recordLength, fieldMissing};
+ghost use Rattle.records.specs.Record.{records as recordRun};
+ghost use Rattle.records.specs.Answers.{lengthAnswer, runAnswer};
 ghost use Rattle.leaf_exports.specs.Exports.{isProper, faultOf, placeOr, isDue, wrongOf, lengthOf};
 use dictionary::check::Answer;
 use dictionary::lookup::Place;
-use dictionary::record::Length;
-use dictionary::record::RunAnswer;
+use records::lengths::Length;
+use records::proper::RunAnswer;
 
 #[no_mangle]
 pub extern "C" fn house_proper(d: &[u8]) -> bool
@@ -66,7 +66,7 @@ pub extern "C" fn house_numbered(d: &[u8], id: u32) -> usize
 pub extern "C" fn house_records_due(d: &[u8], relations: &[u32], s: &[u8]) -> bool
     ensures { λ r. ⌜ r ≡ isDue (runAnswer (recordRun (map (relationAt (now (d .entry))) (now (relations .entry))) (now (s .entry)) 0)) ⌝ }
 {
-    let a = dictionary::record::records(d, relations, s);
+    let a = records::proper::records(d, relations, s);
     match a {
         RunAnswer::AsDue => true,
         RunAnswer::WrongAt(p) => false,
@@ -78,7 +78,7 @@ pub extern "C" fn house_records_due(d: &[u8], relations: &[u32], s: &[u8]) -> bo
 pub extern "C" fn house_records_wrong(d: &[u8], relations: &[u32], s: &[u8]) -> usize
     ensures { λ r. ⌜ r ≡ wrongOf (runAnswer (recordRun (map (relationAt (now (d .entry))) (now (relations .entry))) (now (s .entry)) 0)) ⌝ }
 {
-    let a = dictionary::record::records(d, relations, s);
+    let a = records::proper::records(d, relations, s);
     match a {
         RunAnswer::AsDue => 0,
         RunAnswer::WrongAt(p) => p,
@@ -96,7 +96,7 @@ pub extern "C" fn house_missing(
 ) -> bool
     ensures { λ r. ⌜ r ≡ fieldMissing (relationAt (now (d .entry)) relation) ((entryField (now (d .entry)) entry) .format) (now (s .entry)) p i ⌝ }
 {
-    dictionary::record::field_missing(d, relation, entry, s, p, i)
+    records::missing::field_missing(d, relation, entry, s, p, i)
 }
 
 fn length_of(n: Length) -> usize
@@ -113,12 +113,12 @@ fn length_of(n: Length) -> usize
 pub extern "C" fn house_offset(d: &[u8], relation: usize, i: usize) -> usize
     ensures { λ r. ⌜ r ≡ lengthOf (lengthAnswer (offsetOf (relationAt (now (d .entry)) relation) i)) ⌝ }
 {
-    length_of(dictionary::record::field_offset(d, relation, i))
+    length_of(records::lengths::field_offset(d, relation, i))
 }
 
 #[no_mangle]
 pub extern "C" fn house_length(d: &[u8], relation: usize) -> usize
     ensures { λ r. ⌜ r ≡ lengthOf (lengthAnswer (recordLength (relationAt (now (d .entry)) relation))) ⌝ }
 {
-    length_of(dictionary::record::record_length(d, relation))
+    length_of(records::lengths::record_length(d, relation))
 }

@@ -7,7 +7,7 @@ use lib.Dec.{eqb}
 use lib.ListN.{length, getElem?}
 use Rattle.wire.specs.Lists.{sumOf}
 use Rattle.dictionary.specs.Dictionary.{Relation, dictionary}
-use Rattle.dictionary.specs.Record.{Run, asDue, wrongAt, records}
+use Rattle.records.specs.Record.{Run, asDue, wrongAt, records}
 use Rattle.grammar.specs.declared.Refusal.the-variants.{NoBoolean, BadMessageBytes, BadRecords}
 use Rattle.grammar.specs.Tree.{Message, Request}
 use Rattle.grammar.specs.Names.{Context}

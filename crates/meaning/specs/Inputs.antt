@@ -20,7 +20,7 @@ use Rattle.text.specs.Value.{textPart, partOf, kept}
 use Rattle.dictionary.specs.Format.{Format, textBytes}
 use Rattle.dictionary.specs.Dictionary.{Relation}
 use Rattle.dictionary.specs.Names.{Name, fieldOf, formatOf}
-use Rattle.dictionary.specs.Record.{recordLength, fieldPlace, fieldMissing}
+use Rattle.records.specs.Record.{recordLength, fieldPlace, fieldMissing}
 use Rattle.grammar.specs.Tree.{Descriptor, Message, Literal, Reference, field, parameter, parameter2}
 use Rattle.grammar.specs.Names.{Context, Scope, descriptorFormat}
 use Rattle.grammar.specs.Kinds.{formatKind}

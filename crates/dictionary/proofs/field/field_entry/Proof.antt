@@ -4,8 +4,7 @@ use Prim.Native.Nat.{_≤_, _<_, _-_, _+_}
 use Rattle.dictionary.proofs.Fields.{inside, further}
 use lib.ListN.{length, getElem?, length-set}
 use mathlib.Core.Bool.{true, false}
-use Rattle.dictionary.specs.RecordAnswers.{isField, nextPlace, fieldsFrom}
-use Rattle.dictionary.specs.Walk.{fieldsOf, relationAt}
+use Rattle.dictionary.specs.Walk.{isField, nextPlace, fieldsFrom, fieldsOf, relationAt}
 use Rattle.dictionary.proofs.FieldSearches.{entry-start, entry-end, entry-here, entry-next}
 use Rattle.dictionary.specs.Answers.{placeAnswer}
 use borrow.Author.Needs.{needs}
@@ -13,8 +12,8 @@ use Rattle.dictionary.proofs.field.field_entry.Statement.{statement}
 use Rattle.dictionary.proofs.field.field_entry.Tie as tie
 use Rattle.dictionary.proofs.field.field_entry.Reads as reads
 use Rattle.dictionary.proofs.field.field_entry.Lts as lts
-use Rattle.dictionary.proofs.record.is_field.Reads as is-field-reads
-use Rattle.dictionary.proofs.record.next_place.Reads as next-place-reads
+use Rattle.dictionary.proofs.entries.is_field.Reads as is-field-reads
+use Rattle.dictionary.proofs.entries.next_place.Reads as next-place-reads
 
 abbrev Inv-loop : tie.InvT-loop
 Inv-loop d relation id q₀ left₀ q left = getElem? (fieldsOf d relation) id ≡ getElem? (fieldsFrom d q) left

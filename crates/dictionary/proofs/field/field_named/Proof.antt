@@ -4,8 +4,7 @@ use Prim.Native.Nat.{_≤_, _<_, _-_, _+_}
 use Rattle.dictionary.proofs.Fields.{inside, further}
 use lib.ListN.{length, getElem?, length-set}
 use mathlib.Core.Bool.{true, false}
-use Rattle.dictionary.specs.RecordAnswers.{isField, nextPlace, fieldsFrom}
-use Rattle.dictionary.specs.Walk.{fieldsOf, relationAt}
+use Rattle.dictionary.specs.Walk.{isField, nextPlace, fieldsFrom, fieldsOf, relationAt}
 use Rattle.dictionary.proofs.FieldSearches.{hasName, passed, named-start, named-end, named-here, named-next}
 use Rattle.dictionary.specs.FieldAnswers.{indexAnswer}
 use Rattle.wire.specs.Lists.{indexOf}
@@ -16,8 +15,8 @@ use Rattle.dictionary.proofs.field.field_named.Tie as tie
 use Rattle.dictionary.proofs.field.field_named.Reads as reads
 use Rattle.dictionary.proofs.field.field_named.Lts as lts
 use Rattle.dictionary.proofs.field.has_name.Reads as has-name-reads
-use Rattle.dictionary.proofs.record.is_field.Reads as is-field-reads
-use Rattle.dictionary.proofs.record.next_place.Reads as next-place-reads
+use Rattle.dictionary.proofs.entries.is_field.Reads as is-field-reads
+use Rattle.dictionary.proofs.entries.next_place.Reads as next-place-reads
 
 abbrev Inv-loop : tie.InvT-loop
 Inv-loop d relation name q₀ i₀ q i = (i ≤ q) × (fieldOf (relationAt d relation) (named name) ≡ passed i (indexOf (hasName d name) (fieldsFrom d q)))

@@ -6,7 +6,7 @@ use Rattle.leaf_exports.proofs.house.house_length.Statement.{statement}
 use Rattle.leaf_exports.proofs.house.house_length.Tie as tie
 use Rattle.leaf_exports.proofs.house.house_length.Reads as reads
 use Rattle.leaf_exports.proofs.house.house_length.Lts as lts
-use Rattle.dictionary.proofs.record.record_length.Reads as record-length-reads
+use Rattle.records.proofs.lengths.record_length.Reads as record-length-reads
 use Rattle.leaf_exports.proofs.house.length_of.Reads as length-of-reads
 
 -- src/house.rt:116:15

@@ -6,7 +6,7 @@ use Rattle.leaf_exports.proofs.house.house_offset.Statement.{statement}
 use Rattle.leaf_exports.proofs.house.house_offset.Tie as tie
 use Rattle.leaf_exports.proofs.house.house_offset.Reads as reads
 use Rattle.leaf_exports.proofs.house.house_offset.Lts as lts
-use Rattle.dictionary.proofs.record.field_offset.Reads as field-offset-reads
+use Rattle.records.proofs.lengths.field_offset.Reads as field-offset-reads
 use Rattle.leaf_exports.proofs.house.length_of.Reads as length-of-reads
 
 -- src/house.rt:109:15

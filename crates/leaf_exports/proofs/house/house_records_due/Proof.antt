@@ -6,7 +6,7 @@ use Rattle.leaf_exports.proofs.house.house_records_due.Statement.{state
 use Rattle.leaf_exports.proofs.house.house_records_due.Tie as tie
 use Rattle.leaf_exports.proofs.house.house_records_due.Reads as reads
 use Rattle.leaf_exports.proofs.house.house_records_due.Lts as lts
-use Rattle.dictionary.proofs.record.records.Reads as records-reads
+use Rattle.records.proofs.proper.records.Reads as records-reads
 
 -- src/house.rt:69:9
 records-requires : tie.Need-records-requires

@@ -6,7 +6,7 @@ use Rattle.leaf_exports.proofs.house.house_records_wrong.Statement.{sta
 use Rattle.leaf_exports.proofs.house.house_records_wrong.Tie as tie
 use Rattle.leaf_exports.proofs.house.house_records_wrong.Reads as reads
 use Rattle.leaf_exports.proofs.house.house_records_wrong.Lts as lts
-use Rattle.dictionary.proofs.record.records.Reads as records-reads
+use Rattle.records.proofs.proper.records.Reads as records-reads
 
 -- src/house.rt:81:9
 records-requires : tie.Need-records-requires

@@ -1,0 +1,143 @@
+// How long the records of a relation are, and where each field stands in them.
+ghost use mathlib.Core.Path.{_≡_};
+ghost use Prim.Native.Nat.{_+_, _/_, _≤_, _<_};
+ghost use lib.ListN.{take};
+ghost use Rattle.wire.specs.declared.codes.FieldType.the-variants.{Plain};
+ghost use Rattle.dictionary.specs.Format.{widthBytes, textBytes, typeBytes, held};
+ghost use Rattle.dictionary.specs.Walk.{fieldsFrom, relationAt};
+ghost use Rattle.records.specs.Record.{fieldCount, offsetOf, recordLength};
+ghost use Rattle.records.specs.Answers.{formatAt, allHeld, within, lengthAnswer};
+use dictionary::entries::is_field;
+use dictionary::entries::next_place;
+use dictionary::entries::type_at;
+use dictionary::entries::word_on;
+use wire::codes::DataType;
+use wire::codes::FieldType;
+use wire::codes::TextType;
+use wire::codes::Width;
+
+// A length, or that it is above a limit.
+pub enum Length {
+    Is(usize),
+    Long,
+}
+
+// "short 7 and long 8 .. (2 and 4 bytes)"
+fn width_bytes(w: Width) -> usize
+    ensures { λ r. ⌜ r ≡ widthBytes w ⌝ }
+{
+    match w {
+        Width::Short => 2,
+        Width::Long => 4,
+    }
+}
+
+// "text 14, varying 37, cstring 40, each with a word n (n, n+2, n bytes)"
+fn text_bytes(t: TextType, n: usize) -> usize
+    requires { ⌜ n < 65536 ⌝ }
+    ensures { λ r. ⌜ r ≡ textBytes t n ⌝ }
+{
+    match t {
+        TextType::Text => n,
+        TextType::Varying => n + 2,
+        TextType::Cstring => n,
+    }
+}
+
+// "date 35 (8 bytes)"
+fn plain_bytes(t: DataType, n: usize) -> usize
+    requires { ⌜ n < 65536 ⌝ }
+    ensures { λ r. ⌜ r ≡ typeBytes (Plain t) n ⌝ }
+{
+    match t {
+        DataType::Number(w) => width_bytes(w),
+        DataType::Date => 8,
+        DataType::Chars(x) => text_bytes(x, n),
+    }
+}
+
+// "a house reading: 2 bytes, unsigned, with scale"
+fn type_bytes(t: FieldType, n: usize) -> usize
+    requires { ⌜ n < 65536 ⌝ }
+    ensures { λ r. ⌜ r ≡ typeBytes t n ⌝ }
+{
+    match t {
+        FieldType::Plain(x) => plain_bytes(x, n),
+        FieldType::Reading => 2,
+    }
+}
+
+// The bytes that a field holds.
+pub fn held_bytes(d: &[u8], q: usize) -> usize
+    ensures { λ r. ⌜ r ≡ held (formatAt (now (d .entry)) q) ⌝ }
+{
+    type_bytes(type_at(d, q), word_on(d, q, 8) as usize)
+}
+
+// How many fields a relation has.
+pub fn field_count(d: &[u8], relation: usize) -> usize
+    ensures { λ r. ⌜ r ≡ fieldCount (relationAt (now (d .entry)) relation) ⌝ }
+{
+    let mut q = next_place(d, relation);
+    let mut n: usize = 0;
+    while is_field(d, q) {
+        n += 1;
+        q = next_place(d, q);
+    }
+    n
+}
+
+// "one missing bit a field": the bytes of n bits.
+pub(crate) fn missing_bytes(n: usize) -> usize
+    ensures { λ r. ⌜ r ≡ (n + 7) / 8 ⌝ }
+{
+    n / 8 + (n % 8 + 7) / 8
+}
+
+// A start and the bytes of i fields from a place on.
+fn packed_within(d: &[u8], from: usize, i: usize, start: usize, limit: usize) -> Length
+    requires { ⌜ start ≤ limit ⌝ }
+    ensures { λ r. ⌜ r ≡ within limit (start + allHeld (now (d .entry)) (take i (fieldsFrom (now (d .entry)) from))) ⌝ }
+{
+    let mut q = from;
+    let mut left = i;
+    let mut sum = start;
+    while 0 < left {
+        if !is_field(d, q) {
+            return Length::Is(sum);
+        }
+        let n = held_bytes(d, q);
+        if limit - sum < n {
+            return Length::Long;
+        }
+        sum += n;
+        left -= 1;
+        q = next_place(d, q);
+    }
+    Length::Is(sum)
+}
+
+// "relation id word, one missing bit a field .., then the fields packed"
+pub(crate) fn offset_within(d: &[u8], relation: usize, i: usize, limit: usize) -> Length
+    ensures { λ r. ⌜ r ≡ within limit (offsetOf (relationAt (now (d .entry)) relation) i) ⌝ }
+{
+    let start = 6 + missing_bytes(field_count(d, relation));
+    if limit < start {
+        return Length::Long;
+    }
+    packed_within(d, next_place(d, relation), i, start, limit)
+}
+
+// Where field i stands in a record's entry.
+pub fn field_offset(d: &[u8], relation: usize, i: usize) -> Length
+    ensures { λ r. ⌜ r ≡ lengthAnswer (offsetOf (relationAt (now (d .entry)) relation) i) ⌝ }
+{
+    offset_within(d, relation, i, 4096)
+}
+
+// The length of a relation's record entry.
+pub fn record_length(d: &[u8], relation: usize) -> Length
+    ensures { λ r. ⌜ r ≡ lengthAnswer (recordLength (relationAt (now (d .entry)) relation)) ⌝ }
+{
+    offset_within(d, relation, d.len(), 4096)
+}
