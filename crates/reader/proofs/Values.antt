@@ -39,10 +39,10 @@ use Rattle.reader.specs.declared.heads.ValueHead.{ValueHead}
 use Rattle.reader.specs.declared.heads.ValueHead.the-variants as ValueHead
 use Rattle.reader.specs.declared.heads.BooleanHead.{BooleanHead}
 use Rattle.reader.specs.declared.heads.BooleanHead.the-variants as BooleanHead
+use Rattle.reader.specs.declared.cycle.Part.{Part}
 use Rattle.reader.specs.declared.cycle.Part.the-variants as Part
-use Rattle.reader.specs.declared.operands.Operands.{Operands}
 use Rattle.reader.specs.Operands.{operandPart, operandCount, booleanAnswer}
-use Rattle.reader.specs.Cycle.{Tables, nothing, Wrote, From, Descended, Operated, onStep, kindStep, testStep, noRows, valueFit, leveled, valueHead, booleanHead}
+use Rattle.reader.specs.Cycle.{Tables, nothing, Wrote, From, Descended, onStep, kindStep, testStep, noRows, valueFit, leveled, valueHead, booleanHead}
 use Rattle.reader.proofs.Steps.{started, from-next, stop, kept, likewise, by-read}
 
 -- ---- operands one after another
@@ -242,31 +242,57 @@ module _ (inner : Reader Boolean) (operand : Reader Value) (e : Environment) (sc
       connect-kept {o} ke {b} wb = rw ke (two-kept (inner s) noKind noKind wa (inner s) noKind wb _ (λ x y q. Step.Next y q)
           (λ v w q. refl) (through a b wb))
 
--- a boolean from its operands
+-- ---- a boolean from its operands
+
+module _ (part : Part) (e : Environment) (sc : Scope) (l : ℕ) (s : List ℕ) (c : Cursor) (t t′ : Tables) where
+  -- two parts one level down, and three
+  pub record Two (x y : Step) : Type 0 where
+    pub between : Tables
+    pub one : Descended part e sc l 0 s (Step.Next Fit.NoKind c) t between x
+    pub two : Descended part e sc l 0 s x between t′ y
+
+  pub record Three (x y z : Step) : Type 0 where
+    pub between : Tables
+    pub before-last : Tables
+    pub one : Descended part e sc l 0 s (Step.Next Fit.NoKind c) t between x
+    pub two : Descended part e sc l 0 s x between before-last y
+    pub three : Descended part e sc l 0 s y before-last t′ z
+
+  -- the operands of a boolean, by their number
+  pub record Operated (n : ℕ) (x y z : Step) : Type 0 where
+    pub single : n ≡ 1 → Descended part e sc l 0 s (Step.Next Fit.NoKind c) t t′ x
+    pub double : n ≡ 2 → Two x y
+    pub triple : n ≡ 3 → Three x y z
+
 module _ (e : Environment) (sc : Scope) (p : ℕ) (s : List ℕ) (c : Cursor) (l : ℕ) (deep : 0 < l) where
-  pub boolean-kept : (k : BooleanCode) (x : Operands) {t t′ : Tables} {r : Step} →
-      Operated (operandCount k) (operandPart k) e sc (l - 1) s c t t′ x → r ≡ booleanAnswer k x p →
+  pub boolean-kept : (k : BooleanCode) {n : ℕ} {part : Part} (x y z : Step) {t t′ : Tables} {r : Step} → n ≡ operandCount k → part ≡ operandPart k →
+      Operated part e sc (l - 1) s c t t′ n x y z → r ≡ booleanAnswer k x y z p →
       Wrote (booleanUnder (readBoolean l e sc) (readValue l e sc) e sc p k s c) noKind c (noRows c) t t′ r
-  boolean-kept (Compare o) x w h =
-      let d = w .double refl in
-      compare-kept (readBoolean l e sc) (readValue l e sc) e sc p s c (values-below e sc s l deep 0 (d .one))
-      (values-below e sc s l deep 0 (d .two)) refl h
-  boolean-kept (Search o) x w h =
-      let d = w .double refl in
-      search-kept (readBoolean l e sc) (readValue l e sc) e sc p s c (values-below e sc s l deep 0 (d .one))
-      (values-below e sc s l deep 0 (d .two)) refl h
-  boolean-kept Between x w h =
-      let d = w .triple refl in
-      between-kept (readBoolean l e sc) (readValue l e sc) e sc p s c (values-below e sc s l deep 0 (d .one))
-      (values-below e sc s l deep 0 (d .two)) refl (values-below e sc s l deep 0 (d .three)) h
-  boolean-kept (Connect o) x w h =
-      let d = w .double refl in
-      rw h (connect-kept (readBoolean l e sc) (readValue l e sc) e sc p s c (booleans-below e sc s l deep 0 (d .one)) refl
-      (booleans-below e sc s l deep 0 (d .two)))
-  boolean-kept Not x w h =
-      rw h (not-kept (readBoolean l e sc) (readValue l e sc) e sc p s c (booleans-below e sc s l deep 0 (w .single refl)) refl)
-  boolean-kept Missing x w h =
-      missing-kept (readBoolean l e sc) (readValue l e sc) e sc p s c (values-below e sc s l deep 0 (w .single refl)) refl h
+  boolean-kept k {n} {part} x y z {t} {t′} {r} i j w h = go k (subst (λ m. Operated m e sc (l - 1) s c t t′ (operandCount k) x y z) j
+      (subst (λ m. Operated part e sc (l - 1) s c t t′ m x y z) i w)) h
+    where
+      go : (k : BooleanCode) → Operated (operandPart k) e sc (l - 1) s c t t′ (operandCount k) x y z → r ≡ booleanAnswer k x y z p →
+          Wrote (booleanUnder (readBoolean l e sc) (readValue l e sc) e sc p k s c) noKind c (noRows c) t t′ r
+      go (Compare o) w h =
+          let d = w .double refl in
+          compare-kept (readBoolean l e sc) (readValue l e sc) e sc p s c (values-below e sc s l deep 0 (d .one))
+          (values-below e sc s l deep 0 (d .two)) refl h
+      go (Search o) w h =
+          let d = w .double refl in
+          search-kept (readBoolean l e sc) (readValue l e sc) e sc p s c (values-below e sc s l deep 0 (d .one))
+          (values-below e sc s l deep 0 (d .two)) refl h
+      go Between w h =
+          let d = w .triple refl in
+          between-kept (readBoolean l e sc) (readValue l e sc) e sc p s c (values-below e sc s l deep 0 (d .one))
+          (values-below e sc s l deep 0 (d .two)) refl (values-below e sc s l deep 0 (d .three)) h
+      go (Connect o) w h =
+          let d = w .double refl in
+          rw h (connect-kept (readBoolean l e sc) (readValue l e sc) e sc p s c (booleans-below e sc s l deep 0 (d .one)) refl
+          (booleans-below e sc s l deep 0 (d .two)))
+      go Not w h =
+          rw h (not-kept (readBoolean l e sc) (readValue l e sc) e sc p s c (booleans-below e sc s l deep 0 (w .single refl)) refl)
+      go Missing w h =
+          missing-kept (readBoolean l e sc) (readValue l e sc) e sc p s c (values-below e sc s l deep 0 (w .single refl)) refl h
 
 -- ---- one level down
 

@@ -51,7 +51,6 @@ use Rattle.reader.specs.declared.heads.ClauseHead.{ClauseHead}
 use Rattle.reader.specs.declared.heads.ClauseHead.the-variants as ClauseHead
 use Rattle.reader.specs.declared.heads.Ending.{Ending}
 use Rattle.reader.specs.declared.heads.Ending.the-variants as Ending
-use Rattle.reader.specs.declared.operands.Operands.{Operands}
 use Rattle.reader.specs.declared.parts.Selected.{Selected}
 use Rattle.reader.specs.declared.cycle.Part.{Part}
 use Rattle.reader.specs.declared.cycle.Part.the-variants as Part
@@ -241,26 +240,6 @@ Descended Part.Value e sc l parent s from = From from (readValue (suc l) e sc s)
 Descended Part.Boolean e sc l parent s from = From from (readBoolean (suc l) e sc s) noKind noRows
 Descended Part.Statement e sc l parent s from =
     From from (readStatement (suc l) e sc s) noKind (λ c t. statementTables (e .relations) sc t (c .at) (c .statements) parent)
-
--- two parts one level down, and three
-pub record Two (part : Part) (e : Environment) (sc : Names.Scope) (l : ℕ) (s : List ℕ) (c : Cursor) (t t′ : Tables) (r : Operands) : Type 0 where
-  pub between : Tables
-  pub one : Descended part e sc l 0 s (Step.Next Fit.NoKind c) t between (r .first)
-  pub two : Descended part e sc l 0 s (r .first) between t′ (r .second)
-
-pub record Three (part : Part) (e : Environment) (sc : Names.Scope) (l : ℕ) (s : List ℕ) (c : Cursor) (t t′ : Tables) (r : Operands) : Type 0 where
-  pub between : Tables
-  pub before-last : Tables
-  pub one : Descended part e sc l 0 s (Step.Next Fit.NoKind c) t between (r .first)
-  pub two : Descended part e sc l 0 s (r .first) between before-last (r .second)
-  pub three : Descended part e sc l 0 s (r .second) before-last t′ (r .third)
-
--- the operands of a boolean, by their number
-pub record Operated (n : ℕ) (part : Part) (e : Environment) (sc : Names.Scope) (l : ℕ) (s : List ℕ) (c : Cursor) (t t′ : Tables) (r : Operands) :
-    Type 0 where
-  pub single : n ≡ 1 → Descended part e sc l 0 s (Step.Next Fit.NoKind c) t t′ (r .first)
-  pub double : n ≡ 2 → Two part e sc l s c t t′ r
-  pub triple : n ≡ 3 → Three part e sc l s c t t′ r
 
 -- the readers one level down
 abbrev pub innerAt : ℕ → Environment → Inner

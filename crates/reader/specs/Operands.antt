@@ -9,7 +9,6 @@ use Rattle.grammar.specs.Kinds.{oneKind, bothText, allOneKind}
 use Rattle.grammar.specs.Steps.{kindIn}
 use Rattle.reader.specs.declared.cycle.Part.{Part}
 use Rattle.reader.specs.declared.cycle.Part.the-variants as Part
-use Rattle.reader.specs.declared.operands.Operands.{Operands}
 use Rattle.reader.specs.Cycle.{onStep, testStep}
 
 -- 01: "eql 47, .. starting 55 with two values; between 56 with three; or 57, and 58, not 59; missing 61 with one value"
@@ -30,11 +29,11 @@ operandCount Not = 1
 operandCount Missing = 1
 
 -- 01: "Comparisons and between want one kind, 53–55 text"
-abbrev pub booleanAnswer : BooleanCode → Operands → ℕ → Step
-booleanAnswer (Compare o) x p = onStep (x .first) (λ a d. onStep (x .second) (λ b c. testStep (oneKind (kindIn a) (kindIn b)) p c))
-booleanAnswer (Search o) x p = onStep (x .first) (λ a d. onStep (x .second) (λ b c. testStep (bothText (kindIn a) (kindIn b)) p c))
-booleanAnswer Between x p =
-    onStep (x .first) (λ a d. onStep (x .second) (λ b g. onStep (x .third) (λ h c. testStep (allOneKind (kindIn a) (kindIn b) (kindIn h)) p c)))
-booleanAnswer (Connect o) x p = x .second
-booleanAnswer Not x p = x .first
-booleanAnswer Missing x p = onStep (x .first) (λ a c. Step.Next Fit.NoKind c)
+abbrev pub booleanAnswer : BooleanCode → Step → Step → Step → ℕ → Step
+booleanAnswer (Compare o) x y z p = onStep x (λ a d. onStep y (λ b c. testStep (oneKind (kindIn a) (kindIn b)) p c))
+booleanAnswer (Search o) x y z p = onStep x (λ a d. onStep y (λ b c. testStep (bothText (kindIn a) (kindIn b)) p c))
+booleanAnswer Between x y z p =
+    onStep x (λ a d. onStep y (λ b g. onStep z (λ h c. testStep (allOneKind (kindIn a) (kindIn b) (kindIn h)) p c)))
+booleanAnswer (Connect o) x y z p = y
+booleanAnswer Not x y z p = x
+booleanAnswer Missing x y z p = onStep x (λ a c. Step.Next Fit.NoKind c)

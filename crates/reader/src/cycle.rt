@@ -8,7 +8,7 @@ ghost use Rattle.grammar.specs.Steps.{noKind};
 ghost use Rattle.references.specs.Promises.{environmentOf};
 ghost use Rattle.scopes.specs.Scopes.{scopeOf};
 ghost use Rattle.reader.specs.Promises.{headingReader};
-ghost use Rattle.reader.specs.Cycle.{Wrote, From, Given, GivenAfter, Inside, Descended, Operated, tables, noRows, valueFit, innerAt, belowTables, statementsTables, receivesTables, clausesTables, Receiving, Marks};
+ghost use Rattle.reader.specs.Cycle.{Wrote, From, Given, GivenAfter, Inside, Descended, tables, noRows, valueFit, innerAt, belowTables, statementsTables, receivesTables, clausesTables, Receiving, Marks};
 use crate::fits::alike;
 use crate::fits::arithmetic;
 use crate::fits::negation;
@@ -27,8 +27,6 @@ use crate::heads::value_at;
 use crate::opening::Opened;
 use crate::opening::read_head;
 use crate::opening::read_heading;
-use crate::operands::Operands;
-use crate::operands::all_of;
 use crate::operands::boolean_answer;
 use crate::operands::operand_count;
 use crate::operands::operand_part;
@@ -232,7 +230,7 @@ fn value(
     }
 }
 
-// What stands under the code of a boolean.
+// What stands under the code of a boolean: its operands, one after another, and its answer from theirs.
 fn boolean(
     request: &[u8],
     dictionary: &[u8],
@@ -252,41 +250,6 @@ fn boolean(
 {
     let part = operand_part(k);
     let count = operand_count(k);
-    let x = operands(
-        request,
-        dictionary,
-        parameters,
-        statements,
-        contexts,
-        conditions,
-        messages,
-        scope,
-        part,
-        count,
-        c,
-        levels - 1,
-    );
-    boolean_answer(k, x, at)
-}
-
-// The operands of a boolean, so many, one after another from a cursor. Past the last of them the last stands again.
-fn operands(
-    request: &[u8],
-    dictionary: &[u8],
-    parameters: &[u32],
-    statements: &mut [u32],
-    contexts: &mut [u32],
-    conditions: &mut [u32],
-    messages: Messages,
-    scope: Scope,
-    part: Part,
-    count: usize,
-    c: Cursor,
-    levels: usize,
-) -> Operands
-    requires { ⌜ Given (now request) (now dictionary) scope c levels ⌝ }
-    ensures { λ r. ⌜ Operated count part (environmentOf (now (dictionary .entry)) (now (parameters .entry)) messages) (scopeOf (now (dictionary .entry)) scope) levels (now (request .entry)) c (tables (now (statements .entry)) (now (contexts .entry)) (now (conditions .entry))) (tables (now (statements .exit)) (now (contexts .exit)) (now (conditions .exit))) r ⌝ }
-{
     let first = descend(
         request,
         dictionary,
@@ -298,11 +261,11 @@ fn operands(
         scope,
         part,
         Step::Next(Fit::NoKind, c),
-        levels,
+        levels - 1,
         0,
     );
     if count == 1 {
-        return all_of(first, first, first);
+        return boolean_answer(k, first, first, first, at);
     }
     let second = descend(
         request,
@@ -315,11 +278,11 @@ fn operands(
         scope,
         part,
         first,
-        levels,
+        levels - 1,
         0,
     );
     if count == 2 {
-        return all_of(first, second, second);
+        return boolean_answer(k, first, second, second, at);
     }
     let third = descend(
         request,
@@ -332,10 +295,10 @@ fn operands(
         scope,
         part,
         second,
-        levels,
+        levels - 1,
         0,
     );
-    all_of(first, second, third)
+    boolean_answer(k, first, second, third, at)
 }
 
 // The values of a sort, so many.

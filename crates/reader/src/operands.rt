@@ -9,23 +9,6 @@ use crate::fits::texts;
 use grammar::Step;
 use wire::codes::BooleanCode;
 
-// The answers of the operands.
-pub struct Operands {
-    pub first: Step,
-    pub second: Step,
-    pub third: Step,
-}
-
-pub fn all_of(first: Step, second: Step, third: Step) -> Operands
-    ensures { λ r. ⌜ r ≡ record { first = first; second = second; third = third } ⌝ }
-{
-    Operands {
-        first: first,
-        second: second,
-        third: third,
-    }
-}
-
 pub fn operand_part(k: BooleanCode) -> Part
     ensures { λ r. ⌜ r ≡ operandPart k ⌝ }
 {
@@ -52,13 +35,11 @@ pub fn operand_count(k: BooleanCode) -> usize
     }
 }
 
-// The answer of a boolean at a place. Of two booleans it is that of the second, which a refusal of the first passes through.
-pub fn boolean_answer(k: BooleanCode, x: Operands, at: usize) -> Step
-    ensures { λ r. ⌜ r ≡ booleanAnswer k x at ⌝ }
+// The answer of a boolean at a place from those of its operands; past the last of them the last stands again. Of two booleans it is that of the
+// second, which a refusal of the first passes through.
+pub fn boolean_answer(k: BooleanCode, first: Step, second: Step, third: Step, at: usize) -> Step
+    ensures { λ r. ⌜ r ≡ booleanAnswer k first second third at ⌝ }
 {
-    let first = x.first;
-    let second = x.second;
-    let third = x.third;
     match k {
         BooleanCode::Compare(_) => alike(first, second, at),
         BooleanCode::Search(_) => texts(first, second, at),

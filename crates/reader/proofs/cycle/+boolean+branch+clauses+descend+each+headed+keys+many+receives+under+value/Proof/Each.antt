@@ -7,13 +7,13 @@ use Rattle.references.specs.Promises.{environmentOf}
 use Prim.Native.Nat.{ℕ}
 use native.Mathlib.Omega.{arith}
 use borrow.Author.Needs.{needs}
-use Rattle.reader.proofs.cycle.+boolean+branch+clauses+descend+each+headed+keys+many+operands+receives+under+value.Proof.Measures.{clauses-below, descend-below, each-at}
+use Rattle.reader.proofs.cycle.+boolean+branch+clauses+descend+each+headed+keys+many+receives+under+value.Proof.Measures.{clauses-below, descend-below, each-at}
 use Rattle.reader.proofs.cycle.clauses.Reads as clauses
 use Rattle.reader.proofs.cycle.descend.Reads as descend
 use Rattle.reader.proofs.cycle.each.Reads as each
 use Rattle.reader.proofs.opening.read_head.Reads as read-head-reads
 use Rattle.reader.proofs.parts.close.Reads as close-reads
-use Rattle.reader.proofs.cycle.+boolean+branch+clauses+descend+each+headed+keys+many+operands+receives+under+value.Lts-each as each-lts
+use Rattle.reader.proofs.cycle.+boolean+branch+clauses+descend+each+headed+keys+many+receives+under+value.Lts-each as each-lts
 
 pub read-head-requires : (t : ℕ) → each-lts.Need-read-head-requires (read-head-reads.Asked, read-head-reads.Learnt, clauses-below t, clauses.Post, descend-below t, descend.Post, close-reads.Asked, close-reads.Learnt) (each-at t) each.Post
 read-head-requires t c κs =

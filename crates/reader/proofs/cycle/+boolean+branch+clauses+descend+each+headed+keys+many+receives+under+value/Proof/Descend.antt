@@ -8,7 +8,7 @@ use Rattle.references.specs.Promises.{environmentOf}
 use Prim.Native.Nat.{ℕ}
 use native.Mathlib.Omega.{arith}
 use borrow.Author.Needs.{needs}
-use Rattle.reader.proofs.cycle.+boolean+branch+clauses+descend+each+headed+keys+many+operands+receives+under+value.Proof.Measures.{boolean-below, descend-at, under-below, value-below}
+use Rattle.reader.proofs.cycle.+boolean+branch+clauses+descend+each+headed+keys+many+receives+under+value.Proof.Measures.{boolean-below, descend-at, under-below, value-below}
 use Rattle.reader.proofs.cycle.boolean.Reads as boolean
 use Rattle.reader.proofs.cycle.descend.Reads as descend
 use Rattle.reader.proofs.cycle.under.Reads as under
@@ -18,7 +18,7 @@ use Rattle.reader.proofs.heads.statement_at.Reads as statement-at-reads
 use Rattle.reader.proofs.heads.value_at.Reads as value-at-reads
 use Rattle.reader.proofs.parts.finish.Reads as finish-reads
 use Rattle.wire.proofs.bytes.byte_at.Reads as byte-at-reads
-use Rattle.reader.proofs.cycle.+boolean+branch+clauses+descend+each+headed+keys+many+operands+receives+under+value.Lts-descend as descend-lts
+use Rattle.reader.proofs.cycle.+boolean+branch+clauses+descend+each+headed+keys+many+receives+under+value.Lts-descend as descend-lts
 
 pub enum-known-from : (t : ℕ) → descend-lts.Need-enum-known-from (statement-at-reads.Asked, statement-at-reads.Learnt, under-below t, under.Post, byte-at-reads.Asked, byte-at-reads.Learnt, finish-reads.Asked, finish-reads.Learnt, boolean-at-reads.Asked, boolean-at-reads.Learnt, boolean-below t, boolean.Post, value-at-reads.Asked, value-at-reads.Learnt, value-below t, value.Post) (descend-at t) descend.Post
 enum-known-from t c = search needs

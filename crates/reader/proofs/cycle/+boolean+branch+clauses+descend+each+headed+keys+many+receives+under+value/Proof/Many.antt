@@ -5,11 +5,11 @@ use Rattle.references.specs.Promises.{environmentOf}
 use Prim.Native.Nat.{ℕ, _-_}
 use native.Mathlib.Omega.{arith}
 use borrow.Author.Needs.{needs}
-use Rattle.reader.proofs.cycle.+boolean+branch+clauses+descend+each+headed+keys+many+operands+receives+under+value.Proof.Measures.{descend-below, many-at, many-below}
+use Rattle.reader.proofs.cycle.+boolean+branch+clauses+descend+each+headed+keys+many+receives+under+value.Proof.Measures.{descend-below, many-at, many-below}
 use Rattle.reader.proofs.cycle.descend.Reads as descend
 use Rattle.reader.proofs.cycle.many.Reads as many
 use Rattle.reader.proofs.heads.ending_after.Reads as ending-after-reads
-use Rattle.reader.proofs.cycle.+boolean+branch+clauses+descend+each+headed+keys+many+operands+receives+under+value.Lts-many as many-lts
+use Rattle.reader.proofs.cycle.+boolean+branch+clauses+descend+each+headed+keys+many+receives+under+value.Lts-many as many-lts
 
 pub ending-after-requires : (t : ℕ) → many-lts.Need-ending-after-requires (ending-after-reads.Asked, ending-after-reads.Learnt, descend-below t, descend.Post, many-below t, many.Post) (many-at t) many.Post
 ending-after-requires t c κs = search needs

@@ -7,12 +7,12 @@ use Rattle.references.specs.Promises.{environmentOf}
 use Prim.Native.Nat.{ℕ}
 use native.Mathlib.Omega.{arith}
 use borrow.Author.Needs.{needs}
-use Rattle.reader.proofs.cycle.+boolean+branch+clauses+descend+each+headed+keys+many+operands+receives+under+value.Proof.Measures.{descend-below, headed-at}
+use Rattle.reader.proofs.cycle.+boolean+branch+clauses+descend+each+headed+keys+many+receives+under+value.Proof.Measures.{descend-below, headed-at}
 use Rattle.reader.proofs.cycle.descend.Reads as descend
 use Rattle.reader.proofs.cycle.headed.Reads as headed
 use Rattle.reader.proofs.opening.read_heading.Reads as read-heading-reads
 use Rattle.reader.proofs.parts.close.Reads as close-reads
-use Rattle.reader.proofs.cycle.+boolean+branch+clauses+descend+each+headed+keys+many+operands+receives+under+value.Lts-headed as headed-lts
+use Rattle.reader.proofs.cycle.+boolean+branch+clauses+descend+each+headed+keys+many+receives+under+value.Lts-headed as headed-lts
 
 pub read-heading-requires : (t : ℕ) → headed-lts.Need-read-heading-requires (read-heading-reads.Asked, read-heading-reads.Learnt, descend-below t, descend.Post, close-reads.Asked, close-reads.Learnt) (headed-at t) headed.Post
 read-heading-requires t c κs =

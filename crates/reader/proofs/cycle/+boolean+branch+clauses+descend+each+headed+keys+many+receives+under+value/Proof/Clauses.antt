@@ -8,14 +8,14 @@ use Rattle.references.specs.Promises.{environmentOf}
 use Prim.Native.Nat.{ℕ}
 use native.Mathlib.Omega.{arith}
 use borrow.Author.Needs.{needs}
-use Rattle.reader.proofs.cycle.+boolean+branch+clauses+descend+each+headed+keys+many+operands+receives+under+value.Proof.Measures.{clauses-at, clauses-below, descend-below, keys-below}
+use Rattle.reader.proofs.cycle.+boolean+branch+clauses+descend+each+headed+keys+many+receives+under+value.Proof.Measures.{clauses-at, clauses-below, descend-below, keys-below}
 use Rattle.reader.proofs.cycle.clauses.Reads as clauses
 use Rattle.reader.proofs.cycle.descend.Reads as descend
 use Rattle.reader.proofs.cycle.keys.Reads as keys
 use Rattle.reader.proofs.heads.clause_after.Reads as clause-after-reads
 use Rattle.reader.proofs.parts.note.Reads as note-reads
 use Rattle.steps.proofs.count_byte.Reads as count-byte-reads
-use Rattle.reader.proofs.cycle.+boolean+branch+clauses+descend+each+headed+keys+many+operands+receives+under+value.Lts-clauses as clauses-lts
+use Rattle.reader.proofs.cycle.+boolean+branch+clauses+descend+each+headed+keys+many+receives+under+value.Lts-clauses as clauses-lts
 
 pub clause-after-requires : (t : ℕ) → clauses-lts.Need-clause-after-requires (clause-after-reads.Asked, clause-after-reads.Learnt, note-reads.Asked, note-reads.Learnt, descend-below t, descend.Post, clauses-below t, clauses.Post, count-byte-reads.Asked, count-byte-reads.Learnt, keys-below t, keys.Post) (clauses-at t) clauses.Post
 clause-after-requires t c κs = search needs

@@ -8,14 +8,14 @@ use Rattle.references.specs.Promises.{environmentOf}
 use Prim.Native.Nat.{ℕ}
 use native.Mathlib.Omega.{arith}
 use borrow.Author.Needs.{needs}
-use Rattle.reader.proofs.cycle.+boolean+branch+clauses+descend+each+headed+keys+many+operands+receives+under+value.Proof.Measures.{descend-below, receives-at, receives-below}
+use Rattle.reader.proofs.cycle.+boolean+branch+clauses+descend+each+headed+keys+many+receives+under+value.Proof.Measures.{descend-below, receives-at, receives-below}
 use Rattle.reader.proofs.cycle.descend.Reads as descend
 use Rattle.reader.proofs.cycle.receives.Reads as receives
 use Rattle.reader.proofs.heads.ending_after.Reads as ending-after-reads
 use Rattle.reader.proofs.parts.Selected.with.Reads as with-reads
 use Rattle.reader.proofs.parts.finish.Reads as finish-reads
 use Rattle.reader.proofs.parts.receive_after.Reads as receive-after-reads
-use Rattle.reader.proofs.cycle.+boolean+branch+clauses+descend+each+headed+keys+many+operands+receives+under+value.Lts-receives as receives-lts
+use Rattle.reader.proofs.cycle.+boolean+branch+clauses+descend+each+headed+keys+many+receives+under+value.Lts-receives as receives-lts
 
 pub sub-receive-after : (t : ℕ) → receives-lts.Need-sub-receive-after (receive-after-reads.Asked, receive-after-reads.Learnt, descend-below t, descend.Post, finish-reads.Asked, finish-reads.Learnt, ending-after-reads.Asked, ending-after-reads.Learnt, with-reads.Asked, with-reads.Learnt, receives-below t, receives.Post) (receives-at t) receives.Post
 sub-receive-after t c =

@@ -8,12 +8,12 @@ use Rattle.references.specs.Promises.{environmentOf}
 use Prim.Native.Nat.{ℕ}
 use native.Mathlib.Omega.{arith}
 use borrow.Author.Needs.{needs}
-use Rattle.reader.proofs.cycle.+boolean+branch+clauses+descend+each+headed+keys+many+operands+receives+under+value.Proof.Measures.{branch-at, descend-below}
+use Rattle.reader.proofs.cycle.+boolean+branch+clauses+descend+each+headed+keys+many+receives+under+value.Proof.Measures.{branch-at, descend-below}
 use Rattle.reader.proofs.cycle.branch.Reads as branch
 use Rattle.reader.proofs.cycle.descend.Reads as descend
 use Rattle.reader.proofs.heads.ending_after.Reads as ending-after-reads
 use Rattle.reader.proofs.parts.note.Reads as note-reads
-use Rattle.reader.proofs.cycle.+boolean+branch+clauses+descend+each+headed+keys+many+operands+receives+under+value.Lts-branch as branch-lts
+use Rattle.reader.proofs.cycle.+boolean+branch+clauses+descend+each+headed+keys+many+receives+under+value.Lts-branch as branch-lts
 
 pub note-requires : (t : ℕ) → branch-lts.Need-note-requires (note-reads.Asked, note-reads.Learnt, descend-below t, descend.Post, ending-after-reads.Asked, ending-after-reads.Learnt) (branch-at t) branch.Post
 note-requires t c κs =

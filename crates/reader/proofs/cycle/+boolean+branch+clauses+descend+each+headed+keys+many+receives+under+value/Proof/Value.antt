@@ -6,14 +6,14 @@ use Rattle.references.specs.Promises.{environmentOf}
 use Prim.Native.Nat.{ℕ}
 use native.Mathlib.Omega.{arith}
 use borrow.Author.Needs.{needs}
-use Rattle.reader.proofs.cycle.+boolean+branch+clauses+descend+each+headed+keys+many+operands+receives+under+value.Proof.Measures.{descend-below, value-at}
+use Rattle.reader.proofs.cycle.+boolean+branch+clauses+descend+each+headed+keys+many+receives+under+value.Proof.Measures.{descend-below, value-at}
 use Rattle.reader.proofs.cycle.descend.Reads as descend
 use Rattle.reader.proofs.cycle.value.Reads as value
 use Rattle.reader.proofs.fits.arithmetic.Reads as arithmetic-reads
 use Rattle.reader.proofs.fits.negation.Reads as negation-reads
 use Rattle.references.proofs.literal.read_literal.Reads as read-literal-reads
 use Rattle.references.proofs.reference.read_reference.Reads as read-reference-reads
-use Rattle.reader.proofs.cycle.+boolean+branch+clauses+descend+each+headed+keys+many+operands+receives+under+value.Lts-value as value-lts
+use Rattle.reader.proofs.cycle.+boolean+branch+clauses+descend+each+headed+keys+many+receives+under+value.Lts-value as value-lts
 
 pub enum-told : (t : ℕ) → value-lts.Need-enum-told (read-literal-reads.Asked, read-literal-reads.Learnt, read-reference-reads.Asked, read-reference-reads.Learnt, descend-below t, descend.Post, arithmetic-reads.Asked, arithmetic-reads.Learnt, negation-reads.Asked, negation-reads.Learnt) (value-at t) value.Post
 enum-told t c = search needs

@@ -10,7 +10,6 @@ use Rattle.reader.proofs.cycle.each.Reads as each
 use Rattle.reader.proofs.cycle.headed.Reads as headed
 use Rattle.reader.proofs.cycle.keys.Reads as keys
 use Rattle.reader.proofs.cycle.many.Reads as many
-use Rattle.reader.proofs.cycle.operands.Reads as operands
 use Rattle.reader.proofs.cycle.receives.Reads as receives
 use Rattle.reader.proofs.cycle.under.Reads as under
 use Rattle.reader.proofs.cycle.value.Reads as value
@@ -22,7 +21,6 @@ use Rattle.reader.proofs.cycle.each.Kinds as each-kinds
 use Rattle.reader.proofs.cycle.headed.Kinds as headed-kinds
 use Rattle.reader.proofs.cycle.keys.Kinds as keys-kinds
 use Rattle.reader.proofs.cycle.many.Kinds as many-kinds
-use Rattle.reader.proofs.cycle.operands.Kinds as operands-kinds
 use Rattle.reader.proofs.cycle.receives.Kinds as receives-kinds
 use Rattle.reader.proofs.cycle.under.Kinds as under-kinds
 use Rattle.reader.proofs.cycle.value.Kinds as value-kinds
@@ -50,9 +48,6 @@ abbrev pub μ-keys : Measures 6 keys-kinds.ps ℕ
 
 abbrev pub μ-many : Measures 6 many-kinds.ps ℕ
 μ-many κs a = (a .1 .1 .1 .1 .1 .1 .1 .1 .1 .0) * 1024 + 1 + (a .1 .1 .1 .1 .1 .1 .1 .1 .1 .1 .0)
-
-abbrev pub μ-operands : Measures 6 operands-kinds.ps ℕ
-μ-operands κs a = (a .1 .1 .1 .1 .1 .1 .1 .1 .1 .1 .1 .0) * 1024 + 1010
 
 abbrev pub μ-receives : Measures 6 receives-kinds.ps ℕ
 μ-receives κs a = (a .1 .1 .1 .1 .1 .1 .1 .1 .1 .0) * 1024 + 1 + (a .1 .1 .1 .1 .1 .1 .1 .1 .1 .1 .0)
@@ -110,12 +105,6 @@ many-at t = and 6 many-kinds.ps (is 6 many-kinds.ps μ-many t) many.Pre
 
 abbrev pub many-below : ℕ → In 6 many-kinds.ps
 many-below t = and 6 many-kinds.ps (falls 6 many-kinds.ps _<_ μ-many t) many.Pre
-
-abbrev pub operands-at : ℕ → In 6 operands-kinds.ps
-operands-at t = and 6 operands-kinds.ps (is 6 operands-kinds.ps μ-operands t) operands.Pre
-
-abbrev pub operands-below : ℕ → In 6 operands-kinds.ps
-operands-below t = and 6 operands-kinds.ps (falls 6 operands-kinds.ps _<_ μ-operands t) operands.Pre
 
 abbrev pub receives-at : ℕ → In 6 receives-kinds.ps
 receives-at t = and 6 receives-kinds.ps (is 6 receives-kinds.ps μ-receives t) receives.Pre

@@ -9,12 +9,12 @@ use Rattle.references.specs.Promises.{environmentOf}
 use Prim.Native.Nat.{ℕ}
 use native.Mathlib.Omega.{arith}
 use borrow.Author.Needs.{needs}
-use Rattle.reader.proofs.cycle.+boolean+branch+clauses+descend+each+headed+keys+many+operands+receives+under+value.Proof.Measures.{descend-below, keys-at, keys-below}
+use Rattle.reader.proofs.cycle.+boolean+branch+clauses+descend+each+headed+keys+many+receives+under+value.Proof.Measures.{descend-below, keys-at, keys-below}
 use Rattle.reader.proofs.cycle.descend.Reads as descend
 use Rattle.reader.proofs.cycle.keys.Reads as keys
 use Rattle.reader.proofs.fits.plain.Reads as plain-reads
 use Rattle.reader.proofs.heads.direction_after.Reads as direction-after-reads
-use Rattle.reader.proofs.cycle.+boolean+branch+clauses+descend+each+headed+keys+many+operands+receives+under+value.Lts-keys as keys-lts
+use Rattle.reader.proofs.cycle.+boolean+branch+clauses+descend+each+headed+keys+many+receives+under+value.Lts-keys as keys-lts
 
 pub plain-requires : (t : ℕ) → keys-lts.Need-plain-requires (plain-reads.Asked, plain-reads.Learnt, direction-after-reads.Asked, direction-after-reads.Learnt, descend-below t, descend.Post, keys-below t, keys.Post) (keys-at t) keys.Post
 plain-requires t c κs = search needs

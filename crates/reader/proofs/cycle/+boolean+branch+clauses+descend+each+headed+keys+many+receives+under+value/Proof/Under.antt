@@ -11,7 +11,7 @@ use Rattle.references.specs.Promises.{environmentOf}
 use Prim.Native.Nat.{ℕ}
 use native.Mathlib.Omega.{arith}
 use borrow.Author.Needs.{needs}
-use Rattle.reader.proofs.cycle.+boolean+branch+clauses+descend+each+headed+keys+many+operands+receives+under+value.Proof.Measures.{branch-below, descend-below, each-below, headed-below, many-below, receives-below, under-at}
+use Rattle.reader.proofs.cycle.+boolean+branch+clauses+descend+each+headed+keys+many+receives+under+value.Proof.Measures.{branch-below, descend-below, each-below, headed-below, many-below, receives-below, under-at}
 use Rattle.reader.proofs.cycle.branch.Reads as branch
 use Rattle.reader.proofs.cycle.descend.Reads as descend
 use Rattle.reader.proofs.cycle.each.Reads as each
@@ -23,7 +23,7 @@ use Rattle.reader.proofs.fits.alike.Reads as alike-reads
 use Rattle.reader.proofs.parts.erase.Reads as erase-reads
 use Rattle.reader.proofs.parts.leave.Reads as leave-reads
 use Rattle.reader.proofs.parts.target_after.Reads as target-after-reads
-use Rattle.reader.proofs.cycle.+boolean+branch+clauses+descend+each+headed+keys+many+operands+receives+under+value.Lts-under as under-lts
+use Rattle.reader.proofs.cycle.+boolean+branch+clauses+descend+each+headed+keys+many+receives+under+value.Lts-under as under-lts
 
 pub enum-told : (t : ℕ) → under-lts.Need-enum-told (descend-below t, descend.Post, target-after-reads.Asked, target-after-reads.Learnt, alike-reads.Asked, alike-reads.Learnt, many-below t, many.Post, erase-reads.Asked, erase-reads.Learnt, each-below t, each.Post, leave-reads.Asked, leave-reads.Learnt, branch-below t, branch.Post, receives-below t, receives.Post, headed-below t, headed.Post) (under-at t) under.Post
 enum-told t c = search needs
