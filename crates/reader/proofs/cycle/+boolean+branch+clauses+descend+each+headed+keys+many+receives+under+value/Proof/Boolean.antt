@@ -50,7 +50,8 @@ returns t c =
     let descend′ = c .before .before .before .before .before .before .before .before .descend in
     let if1′ = c .before .if1 in
     let boolean-answer′ = c .boolean-answer in
-    boolean-kept (environmentOf (args′ .dictionary .now) (args′ .parameters .now) (args′ .messages)) (scopeOf (args′ .dictionary .now) (args′ .scope)) (args′ .at)
+    boolean-kept (environmentOf (args′ .dictionary .now) (args′ .parameters .now) (args′ .messages))
+    (scopeOf (args′ .dictionary .now) (args′ .scope)) (args′ .at)
     (args′ .request .now) (args′ .c) (args′ .levels) (pre′ .1 .deep) (args′ .k) _ _ _ (operand-count′ .ensures) (operand-part′ .ensures) (record {
       single = λ e. descend′ .ensures;
       double = λ e. absurd (omega (arith, e, if1′ .taken));
@@ -66,8 +67,14 @@ pub descend-requires-2 : (t : ℕ) → boolean-lts.Need-descend-requires-2 (oper
 descend-requires-2 t c κs =
     let pre′ = c .before .before .before .before .before .before .before .before .before .before .before .before .before .before .before .before .before .before .before .before .before .before .pre in
     let operand-part′ = c .before .before .before .before .before .before .before .before .before .before .before .before .before .before .before .operand-part in
-    let descend′ = c .before .before .before .before .before .before .before .before .before .before .descend in
-    (omega (arith, pre′ .0, pre′ .1 .deep), (given-descended (operand-part′ .result) _ _ _ _ _ _ _ _ (given-next _ (pre′ .1 .given) (omega arith)) (descend′ .ensures), omega arith))
+    let descend′ = c .before .before .before .before .before .before .before .before .before .before .descend in (
+      omega (arith, pre′ .0, pre′ .1 .deep),
+      (
+        given-descended (operand-part′ .result) _ _ _ _ _ _ _ _
+            (given-next _ (pre′ .1 .given) (omega arith)) (descend′ .ensures),
+        omega arith,
+      ),
+    )
 
 pub boolean-answer-requires-2 : (t : ℕ) → boolean-lts.Need-boolean-answer-requires-2 (operand-part-reads.Asked, operand-part-reads.Learnt, operand-count-reads.Asked, operand-count-reads.Learnt, descend-below t, descend.Post, boolean-answer-reads.Asked, boolean-answer-reads.Learnt) (boolean-at t) boolean.Post
 boolean-answer-requires-2 t c κs = search needs
@@ -92,7 +99,8 @@ returns-2 t c =
     let descend2′ = c .before .before .before .before .before .before .before .before .descend2 in
     let if2′ = c .before .if2 in
     let boolean-answer2′ = c .boolean-answer2 in
-    boolean-kept (environmentOf (args′ .dictionary .now) (args′ .parameters .now) (args′ .messages)) (scopeOf (args′ .dictionary .now) (args′ .scope)) (args′ .at)
+    boolean-kept (environmentOf (args′ .dictionary .now) (args′ .parameters .now) (args′ .messages))
+    (scopeOf (args′ .dictionary .now) (args′ .scope)) (args′ .at)
     (args′ .request .now) (args′ .c) (args′ .levels) (pre′ .1 .deep) (args′ .k) _ _ _ (operand-count′ .ensures) (operand-part′ .ensures) (record {
       single = λ e. absurd (if1′ .left e);
       double = λ e. record { between = _; one = descend′ .ensures; two = descend2′ .ensures };
@@ -109,8 +117,15 @@ descend-requires-3 t c κs =
     let pre′ = c .before .before .before .before .before .before .before .before .before .before .before .before .before .before .before .before .before .before .before .before .before .before .before .before .before .before .before .before .before .before .before .before .before .pre in
     let operand-part′ = c .before .before .before .before .before .before .before .before .before .before .before .before .before .before .before .before .before .before .before .before .before .before .before .before .before .before .operand-part in
     let descend′ = c .before .before .before .before .before .before .before .before .before .before .before .before .before .before .before .before .before .before .before .before .before .descend in
-    let descend2′ = c .before .before .before .before .before .before .before .before .before .before .descend2 in
-    (omega (arith, pre′ .0, pre′ .1 .deep), (given-descended (operand-part′ .result) _ _ _ _ _ _ _ _ (given-descended (operand-part′ .result) _ _ _ _ _ _ _ _ (given-next _ (pre′ .1 .given) (omega arith)) (descend′ .ensures)) (descend2′ .ensures), omega arith))
+    let descend2′ = c .before .before .before .before .before .before .before .before .before .before .descend2 in (
+      omega (arith, pre′ .0, pre′ .1 .deep),
+      (
+        given-descended (operand-part′ .result) _ _ _ _ _ _ _ _
+            (given-descended (operand-part′ .result) _ _ _ _ _ _ _ _ (given-next _ (pre′ .1 .given) (omega arith)) (descend′ .ensures))
+            (descend2′ .ensures),
+        omega arith,
+      ),
+    )
 
 pub boolean-answer-requires-3 : (t : ℕ) → boolean-lts.Need-boolean-answer-requires-3 (operand-part-reads.Asked, operand-part-reads.Learnt, operand-count-reads.Asked, operand-count-reads.Learnt, descend-below t, descend.Post, boolean-answer-reads.Asked, boolean-answer-reads.Learnt) (boolean-at t) boolean.Post
 boolean-answer-requires-3 t c κs = search needs
@@ -148,7 +163,8 @@ returns-3 t c =
     let descend2′ = c .before .before .before .before .before .before .before .before .before .before .before .before .before .before .before .before .before .before .descend2 in
     let descend3′ = c .before .before .before .before .before .before .before .descend3 in
     let boolean-answer3′ = c .boolean-answer3 in
-    boolean-kept (environmentOf (args′ .dictionary .now) (args′ .parameters .now) (args′ .messages)) (scopeOf (args′ .dictionary .now) (args′ .scope)) (args′ .at)
+    boolean-kept (environmentOf (args′ .dictionary .now) (args′ .parameters .now) (args′ .messages))
+    (scopeOf (args′ .dictionary .now) (args′ .scope)) (args′ .at)
     (args′ .request .now) (args′ .c) (args′ .levels) (pre′ .1 .deep) (args′ .k) _ _ _ (operand-count′ .ensures) (operand-part′ .ensures) (record {
       single = λ e. absurd (if1′ .left e);
       double = λ e. absurd (if2′ .left e);

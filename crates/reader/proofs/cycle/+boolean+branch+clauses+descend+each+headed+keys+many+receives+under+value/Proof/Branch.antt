@@ -29,8 +29,14 @@ pub descend-requires : (t : ℕ) → branch-lts.Need-descend-requires (note-read
 descend-requires t c κs =
     let pre′ = c .before .before .before .before .before .before .before .before .before .before .before .before .before .pre in
     let args′ = c .before .before .before .before .before .before .before .before .before .before .before .before .before .args in
-    let note′ = c .before .before .before .before .before .note in
-    (omega (arith, pre′ .0, pre′ .1 .deep), ((given-noted {l′ = args′ .levels - 1} _ (pre′ .1 .given) (inside-noted (pre′ .1)) (note′ .ensures .0) (omega arith)), omega arith))
+    let note′ = c .before .before .before .before .before .note in (
+      omega (arith, pre′ .0, pre′ .1 .deep),
+      (
+        (given-noted {l′ = args′ .levels - 1} _ (pre′ .1 .given) (inside-noted (pre′ .1))
+            (note′ .ensures .0) (omega arith)),
+        omega arith,
+      ),
+    )
 
 pub sub-descend-2 : (t : ℕ) → branch-lts.Need-sub-descend-2 (note-reads.Asked, note-reads.Learnt, descend-below t, descend.Post, ending-after-reads.Asked, ending-after-reads.Learnt) (branch-at t) branch.Post
 sub-descend-2 t c =
@@ -42,8 +48,15 @@ descend-requires-2 t c κs =
     let pre′ = c .before .before .before .before .before .before .before .before .before .before .before .before .before .before .before .before .before .before .before .before .before .before .before .pre in
     let args′ = c .before .before .before .before .before .before .before .before .before .before .before .before .before .before .before .before .before .before .before .before .before .before .before .args in
     let note′ = c .before .before .before .before .before .before .before .before .before .before .before .before .before .before .before .note in
-    let descend′ = c .before .before .before .before .before .before .before .before .before .descend in
-    (omega (arith, pre′ .0, pre′ .1 .deep), ((given-again (given-noted {l′ = args′ .levels - 1} _ (pre′ .1 .given) (inside-noted (pre′ .1)) (note′ .ensures .0) (omega arith)) (descend′ .ensures) (boolean-onward (args′ .request .now) (pre′ .1 .given .octets) _ _ _)), pre′ .1 .given .ready .statements-few))
+    let descend′ = c .before .before .before .before .before .before .before .before .before .descend in (
+      omega (arith, pre′ .0, pre′ .1 .deep),
+      (
+        (given-again (given-noted {l′ = args′ .levels - 1} _ (pre′ .1 .given) (inside-noted (pre′ .1))
+            (note′ .ensures .0) (omega arith)) (descend′ .ensures) (boolean-onward (args′ .request .now) (pre′ .1 .given .octets) _ _ _)),
+        pre′ .1
+            .given .ready .statements-few,
+      ),
+    )
 
 pub ending-after-requires : (t : ℕ) → branch-lts.Need-ending-after-requires (note-reads.Asked, note-reads.Learnt, descend-below t, descend.Post, ending-after-reads.Asked, ending-after-reads.Learnt) (branch-at t) branch.Post
 ending-after-requires t c κs = search needs
@@ -67,8 +80,19 @@ descend-requires-3 t c κs =
     let note′ = c .before .before .before .before .before .before .before .before .before .before .before .before .before .before .before .before .before .before .before .before .before .before .before .before .before .before .before .before .before .note in
     let descend′ = c .before .before .before .before .before .before .before .before .before .before .before .before .before .before .before .before .before .before .before .before .before .before .before .descend in
     let descend2′ = c .before .before .before .before .before .before .before .before .before .before .before .before .before .descend2 in
-    let after2′ = c .before .before .before .before .after2 in
-    (omega (arith, pre′ .0, pre′ .1 .deep), (given-next _ (goes-given (args′ .request .now) (pre′ .1 .given .octets) (environmentOf (args′ .dictionary .now) (args′ .parameters .now) (args′ .messages)) (scopeOf (args′ .dictionary .now) (args′ .scope)) 0 0 0 _ (ending-after′ .ensures) (given-again (given-again (given-noted {l′ = args′ .levels - 1} _ (pre′ .1 .given) (inside-noted (pre′ .1)) (note′ .ensures .0) (omega arith)) (descend′ .ensures) (boolean-onward (args′ .request .now) (pre′ .1 .given .octets) _ _ _)) (descend2′ .ensures) (statement-onward (args′ .request .now) (pre′ .1 .given .octets) _ _ _)) (after2′ .given .1)) (omega arith), pre′ .1 .given .ready .statements-few))
+    let after2′ = c .before .before .before .before .after2 in (
+      omega (arith, pre′ .0, pre′ .1 .deep),
+      (
+        given-next _ (goes-given (args′ .request .now) (pre′ .1 .given .octets)
+            (environmentOf (args′ .dictionary .now) (args′ .parameters .now) (args′ .messages)) (scopeOf (args′ .dictionary .now) (args′ .scope)) 0
+            0 0 _ (ending-after′ .ensures) (given-again (given-again (given-noted {l′ = args′ .levels - 1} _ (pre′ .1 .given)
+            (inside-noted (pre′ .1)) (note′ .ensures .0) (omega arith)) (descend′ .ensures)
+            (boolean-onward (args′ .request .now) (pre′ .1 .given .octets) _ _ _)) (descend2′ .ensures)
+            (statement-onward (args′ .request .now) (pre′ .1 .given .octets) _ _ _)) (after2′ .given .1)) (omega arith),
+        pre′ .1 .given .ready
+            .statements-few,
+      ),
+    )
 
 pub enum-known-r : (t : ℕ) → branch-lts.Need-enum-known-r (note-reads.Asked, note-reads.Learnt, descend-below t, descend.Post, ending-after-reads.Asked, ending-after-reads.Learnt) (branch-at t) branch.Post
 enum-known-r t c = search needs
@@ -85,13 +109,19 @@ same-length-3 t c = search needs
 pub returns : (t : ℕ) → branch-lts.Need-returns (note-reads.Asked, note-reads.Learnt, descend-below t, descend.Post, ending-after-reads.Asked, ending-after-reads.Learnt) (branch-at t) branch.Post
 returns t c =
     let args′ = c .before .before .before .before .before .before .before .before .before .before .before .before .before .before .before .before .before .before .before .before .before .before .before .before .before .before .before .before .before .before .before .before .before .before .args in
+    let scope′ = scopeOf (args′ .dictionary .now) (args′ .scope) in
+    let around′ = environmentOf (args′ .dictionary .now) (args′ .parameters .now) (args′ .messages) in
     let pre′ = c .before .before .before .before .before .before .before .before .before .before .before .before .before .before .before .before .before .before .before .before .before .before .before .before .before .before .before .before .before .before .before .before .before .before .pre in
     let note′ = c .before .before .before .before .before .before .before .before .before .before .before .before .before .before .before .before .before .before .before .before .before .before .before .before .before .before .note in
     let descend′ = c .before .before .before .before .before .before .before .before .before .before .before .before .before .before .before .before .before .before .before .before .descend in
     let descend2′ = c .before .before .before .before .before .before .before .before .before .before .descend2 in
     let ending-after′ = c .before .before .before .ending-after in
     let after′ = c .before .after in
-    if-done (args′ .request .now) (pre′ .1 .given .octets) (environmentOf (args′ .dictionary .now) (args′ .parameters .now) (args′ .messages)) (scopeOf (args′ .dictionary .now) (args′ .scope)) (args′ .levels) (args′ .at) (args′ .c) (pre′ .1 .here) (if-head (args′ .request .now) (pre′ .1 .given .octets) (environmentOf (args′ .dictionary .now) (args′ .parameters .now) (args′ .messages)) (scopeOf (args′ .dictionary .now) (args′ .scope)) (args′ .levels) (args′ .at) (args′ .c) (pre′ .1 .here) (note′ .ensures .0) (note′ .ensures .1) (booleans-below (environmentOf (args′ .dictionary .now) (args′ .parameters .now) (args′ .messages)) (scopeOf (args′ .dictionary .now) (args′ .scope)) (args′ .request .now) (args′ .levels) (pre′ .1 .deep) 0 (descend′ .ensures)) (statements-below (environmentOf (args′ .dictionary .now) (args′ .parameters .now) (args′ .messages)) (scopeOf (args′ .dictionary .now) (args′ .scope)) (args′ .request .now) (args′ .levels) (pre′ .1 .deep) (args′ .c .statements) (descend2′ .ensures))) (ending-after′ .ensures) (after′ .given .1)
+    if-done (args′ .request .now) (pre′ .1 .given .octets) around′ scope′ (args′ .levels) (args′ .at) (args′ .c) (pre′ .1 .here)
+    (if-head (args′ .request .now) (pre′ .1 .given .octets) around′ scope′ (args′ .levels) (args′ .at) (args′ .c) (pre′ .1 .here)
+    (note′ .ensures .0) (note′ .ensures .1) (booleans-below around′ scope′ (args′ .request .now) (args′ .levels) (pre′ .1 .deep) 0
+    (descend′ .ensures)) (statements-below around′ scope′ (args′ .request .now) (args′ .levels) (pre′ .1 .deep) (args′ .c .statements)
+    (descend2′ .ensures))) (ending-after′ .ensures) (after′ .given .1)
 
 pub same-length-4 : (t : ℕ) → branch-lts.Need-same-length-4 (note-reads.Asked, note-reads.Learnt, descend-below t, descend.Post, ending-after-reads.Asked, ending-after-reads.Learnt) (branch-at t) branch.Post
 same-length-4 t c =
@@ -118,6 +148,8 @@ same-length-6 t c =
 pub returns-2 : (t : ℕ) → branch-lts.Need-returns-2 (note-reads.Asked, note-reads.Learnt, descend-below t, descend.Post, ending-after-reads.Asked, ending-after-reads.Learnt) (branch-at t) branch.Post
 returns-2 t c =
     let args′ = c .before .before .before .before .before .before .before .before .before .before .before .before .before .before .before .before .before .before .before .before .before .before .before .before .before .before .before .before .before .before .before .before .before .before .before .before .before .before .before .before .before .before .before .before .args in
+    let scope′ = scopeOf (args′ .dictionary .now) (args′ .scope) in
+    let around′ = environmentOf (args′ .dictionary .now) (args′ .parameters .now) (args′ .messages) in
     let pre′ = c .before .before .before .before .before .before .before .before .before .before .before .before .before .before .before .before .before .before .before .before .before .before .before .before .before .before .before .before .before .before .before .before .before .before .before .before .before .before .before .before .before .before .before .before .pre in
     let note′ = c .before .before .before .before .before .before .before .before .before .before .before .before .before .before .before .before .before .before .before .before .before .before .before .before .before .before .before .before .before .before .before .before .before .before .before .before .note in
     let descend′ = c .before .before .before .before .before .before .before .before .before .before .before .before .before .before .before .before .before .before .before .before .before .before .before .before .before .before .before .before .before .before .descend in
@@ -125,7 +157,12 @@ returns-2 t c =
     let ending-after′ = c .before .before .before .before .before .before .before .before .before .before .before .before .before .ending-after in
     let after2′ = c .before .before .before .before .before .before .before .before .before .before .before .after2 in
     let descend3′ = c .before .before .before .before .before .before .descend3 in
-    if-goes (args′ .request .now) (pre′ .1 .given .octets) (environmentOf (args′ .dictionary .now) (args′ .parameters .now) (args′ .messages)) (scopeOf (args′ .dictionary .now) (args′ .scope)) (args′ .levels) (args′ .at) (args′ .c) (pre′ .1 .here) (if-head (args′ .request .now) (pre′ .1 .given .octets) (environmentOf (args′ .dictionary .now) (args′ .parameters .now) (args′ .messages)) (scopeOf (args′ .dictionary .now) (args′ .scope)) (args′ .levels) (args′ .at) (args′ .c) (pre′ .1 .here) (note′ .ensures .0) (note′ .ensures .1) (booleans-below (environmentOf (args′ .dictionary .now) (args′ .parameters .now) (args′ .messages)) (scopeOf (args′ .dictionary .now) (args′ .scope)) (args′ .request .now) (args′ .levels) (pre′ .1 .deep) 0 (descend′ .ensures)) (statements-below (environmentOf (args′ .dictionary .now) (args′ .parameters .now) (args′ .messages)) (scopeOf (args′ .dictionary .now) (args′ .scope)) (args′ .request .now) (args′ .levels) (pre′ .1 .deep) (args′ .c .statements) (descend2′ .ensures))) (ending-after′ .ensures) (after2′ .given .1) (statements-below (environmentOf (args′ .dictionary .now) (args′ .parameters .now) (args′ .messages)) (scopeOf (args′ .dictionary .now) (args′ .scope)) (args′ .request .now) (args′ .levels) (pre′ .1 .deep) (args′ .c .statements) (descend3′ .ensures))
+    if-goes (args′ .request .now) (pre′ .1 .given .octets) around′ scope′ (args′ .levels) (args′ .at) (args′ .c) (pre′ .1 .here)
+    (if-head (args′ .request .now) (pre′ .1 .given .octets) around′ scope′ (args′ .levels) (args′ .at) (args′ .c) (pre′ .1 .here)
+    (note′ .ensures .0) (note′ .ensures .1) (booleans-below around′ scope′ (args′ .request .now) (args′ .levels) (pre′ .1 .deep) 0
+    (descend′ .ensures)) (statements-below around′ scope′ (args′ .request .now) (args′ .levels) (pre′ .1 .deep) (args′ .c .statements)
+    (descend2′ .ensures))) (ending-after′ .ensures) (after2′ .given .1)
+    (statements-below around′ scope′ (args′ .request .now) (args′ .levels) (pre′ .1 .deep) (args′ .c .statements) (descend3′ .ensures))
 
 pub same-length-7 : (t : ℕ) → branch-lts.Need-same-length-7 (note-reads.Asked, note-reads.Learnt, descend-below t, descend.Post, ending-after-reads.Asked, ending-after-reads.Learnt) (branch-at t) branch.Post
 same-length-7 t c = search needs
@@ -139,10 +176,16 @@ same-length-9 t c = search needs
 pub returns-3 : (t : ℕ) → branch-lts.Need-returns-3 (note-reads.Asked, note-reads.Learnt, descend-below t, descend.Post, ending-after-reads.Asked, ending-after-reads.Learnt) (branch-at t) branch.Post
 returns-3 t c =
     let args′ = c .before .before .before .before .before .before .before .before .before .before .before .before .before .before .before .before .before .before .before .before .before .before .before .before .before .before .before .before .before .before .before .before .before .before .args in
+    let scope′ = scopeOf (args′ .dictionary .now) (args′ .scope) in
+    let around′ = environmentOf (args′ .dictionary .now) (args′ .parameters .now) (args′ .messages) in
     let pre′ = c .before .before .before .before .before .before .before .before .before .before .before .before .before .before .before .before .before .before .before .before .before .before .before .before .before .before .before .before .before .before .before .before .before .before .pre in
     let note′ = c .before .before .before .before .before .before .before .before .before .before .before .before .before .before .before .before .before .before .before .before .before .before .before .before .before .before .note in
     let descend′ = c .before .before .before .before .before .before .before .before .before .before .before .before .before .before .before .before .before .before .before .before .descend in
     let descend2′ = c .before .before .before .before .before .before .before .before .before .before .descend2 in
     let ending-after′ = c .before .before .before .ending-after in
     let r′ = c .before .r in
-    if-stopped (args′ .request .now) (pre′ .1 .given .octets) (environmentOf (args′ .dictionary .now) (args′ .parameters .now) (args′ .messages)) (scopeOf (args′ .dictionary .now) (args′ .scope)) (args′ .levels) (args′ .at) (args′ .c) (pre′ .1 .here) (if-head (args′ .request .now) (pre′ .1 .given .octets) (environmentOf (args′ .dictionary .now) (args′ .parameters .now) (args′ .messages)) (scopeOf (args′ .dictionary .now) (args′ .scope)) (args′ .levels) (args′ .at) (args′ .c) (pre′ .1 .here) (note′ .ensures .0) (note′ .ensures .1) (booleans-below (environmentOf (args′ .dictionary .now) (args′ .parameters .now) (args′ .messages)) (scopeOf (args′ .dictionary .now) (args′ .scope)) (args′ .request .now) (args′ .levels) (pre′ .1 .deep) 0 (descend′ .ensures)) (statements-below (environmentOf (args′ .dictionary .now) (args′ .parameters .now) (args′ .messages)) (scopeOf (args′ .dictionary .now) (args′ .scope)) (args′ .request .now) (args′ .levels) (pre′ .1 .deep) (args′ .c .statements) (descend2′ .ensures))) (ending-after′ .ensures) (r′ .given .1)
+    if-stopped (args′ .request .now) (pre′ .1 .given .octets) around′ scope′ (args′ .levels) (args′ .at) (args′ .c) (pre′ .1 .here)
+    (if-head (args′ .request .now) (pre′ .1 .given .octets) around′ scope′ (args′ .levels) (args′ .at) (args′ .c) (pre′ .1 .here)
+    (note′ .ensures .0) (note′ .ensures .1) (booleans-below around′ scope′ (args′ .request .now) (args′ .levels) (pre′ .1 .deep) 0
+    (descend′ .ensures)) (statements-below around′ scope′ (args′ .request .now) (args′ .levels) (pre′ .1 .deep) (args′ .c .statements)
+    (descend2′ .ensures))) (ending-after′ .ensures) (r′ .given .1)

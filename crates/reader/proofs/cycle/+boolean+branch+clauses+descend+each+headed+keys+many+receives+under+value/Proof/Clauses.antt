@@ -31,8 +31,11 @@ note-requires t c κs =
     let args′ = c .before .before .before .before .before .before .before .before .before .before .before .before .before .args in
     let pre′ = c .before .before .before .before .before .before .before .before .before .before .before .before .before .pre in
     let clause-after′ = c .before .before .before .before .before .before .clause-after in
-    let k′ = c .before .before .before .before .k in
-    ((clause-given (args′ .most) (args′ .such) (args′ .sorted) (pre′ .1 .0) (clause-after′ .ensures) (k′ .given .1) .short), omega (arith, (clause-given (args′ .most) (args′ .such) (args′ .sorted) (pre′ .1 .0) (clause-after′ .ensures) (k′ .given .1) .noted)))
+    let k′ = c .before .before .before .before .k in (
+      (clause-given (args′ .most) (args′ .such) (args′ .sorted) (pre′ .1 .0) (clause-after′ .ensures) (k′ .given .1) .short),
+      omega
+          (arith, (clause-given (args′ .most) (args′ .such) (args′ .sorted) (pre′ .1 .0) (clause-after′ .ensures) (k′ .given .1) .noted)),
+    )
 
 pub sub-descend : (t : ℕ) → clauses-lts.Need-sub-descend (clause-after-reads.Asked, clause-after-reads.Learnt, note-reads.Asked, note-reads.Learnt, descend-below t, descend.Post, clauses-below t, clauses.Post, count-byte-reads.Asked, count-byte-reads.Learnt, keys-below t, keys.Post) (clauses-at t) clauses.Post
 sub-descend t c =
@@ -45,8 +48,15 @@ descend-requires t c κs =
     let args′ = c .before .before .before .before .before .before .before .before .before .before .before .before .before .before .before .before .before .before .before .args in
     let clause-after′ = c .before .before .before .before .before .before .before .before .before .before .before .before .clause-after in
     let k′ = c .before .before .before .before .before .before .before .before .before .before .k in
-    let note′ = c .before .before .before .before .before .note in
-    (omega (arith, pre′ .0, pre′ .1 .1 .0), (given-noted _ (clause-given (args′ .most) (args′ .such) (args′ .sorted) (pre′ .1 .0) (clause-after′ .ensures) (k′ .given .1) .given) (clause-given (args′ .most) (args′ .such) (args′ .sorted) (pre′ .1 .0) (clause-after′ .ensures) (k′ .given .1) .noted) (note′ .ensures .0) (omega arith), omega arith))
+    let note′ = c .before .before .before .before .before .note in (
+      omega (arith, pre′ .0, pre′ .1 .1 .0),
+      (
+        given-noted _ (clause-given (args′ .most) (args′ .such) (args′ .sorted) (pre′ .1 .0)
+            (clause-after′ .ensures) (k′ .given .1) .given) (clause-given (args′ .most) (args′ .such) (args′ .sorted) (pre′ .1 .0)
+            (clause-after′ .ensures) (k′ .given .1) .noted) (note′ .ensures .0) (omega arith),
+        omega arith,
+      ),
+    )
 
 pub sub-clauses : (t : ℕ) → clauses-lts.Need-sub-clauses (clause-after-reads.Asked, clause-after-reads.Learnt, note-reads.Asked, note-reads.Learnt, descend-below t, descend.Post, clauses-below t, clauses.Post, count-byte-reads.Asked, count-byte-reads.Learnt, keys-below t, keys.Post) (clauses-at t) clauses.Post
 sub-clauses t c =
@@ -63,8 +73,22 @@ clauses-requires t c κs =
     let clause-after′ = c .before .before .before .before .before .before .before .before .before .before .before .before .before .before .before .before .before .before .before .before .before .before .clause-after in
     let k′ = c .before .before .before .before .before .before .before .before .before .before .before .before .before .before .before .before .before .before .before .before .k in
     let note′ = c .before .before .before .before .before .before .before .before .before .before .before .before .before .before .before .note in
-    let descend′ = c .before .before .before .before .before .before .before .before .before .descend in
-    (omega (arith, pre′ .0, (clause-given (args′ .most) (args′ .such) (args′ .sorted) (pre′ .1 .0) (clause-after′ .ensures) (k′ .given .1) .some)), (given-again (given-noted _ (clause-given (args′ .most) (args′ .such) (args′ .sorted) (pre′ .1 .0) (clause-after′ .ensures) (k′ .given .1) .given) (clause-given (args′ .most) (args′ .such) (args′ .sorted) (pre′ .1 .0) (clause-after′ .ensures) (k′ .given .1) .noted) (note′ .ensures .0) (omega arith)) (booleans-below (environmentOf (args′ .dictionary .now) (args′ .parameters .now) (args′ .messages)) (scopeOf (args′ .dictionary .now) (args′ .scope)) (args′ .request .now) (args′ .levels) (pre′ .1 .1 .0) 0 (descend′ .ensures)) (boolean-onward (args′ .request .now) (pre′ .1 .0 .octets) _ _ _), (pre′ .1 .1 .0, omega (arith, pre′ .1 .1 .1))))
+    let descend′ = c .before .before .before .before .before .before .before .before .before .descend in (
+      omega (
+        arith,
+        pre′ .0,
+        (clause-given (args′ .most) (args′ .such) (args′ .sorted) (pre′ .1 .0) (clause-after′ .ensures) (k′ .given .1)
+            .some),
+      ),
+      (
+        given-again (given-noted _ (clause-given (args′ .most) (args′ .such) (args′ .sorted) (pre′ .1 .0) (clause-after′ .ensures)
+            (k′ .given .1) .given) (clause-given (args′ .most) (args′ .such) (args′ .sorted) (pre′ .1 .0) (clause-after′ .ensures) (k′ .given .1)
+            .noted) (note′ .ensures .0) (omega arith)) (booleans-below (environmentOf (args′ .dictionary .now) (args′ .parameters .now)
+            (args′ .messages)) (scopeOf (args′ .dictionary .now) (args′ .scope)) (args′ .request .now) (args′ .levels) (pre′ .1 .1 .0) 0
+            (descend′ .ensures)) (boolean-onward (args′ .request .now) (pre′ .1 .0 .octets) _ _ _),
+        (pre′ .1 .1 .0, omega (arith, pre′ .1 .1 .1)),
+      ),
+    )
 
 pub enum-told-2 : (t : ℕ) → clauses-lts.Need-enum-told-2 (clause-after-reads.Asked, clause-after-reads.Learnt, note-reads.Asked, note-reads.Learnt, descend-below t, descend.Post, clauses-below t, clauses.Post, count-byte-reads.Asked, count-byte-reads.Learnt, keys-below t, keys.Post) (clauses-at t) clauses.Post
 enum-told-2 t c = search needs
@@ -85,8 +109,24 @@ keys-requires t c κs =
     let clause-after′ = c .before .before .before .before .before .before .before .before .before .before .before .before .clause-after in
     let k′ = c .before .before .before .before .before .before .before .before .before .before .k in
     let count-byte′ = c .before .before .before .before .before .before .count-byte in
-    let n′ = c .before .before .before .before .n in
-    (omega (arith, pre′ .0, (count-given (clause-given (args′ .most) (args′ .such) (args′ .sorted) (pre′ .1 .0) (clause-after′ .ensures) (k′ .given .1) .given) (count-byte′ .ensures) (n′ .given .1) .few)), ((count-given (clause-given (args′ .most) (args′ .such) (args′ .sorted) (pre′ .1 .0) (clause-after′ .ensures) (k′ .given .1) .given) (count-byte′ .ensures) (n′ .given .1) .given), (pre′ .1 .1 .0, (count-given (clause-given (args′ .most) (args′ .such) (args′ .sorted) (pre′ .1 .0) (clause-after′ .ensures) (k′ .given .1) .given) (count-byte′ .ensures) (n′ .given .1) .few))))
+    let n′ = c .before .before .before .before .n in (
+      omega (
+        arith,
+        pre′ .0,
+        (count-given (clause-given (args′ .most) (args′ .such) (args′ .sorted) (pre′ .1 .0) (clause-after′ .ensures)
+            (k′ .given .1) .given) (count-byte′ .ensures) (n′ .given .1) .few),
+      ),
+      (
+        (count-given (clause-given (args′ .most) (args′ .such) (args′ .sorted) (pre′ .1 .0) (clause-after′ .ensures) (k′ .given .1) .given)
+            (count-byte′ .ensures) (n′ .given .1) .given),
+        (
+          pre′ .1 .1 .0,
+          (count-given
+              (clause-given (args′ .most) (args′ .such) (args′ .sorted) (pre′ .1 .0) (clause-after′ .ensures) (k′ .given .1) .given)
+              (count-byte′ .ensures) (n′ .given .1) .few),
+        ),
+      ),
+    )
 
 pub sub-clauses-2 : (t : ℕ) → clauses-lts.Need-sub-clauses-2 (clause-after-reads.Asked, clause-after-reads.Learnt, note-reads.Asked, note-reads.Learnt, descend-below t, descend.Post, clauses-below t, clauses.Post, count-byte-reads.Asked, count-byte-reads.Learnt, keys-below t, keys.Post) (clauses-at t) clauses.Post
 sub-clauses-2 t c =
@@ -104,8 +144,20 @@ clauses-requires-2 t c κs =
     let k′ = c .before .before .before .before .before .before .before .before .before .before .before .before .before .before .before .before .before .before .before .before .k in
     let count-byte′ = c .before .before .before .before .before .before .before .before .before .before .before .before .before .before .before .before .count-byte in
     let n′ = c .before .before .before .before .before .before .before .before .before .before .before .before .before .before .n in
-    let keys′ = c .before .before .before .before .before .before .before .before .before .keys in
-    (omega (arith, pre′ .0, (clause-given (args′ .most) (args′ .such) (args′ .sorted) (pre′ .1 .0) (clause-after′ .ensures) (k′ .given .1) .some)), (given-again (count-given (clause-given (args′ .most) (args′ .such) (args′ .sorted) (pre′ .1 .0) (clause-after′ .ensures) (k′ .given .1) .given) (count-byte′ .ensures) (n′ .given .1) .given) (keys′ .ensures) (keys-onward (args′ .request .now) (pre′ .1 .0 .octets) _ _ _ _), (pre′ .1 .1 .0, omega (arith, pre′ .1 .1 .1))))
+    let keys′ = c .before .before .before .before .before .before .before .before .before .keys in (
+      omega (
+        arith,
+        pre′ .0,
+        (clause-given (args′ .most) (args′ .such) (args′ .sorted) (pre′ .1 .0) (clause-after′ .ensures) (k′ .given .1)
+            .some),
+      ),
+      (
+        given-again (count-given (clause-given (args′ .most) (args′ .such) (args′ .sorted) (pre′ .1 .0) (clause-after′ .ensures)
+            (k′ .given .1) .given) (count-byte′ .ensures) (n′ .given .1) .given) (keys′ .ensures)
+            (keys-onward (args′ .request .now) (pre′ .1 .0 .octets) _ _ _ _),
+        (pre′ .1 .1 .0, omega (arith, pre′ .1 .1 .1)),
+      ),
+    )
 
 pub enum-known-r : (t : ℕ) → clauses-lts.Need-enum-known-r (clause-after-reads.Asked, clause-after-reads.Learnt, note-reads.Asked, note-reads.Learnt, descend-below t, descend.Post, clauses-below t, clauses.Post, count-byte-reads.Asked, count-byte-reads.Learnt, keys-below t, keys.Post) (clauses-at t) clauses.Post
 enum-known-r t c = search needs
@@ -128,6 +180,8 @@ same-length-3 t c = search needs
 pub returns : (t : ℕ) → clauses-lts.Need-returns (clause-after-reads.Asked, clause-after-reads.Learnt, note-reads.Asked, note-reads.Learnt, descend-below t, descend.Post, clauses-below t, clauses.Post, count-byte-reads.Asked, count-byte-reads.Learnt, keys-below t, keys.Post) (clauses-at t) clauses.Post
 returns t c =
     let args′ = c .before .before .before .before .before .before .before .before .before .before .before .before .before .before .before .before .before .before .before .before .before .before .before .before .before .before .before .before .before .before .before .before .before .before .before .before .args in
+    let scope′ = scopeOf (args′ .dictionary .now) (args′ .scope) in
+    let around′ = environmentOf (args′ .dictionary .now) (args′ .parameters .now) (args′ .messages) in
     let pre′ = c .before .before .before .before .before .before .before .before .before .before .before .before .before .before .before .before .before .before .before .before .before .before .before .before .before .before .before .before .before .before .before .before .before .before .before .before .pre in
     let clause-after′ = c .before .before .before .before .before .before .before .before .before .before .before .before .before .before .before .before .before .before .before .before .before .before .before .before .before .before .before .before .before .clause-after in
     let k′ = c .before .before .before .before .before .before .before .before .before .before .before .before .before .before .before .before .before .before .before .before .before .before .before .before .before .before .before .k in
@@ -135,7 +189,9 @@ returns t c =
     let note′ = c .before .before .before .before .before .before .before .before .before .before .before .before .before .before .before .before .before .before .before .before .before .before .note in
     let descend′ = c .before .before .before .before .before .before .before .before .before .before .before .before .before .before .before .before .descend in
     let clauses′ = c .before .before .before .before .before .before .clauses in
-    clauses-boolean (args′ .request .now) (pre′ .1 .0 .octets) (environmentOf (args′ .dictionary .now) (args′ .parameters .now) (args′ .messages)) (scopeOf (args′ .dictionary .now) (args′ .scope)) (args′ .levels) (args′ .most) (args′ .such) (args′ .sorted) (args′ .from) (clause-after′ .ensures) (k′ .given .1) (enum-told′ .given .1) (note′ .ensures .0) (note′ .ensures .1) (booleans-below (environmentOf (args′ .dictionary .now) (args′ .parameters .now) (args′ .messages)) (scopeOf (args′ .dictionary .now) (args′ .scope)) (args′ .request .now) (args′ .levels) (pre′ .1 .1 .0) 0 (descend′ .ensures)) (clauses′ .ensures)
+    clauses-boolean (args′ .request .now) (pre′ .1 .0 .octets) around′ scope′ (args′ .levels) (args′ .most) (args′ .such) (args′ .sorted)
+    (args′ .from) (clause-after′ .ensures) (k′ .given .1) (enum-told′ .given .1) (note′ .ensures .0) (note′ .ensures .1)
+    (booleans-below around′ scope′ (args′ .request .now) (args′ .levels) (pre′ .1 .1 .0) 0 (descend′ .ensures)) (clauses′ .ensures)
 
 pub same-length-4 : (t : ℕ) → clauses-lts.Need-same-length-4 (clause-after-reads.Asked, clause-after-reads.Learnt, note-reads.Asked, note-reads.Learnt, descend-below t, descend.Post, clauses-below t, clauses.Post, count-byte-reads.Asked, count-byte-reads.Learnt, keys-below t, keys.Post) (clauses-at t) clauses.Post
 same-length-4 t c = search needs
@@ -157,7 +213,10 @@ returns-2 t c =
     let n′ = c .before .before .before .before .before .before .before .before .before .before .before .before .before .before .before .before .before .before .before .before .before .n in
     let keys′ = c .before .before .before .before .before .before .before .before .before .before .before .before .before .before .before .before .keys in
     let clauses2′ = c .before .before .before .before .before .before .clauses2 in
-    clauses-sort (args′ .request .now) (pre′ .1 .0 .octets) (environmentOf (args′ .dictionary .now) (args′ .parameters .now) (args′ .messages)) (scopeOf (args′ .dictionary .now) (args′ .scope)) (args′ .levels) (args′ .most) (args′ .such) (args′ .sorted) (args′ .from) (clause-after′ .ensures) (k′ .given .1) (enum-told2′ .given .1) (count-byte′ .ensures) (n′ .given .1) (keys′ .ensures) (clauses2′ .ensures)
+    clauses-sort (args′ .request .now) (pre′ .1 .0 .octets) (environmentOf (args′ .dictionary .now) (args′ .parameters .now)
+    (args′ .messages)) (scopeOf (args′ .dictionary .now) (args′ .scope)) (args′ .levels) (args′ .most) (args′ .such) (args′ .sorted)
+    (args′ .from) (clause-after′ .ensures) (k′ .given .1) (enum-told2′ .given .1) (count-byte′ .ensures) (n′ .given .1) (keys′ .ensures)
+    (clauses2′ .ensures)
 
 pub returns-3 : (t : ℕ) → clauses-lts.Need-returns-3 (clause-after-reads.Asked, clause-after-reads.Learnt, note-reads.Asked, note-reads.Learnt, descend-below t, descend.Post, clauses-below t, clauses.Post, count-byte-reads.Asked, count-byte-reads.Learnt, keys-below t, keys.Post) (clauses-at t) clauses.Post
 returns-3 t c =
@@ -168,7 +227,9 @@ returns-3 t c =
     let enum-told2′ = c .before .before .before .before .enum-told2 in
     let count-byte′ = c .before .before .before .count-byte in
     let r′ = c .before .r in
-    clauses-sort-cut (args′ .request .now) (pre′ .1 .0 .octets) (environmentOf (args′ .dictionary .now) (args′ .parameters .now) (args′ .messages)) (scopeOf (args′ .dictionary .now) (args′ .scope)) (args′ .levels) (args′ .most) (args′ .such) (args′ .sorted) (args′ .from) (clause-after′ .ensures) (k′ .given .1) (enum-told2′ .given .1) (count-byte′ .ensures) (r′ .given .1)
+    clauses-sort-cut (args′ .request .now) (pre′ .1 .0 .octets) (environmentOf (args′ .dictionary .now) (args′ .parameters .now)
+    (args′ .messages)) (scopeOf (args′ .dictionary .now) (args′ .scope)) (args′ .levels) (args′ .most) (args′ .such) (args′ .sorted)
+    (args′ .from) (clause-after′ .ensures) (k′ .given .1) (enum-told2′ .given .1) (count-byte′ .ensures) (r′ .given .1)
 
 pub returns-4 : (t : ℕ) → clauses-lts.Need-returns-4 (clause-after-reads.Asked, clause-after-reads.Learnt, note-reads.Asked, note-reads.Learnt, descend-below t, descend.Post, clauses-below t, clauses.Post, count-byte-reads.Asked, count-byte-reads.Learnt, keys-below t, keys.Post) (clauses-at t) clauses.Post
 returns-4 t c =
@@ -177,11 +238,16 @@ returns-4 t c =
     let clause-after′ = c .before .before .before .before .before .clause-after in
     let k′ = c .before .before .before .k in
     let enum-told3′ = c .enum-told3 in
-    clauses-end (args′ .request .now) (pre′ .1 .0 .octets) (environmentOf (args′ .dictionary .now) (args′ .parameters .now) (args′ .messages)) (scopeOf (args′ .dictionary .now) (args′ .scope)) (args′ .levels) (args′ .most) (args′ .such) (args′ .sorted) (args′ .from) (clause-after′ .ensures) (k′ .given .1) (enum-told3′ .given .1)
+    clauses-end (args′ .request .now) (pre′ .1 .0 .octets) (environmentOf (args′ .dictionary .now) (args′ .parameters .now)
+    (args′ .messages)) (scopeOf (args′ .dictionary .now) (args′ .scope)) (args′ .levels) (args′ .most) (args′ .such) (args′ .sorted)
+    (args′ .from) (clause-after′ .ensures) (k′ .given .1) (enum-told3′ .given .1)
 
 pub returns-5 : (t : ℕ) → clauses-lts.Need-returns-5 (clause-after-reads.Asked, clause-after-reads.Learnt, note-reads.Asked, note-reads.Learnt, descend-below t, descend.Post, clauses-below t, clauses.Post, count-byte-reads.Asked, count-byte-reads.Learnt, keys-below t, keys.Post) (clauses-at t) clauses.Post
 returns-5 t c =
     let args′ = c .before .before .before .before .before .before .before .before .before .before .args in
+    let scope′ = scopeOf (args′ .dictionary .now) (args′ .scope) in
+    let around′ = environmentOf (args′ .dictionary .now) (args′ .parameters .now) (args′ .messages) in
     let clause-after′ = c .before .before .before .clause-after in
     let r2′ = c .before .r2 in
-    clause-stopped (args′ .most) (args′ .such) (args′ .sorted) (args′ .request .now) (readBoolean (args′ .levels) (environmentOf (args′ .dictionary .now) (args′ .parameters .now) (args′ .messages)) (scopeOf (args′ .dictionary .now) (args′ .scope))) (readValue (args′ .levels) (environmentOf (args′ .dictionary .now) (args′ .parameters .now) (args′ .messages)) (scopeOf (args′ .dictionary .now) (args′ .scope))) (args′ .from) (clause-after′ .ensures) (r2′ .given .1)
+    clause-stopped (args′ .most) (args′ .such) (args′ .sorted) (args′ .request .now) (readBoolean (args′ .levels) around′ scope′)
+    (readValue (args′ .levels) around′ scope′) (args′ .from) (clause-after′ .ensures) (r2′ .given .1)

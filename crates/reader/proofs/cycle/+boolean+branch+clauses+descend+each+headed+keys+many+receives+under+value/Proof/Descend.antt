@@ -50,8 +50,20 @@ finish-requires t c κs =
     let args′ = c .before .before .before .before .before .before .before .before .before .before .before .before .before .before .before .before .before .before .before .before .before .before .before .before .before .before .before .args in
     let statement-at′ = c .before .before .before .before .before .before .before .before .before .before .before .before .before .before .before .statement-at in
     let k′ = c .before .before .before .before .before .before .before .before .before .before .before .before .before .k in
-    let under′ = c .before .before .before .before .before .before .before .before .under in
-    ((pre′ .1 .0 .given _ _ (from′ .given .1)) .ready .statements-few, (omega (arith, (pre′ .1 .0 .given _ _ (from′ .given .1)) .ready .inside, (pre′ .1 .0 .given _ _ (from′ .given .1)) .ready .short), (pre′ .1 .1, statement-ends (args′ .request .now) (pre′ .1 .0 .octets) (environmentOf (args′ .dictionary .now) (args′ .parameters .now) (args′ .messages)) (scopeOf (args′ .dictionary .now) (args′ .scope)) (args′ .levels) (from′ .given .1) (statement-at′ .ensures) (args′ .parent) (pre′ .1 .0 .given _ _ (from′ .given .1)) (k′ .given .1) (under′ .ensures))))
+    let under′ = c .before .before .before .before .before .before .before .before .under in (
+      (pre′ .1 .0 .given _ _ (from′ .given .1)) .ready .statements-few,
+      (
+        omega
+            (arith, (pre′ .1 .0 .given _ _ (from′ .given .1)) .ready .inside, (pre′ .1 .0 .given _ _ (from′ .given .1)) .ready .short),
+        (
+          pre′ .1 .1,
+          statement-ends (args′ .request .now) (pre′ .1 .0 .octets)
+              (environmentOf (args′ .dictionary .now) (args′ .parameters .now) (args′ .messages)) (scopeOf (args′ .dictionary .now) (args′ .scope))
+              (args′ .levels) (from′ .given .1) (statement-at′ .ensures) (args′ .parent) (pre′ .1 .0 .given _ _ (from′ .given .1)) (k′ .given .1)
+              (under′ .ensures),
+        ),
+      ),
+    )
 
 pub enum-known-r : (t : ℕ) → descend-lts.Need-enum-known-r (statement-at-reads.Asked, statement-at-reads.Learnt, under-below t, under.Post, byte-at-reads.Asked, byte-at-reads.Learnt, finish-reads.Asked, finish-reads.Learnt, boolean-at-reads.Asked, boolean-at-reads.Learnt, boolean-below t, boolean.Post, value-at-reads.Asked, value-at-reads.Learnt, value-below t, value.Post) (descend-at t) descend.Post
 enum-known-r t c = search needs
@@ -119,7 +131,10 @@ returns t c =
     let under′ = c .before .before .before .before .before .before .before .before .before .before .before .under in
     let byte-at′ = c .before .before .before .byte-at in
     let finish′ = c .before .before .finish in
-    rw (enum-told′ .given .1) (statement-descended (args′ .request .now) (pre′ .1 .0 .octets) (environmentOf (args′ .dictionary .now) (args′ .parameters .now) (args′ .messages)) (scopeOf (args′ .dictionary .now) (args′ .scope)) (args′ .levels) (from′ .given .1) (statement-at′ .ensures) (args′ .parent) (k′ .given .1) (under′ .ensures) (byte-at′ .ensures) (finish′ .ensures) ((pre′ .1 .0 .given _ _ (from′ .given .1)) .ready .inside))
+    rw (enum-told′ .given .1) (statement-descended (args′ .request .now) (pre′ .1 .0 .octets)
+    (environmentOf (args′ .dictionary .now) (args′ .parameters .now) (args′ .messages)) (scopeOf (args′ .dictionary .now) (args′ .scope))
+    (args′ .levels) (from′ .given .1) (statement-at′ .ensures) (args′ .parent) (k′ .given .1) (under′ .ensures) (byte-at′ .ensures)
+    (finish′ .ensures) ((pre′ .1 .0 .given _ _ (from′ .given .1)) .ready .inside))
 
 pub returns-2 : (t : ℕ) → descend-lts.Need-returns-2 (statement-at-reads.Asked, statement-at-reads.Learnt, under-below t, under.Post, byte-at-reads.Asked, byte-at-reads.Learnt, finish-reads.Asked, finish-reads.Learnt, boolean-at-reads.Asked, boolean-at-reads.Learnt, boolean-below t, boolean.Post, value-at-reads.Asked, value-at-reads.Learnt, value-below t, value.Post) (descend-at t) descend.Post
 returns-2 t c =
@@ -129,7 +144,9 @@ returns-2 t c =
     let from′ = c .before .before .before .before .before .before .before .from in
     let statement-at′ = c .before .before .before .statement-at in
     let r′ = c .before .r in
-    rw (enum-told′ .given .1) (statement-stopped (args′ .request .now) (pre′ .1 .0 .octets) (environmentOf (args′ .dictionary .now) (args′ .parameters .now) (args′ .messages)) (scopeOf (args′ .dictionary .now) (args′ .scope)) (args′ .levels) (from′ .given .1) (statement-at′ .ensures) (args′ .parent) (r′ .given .1))
+    rw (enum-told′ .given .1) (statement-stopped (args′ .request .now) (pre′ .1 .0 .octets)
+    (environmentOf (args′ .dictionary .now) (args′ .parameters .now) (args′ .messages)) (scopeOf (args′ .dictionary .now) (args′ .scope))
+    (args′ .levels) (from′ .given .1) (statement-at′ .ensures) (args′ .parent) (r′ .given .1))
 
 pub same-length-4 : (t : ℕ) → descend-lts.Need-same-length-4 (statement-at-reads.Asked, statement-at-reads.Learnt, under-below t, under.Post, byte-at-reads.Asked, byte-at-reads.Learnt, finish-reads.Asked, finish-reads.Learnt, boolean-at-reads.Asked, boolean-at-reads.Learnt, boolean-below t, boolean.Post, value-at-reads.Asked, value-at-reads.Learnt, value-below t, value.Post) (descend-at t) descend.Post
 same-length-4 t c = search needs
@@ -148,7 +165,9 @@ returns-3 t c =
     let boolean-at′ = c .before .before .before .before .before .before .before .before .before .before .before .before .before .boolean-at in
     let k2′ = c .before .before .before .before .before .before .before .before .before .before .before .k2 in
     let boolean′ = c .before .before .before .before .before .before .boolean in
-    rw (enum-told2′ .given .1) (boolean-descended (environmentOf (args′ .dictionary .now) (args′ .parameters .now) (args′ .messages)) (scopeOf (args′ .dictionary .now) (args′ .scope)) (args′ .levels) (args′ .request .now) (from′ .given .1) (boolean-at′ .ensures) (k2′ .given .1) (boolean′ .ensures))
+    rw (enum-told2′ .given .1) (boolean-descended (environmentOf (args′ .dictionary .now) (args′ .parameters .now) (args′ .messages))
+    (scopeOf (args′ .dictionary .now) (args′ .scope)) (args′ .levels) (args′ .request .now) (from′ .given .1) (boolean-at′ .ensures)
+    (k2′ .given .1) (boolean′ .ensures))
 
 pub returns-4 : (t : ℕ) → descend-lts.Need-returns-4 (statement-at-reads.Asked, statement-at-reads.Learnt, under-below t, under.Post, byte-at-reads.Asked, byte-at-reads.Learnt, finish-reads.Asked, finish-reads.Learnt, boolean-at-reads.Asked, boolean-at-reads.Learnt, boolean-below t, boolean.Post, value-at-reads.Asked, value-at-reads.Learnt, value-below t, value.Post) (descend-at t) descend.Post
 returns-4 t c =
@@ -157,7 +176,9 @@ returns-4 t c =
     let from′ = c .before .before .before .before .before .before .before .from in
     let boolean-at′ = c .before .before .before .boolean-at in
     let r2′ = c .before .r2 in
-    rw (enum-told2′ .given .1) (boolean-refused (environmentOf (args′ .dictionary .now) (args′ .parameters .now) (args′ .messages)) (scopeOf (args′ .dictionary .now) (args′ .scope)) (args′ .levels) (args′ .request .now) (from′ .given .1) (boolean-at′ .ensures) (r2′ .given .1))
+    rw (enum-told2′ .given .1) (boolean-refused (environmentOf (args′ .dictionary .now) (args′ .parameters .now) (args′ .messages))
+    (scopeOf (args′ .dictionary .now) (args′ .scope)) (args′ .levels) (args′ .request .now) (from′ .given .1) (boolean-at′ .ensures)
+    (r2′ .given .1))
 
 pub same-length-7 : (t : ℕ) → descend-lts.Need-same-length-7 (statement-at-reads.Asked, statement-at-reads.Learnt, under-below t, under.Post, byte-at-reads.Asked, byte-at-reads.Learnt, finish-reads.Asked, finish-reads.Learnt, boolean-at-reads.Asked, boolean-at-reads.Learnt, boolean-below t, boolean.Post, value-at-reads.Asked, value-at-reads.Learnt, value-below t, value.Post) (descend-at t) descend.Post
 same-length-7 t c = search needs
@@ -176,7 +197,9 @@ returns-5 t c =
     let value-at′ = c .before .before .before .before .before .before .before .before .before .before .before .before .before .value-at in
     let k3′ = c .before .before .before .before .before .before .before .before .before .before .before .k3 in
     let value′ = c .before .before .before .before .before .before .value in
-    rw (enum-told3′ .given .1) (value-descended (environmentOf (args′ .dictionary .now) (args′ .parameters .now) (args′ .messages)) (scopeOf (args′ .dictionary .now) (args′ .scope)) (args′ .levels) (args′ .request .now) (from′ .given .1) (value-at′ .ensures) (k3′ .given .1) (value′ .ensures))
+    rw (enum-told3′ .given .1) (value-descended (environmentOf (args′ .dictionary .now) (args′ .parameters .now) (args′ .messages))
+    (scopeOf (args′ .dictionary .now) (args′ .scope)) (args′ .levels) (args′ .request .now) (from′ .given .1) (value-at′ .ensures)
+    (k3′ .given .1) (value′ .ensures))
 
 pub returns-6 : (t : ℕ) → descend-lts.Need-returns-6 (statement-at-reads.Asked, statement-at-reads.Learnt, under-below t, under.Post, byte-at-reads.Asked, byte-at-reads.Learnt, finish-reads.Asked, finish-reads.Learnt, boolean-at-reads.Asked, boolean-at-reads.Learnt, boolean-below t, boolean.Post, value-at-reads.Asked, value-at-reads.Learnt, value-below t, value.Post) (descend-at t) descend.Post
 returns-6 t c =
@@ -185,10 +208,13 @@ returns-6 t c =
     let from′ = c .before .before .before .before .before .before .before .from in
     let value-at′ = c .before .before .before .value-at in
     let r3′ = c .before .r3 in
-    rw (enum-told3′ .given .1) (value-refused (environmentOf (args′ .dictionary .now) (args′ .parameters .now) (args′ .messages)) (scopeOf (args′ .dictionary .now) (args′ .scope)) (args′ .levels) (args′ .request .now) (from′ .given .1) (value-at′ .ensures) (r3′ .given .1))
+    rw (enum-told3′ .given .1) (value-refused (environmentOf (args′ .dictionary .now) (args′ .parameters .now) (args′ .messages))
+    (scopeOf (args′ .dictionary .now) (args′ .scope)) (args′ .levels) (args′ .request .now) (from′ .given .1) (value-at′ .ensures)
+    (r3′ .given .1))
 
 pub returns-7 : (t : ℕ) → descend-lts.Need-returns-7 (statement-at-reads.Asked, statement-at-reads.Learnt, under-below t, under.Post, byte-at-reads.Asked, byte-at-reads.Learnt, finish-reads.Asked, finish-reads.Learnt, boolean-at-reads.Asked, boolean-at-reads.Learnt, boolean-below t, boolean.Post, value-at-reads.Asked, value-at-reads.Learnt, value-below t, value.Post) (descend-at t) descend.Post
 returns-7 t c =
     let args′ = c .before .before .before .before .before .before .before .before .before .args in
     let from2′ = c .before .from2 in
-    part-passed (args′ .part) (environmentOf (args′ .dictionary .now) (args′ .parameters .now) (args′ .messages)) (scopeOf (args′ .dictionary .now) (args′ .scope)) (args′ .levels) (args′ .parent) (args′ .request .now) _ _ (from2′ .given .1)
+    part-passed (args′ .part) (environmentOf (args′ .dictionary .now) (args′ .parameters .now) (args′ .messages))
+    (scopeOf (args′ .dictionary .now) (args′ .scope)) (args′ .levels) (args′ .parent) (args′ .request .now) _ _ (from2′ .given .1)

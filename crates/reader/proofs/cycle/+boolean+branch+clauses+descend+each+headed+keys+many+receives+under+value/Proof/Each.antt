@@ -36,8 +36,15 @@ descend-requires t c κs =
     let pre′ = c .before .before .before .before .before .before .before .before .before .before .before .before .before .before .before .before .before .before .before .before .before .before .before .before .pre in
     let read-head′ = c .before .before .before .before .before .before .before .before .before .before .before .before .before .before .before .before .read-head in
     let clauses′ = c .before .before .before .before .before .before .before .before .before .clauses in
-    let args′ = c .before .before .before .before .before .before .before .before .before .before .before .before .before .before .before .before .before .before .before .before .before .before .before .before .args in
-    (omega (arith, pre′ .0, pre′ .1 .deep), ((given-again (head-given (pre′ .1 .given) _ _ (read-head′ .ensures) (pre′ .1 .deep)) (clauses′ .ensures) (clauses-onward (args′ .request .now) (pre′ .1 .given .octets) _ _ _ _ _ _)), pre′ .1 .given .ready .statements-few))
+    let args′ = c .before .before .before .before .before .before .before .before .before .before .before .before .before .before .before .before .before .before .before .before .before .before .before .before .args in (
+      omega (arith, pre′ .0, pre′ .1 .deep),
+      (
+        (given-again (head-given (pre′ .1 .given) _ _ (read-head′ .ensures) (pre′ .1 .deep))
+            (clauses′ .ensures) (clauses-onward (args′ .request .now) (pre′ .1 .given .octets) _ _ _ _ _ _)),
+        pre′ .1 .given .ready
+            .statements-few,
+      ),
+    )
 
 pub close-requires : (t : ℕ) → each-lts.Need-close-requires (read-head-reads.Asked, read-head-reads.Learnt, clauses-below t, clauses.Post, descend-below t, descend.Post, close-reads.Asked, close-reads.Learnt) (each-at t) each.Post
 close-requires t c κs =
@@ -46,7 +53,11 @@ close-requires t c κs =
     let args′ = c .before .before .before .before .before .before .before .before .before .before .before .before .before .before .before .before .before .before .before .before .before .before .before .before .before .before .before .before .before .before .before .before .args in
     let clauses′ = c .before .before .before .before .before .before .before .before .before .before .before .before .before .before .before .before .before .clauses in
     let descend′ = c .before .before .before .before .before .before .before .descend in
-    closes-of (head-given (pre′ .1 .given) _ _ (read-head′ .ensures) (pre′ .1 .deep)) (head-more (args′ .request .now) (pre′ .1 .given .octets) (args′ .c) _ _ (read-head′ .ensures .answer)) (given-again (given-again (head-given (pre′ .1 .given) _ _ (read-head′ .ensures) (pre′ .1 .deep)) (clauses′ .ensures) (clauses-onward (args′ .request .now) (pre′ .1 .given .octets) _ _ _ _ _ _)) (descend′ .ensures) (statement-onward (args′ .request .now) (pre′ .1 .given .octets) _ _ _))
+    closes-of (head-given (pre′ .1 .given) _ _ (read-head′ .ensures) (pre′ .1 .deep))
+    (head-more (args′ .request .now) (pre′ .1 .given .octets) (args′ .c) _ _ (read-head′ .ensures .answer))
+    (given-again (given-again (head-given (pre′ .1 .given) _ _ (read-head′ .ensures) (pre′ .1 .deep)) (clauses′ .ensures)
+    (clauses-onward (args′ .request .now) (pre′ .1 .given .octets) _ _ _ _ _ _)) (descend′ .ensures)
+    (statement-onward (args′ .request .now) (pre′ .1 .given .octets) _ _ _))
 
 pub same-length : (t : ℕ) → each-lts.Need-same-length (read-head-reads.Asked, read-head-reads.Learnt, clauses-below t, clauses.Post, descend-below t, descend.Post, close-reads.Asked, close-reads.Learnt) (each-at t) each.Post
 same-length t c = search needs
@@ -61,9 +72,13 @@ pub returns : (t : ℕ) → each-lts.Need-returns (read-head-reads.Asked, read-h
 unfolding environmentOf
 returns t c =
     let args′ = c .before .before .before .before .before .before .before .before .before .before .before .before .before .before .before .before .before .before .before .before .before .before .before .before .before .before .before .before .before .before .before .before .before .before .before .args in
+    let around′ = environmentOf (args′ .dictionary .now) (args′ .parameters .now) (args′ .messages) in
     let pre′ = c .before .before .before .before .before .before .before .before .before .before .before .before .before .before .before .before .before .before .before .before .before .before .before .before .before .before .before .before .before .before .before .before .before .before .before .pre in
     let read-head′ = c .before .before .before .before .before .before .before .before .before .before .before .before .before .before .before .before .before .before .before .before .before .before .before .before .before .before .before .read-head in
     let clauses′ = c .before .before .before .before .before .before .before .before .before .before .before .before .before .before .before .before .before .before .before .before .clauses in
     let descend′ = c .before .before .before .before .before .before .before .before .before .before .descend in
     let close′ = c .before .before .close in
-    for-wrote (args′ .request .now) (pre′ .1 .given .octets) (environmentOf (args′ .dictionary .now) (args′ .parameters .now) (args′ .messages)) (scopeOf (args′ .dictionary .now) (args′ .scope)) (args′ .levels) (args′ .at) (args′ .c) (pre′ .1 .here) (read-head′ .ensures) (clauses′ .ensures) (statements-below (environmentOf (args′ .dictionary .now) (args′ .parameters .now) (args′ .messages)) (scopeOf (args′ .dictionary .now) (read-head′ .result .scope)) (args′ .request .now) (args′ .levels) (pre′ .1 .deep) (args′ .c .statements) (descend′ .ensures)) (close′ .ensures)
+    for-wrote (args′ .request .now) (pre′ .1 .given .octets) around′ (scopeOf (args′ .dictionary .now) (args′ .scope)) (args′ .levels)
+    (args′ .at) (args′ .c) (pre′ .1 .here) (read-head′ .ensures) (clauses′ .ensures)
+    (statements-below around′ (scopeOf (args′ .dictionary .now) (read-head′ .result .scope)) (args′ .request .now) (args′ .levels)
+    (pre′ .1 .deep) (args′ .c .statements) (descend′ .ensures)) (close′ .ensures)

@@ -28,16 +28,28 @@ pub descend-requires : (t : ℕ) → headed-lts.Need-descend-requires (read-head
 descend-requires t c κs =
     let pre′ = c .before .before .before .before .before .before .before .before .before .before .before .before .before .before .pre in
     let args′ = c .before .before .before .before .before .before .before .before .before .before .before .before .before .before .args in
-    let read-heading′ = c .before .before .before .before .before .before .read-heading in
-    (omega (arith, pre′ .0, pre′ .1 .deep), ((heading-given (pre′ .1 .given) (environmentOf (args′ .dictionary .now) (args′ .parameters .now) (args′ .messages)) (scopeOf (args′ .dictionary .now) (args′ .scope)) (args′ .at) (args′ .k) (read-heading′ .ensures) (pre′ .1 .deep)), pre′ .1 .given .ready .statements-few))
+    let read-heading′ = c .before .before .before .before .before .before .read-heading in (
+      omega (arith, pre′ .0, pre′ .1 .deep),
+      (
+        (heading-given (pre′ .1 .given)
+            (environmentOf (args′ .dictionary .now) (args′ .parameters .now) (args′ .messages)) (scopeOf (args′ .dictionary .now) (args′ .scope))
+            (args′ .at) (args′ .k) (read-heading′ .ensures) (pre′ .1 .deep)),
+        pre′ .1 .given .ready .statements-few,
+      ),
+    )
 
 pub close-requires : (t : ℕ) → headed-lts.Need-close-requires (read-heading-reads.Asked, read-heading-reads.Learnt, descend-below t, descend.Post, close-reads.Asked, close-reads.Learnt) (headed-at t) headed.Post
 close-requires t c κs =
     let pre′ = c .before .before .before .before .before .before .before .before .before .before .before .before .before .before .before .before .before .before .before .before .before .before .pre in
     let args′ = c .before .before .before .before .before .before .before .before .before .before .before .before .before .before .before .before .before .before .before .before .before .before .args in
+    let scope′ = scopeOf (args′ .dictionary .now) (args′ .scope) in
+    let around′ = environmentOf (args′ .dictionary .now) (args′ .parameters .now) (args′ .messages) in
     let read-heading′ = c .before .before .before .before .before .before .before .before .before .before .before .before .before .before .read-heading in
     let descend′ = c .before .before .before .before .before .before .before .descend in
-    closes-of (heading-given (pre′ .1 .given) (environmentOf (args′ .dictionary .now) (args′ .parameters .now) (args′ .messages)) (scopeOf (args′ .dictionary .now) (args′ .scope)) (args′ .at) (args′ .k) (read-heading′ .ensures) (pre′ .1 .deep)) (heading-more (args′ .request .now) (pre′ .1 .given .octets) (args′ .c) (environmentOf (args′ .dictionary .now) (args′ .parameters .now) (args′ .messages)) (scopeOf (args′ .dictionary .now) (args′ .scope)) (args′ .at) (args′ .k) (read-heading′ .ensures .answer)) (given-again (heading-given (pre′ .1 .given) (environmentOf (args′ .dictionary .now) (args′ .parameters .now) (args′ .messages)) (scopeOf (args′ .dictionary .now) (args′ .scope)) (args′ .at) (args′ .k) (read-heading′ .ensures) (pre′ .1 .deep)) (descend′ .ensures) (statement-onward (args′ .request .now) (pre′ .1 .given .octets) _ _ _))
+    closes-of (heading-given (pre′ .1 .given) around′ scope′ (args′ .at) (args′ .k) (read-heading′ .ensures) (pre′ .1 .deep))
+    (heading-more (args′ .request .now) (pre′ .1 .given .octets) (args′ .c) around′ scope′ (args′ .at) (args′ .k)
+    (read-heading′ .ensures .answer)) (given-again (heading-given (pre′ .1 .given) around′ scope′ (args′ .at) (args′ .k)
+    (read-heading′ .ensures) (pre′ .1 .deep)) (descend′ .ensures) (statement-onward (args′ .request .now) (pre′ .1 .given .octets) _ _ _))
 
 pub same-length : (t : ℕ) → headed-lts.Need-same-length (read-heading-reads.Asked, read-heading-reads.Learnt, descend-below t, descend.Post, close-reads.Asked, close-reads.Learnt) (headed-at t) headed.Post
 same-length t c = search needs
@@ -52,8 +64,12 @@ pub returns : (t : ℕ) → headed-lts.Need-returns (read-heading-reads.Asked, r
 unfolding environmentOf
 returns t c =
     let args′ = c .before .before .before .before .before .before .before .before .before .before .before .before .before .before .before .before .before .before .before .before .before .before .before .before .before .args in
+    let around′ = environmentOf (args′ .dictionary .now) (args′ .parameters .now) (args′ .messages) in
     let pre′ = c .before .before .before .before .before .before .before .before .before .before .before .before .before .before .before .before .before .before .before .before .before .before .before .before .before .pre in
     let read-heading′ = c .before .before .before .before .before .before .before .before .before .before .before .before .before .before .before .before .before .read-heading in
     let descend′ = c .before .before .before .before .before .before .before .before .before .before .descend in
     let close′ = c .before .before .close in
-    headed-wrote (args′ .request .now) (pre′ .1 .given .octets) (environmentOf (args′ .dictionary .now) (args′ .parameters .now) (args′ .messages)) (scopeOf (args′ .dictionary .now) (args′ .scope)) (args′ .at) (args′ .k) (args′ .levels) (args′ .c) (pre′ .1 .here) (read-heading′ .ensures) (statements-below (environmentOf (args′ .dictionary .now) (args′ .parameters .now) (args′ .messages)) (scopeOf (args′ .dictionary .now) (read-heading′ .result .scope)) (args′ .request .now) (args′ .levels) (pre′ .1 .deep) (args′ .c .statements) (descend′ .ensures)) (close′ .ensures)
+    headed-wrote (args′ .request .now) (pre′ .1 .given .octets) around′ (scopeOf (args′ .dictionary .now) (args′ .scope)) (args′ .at)
+    (args′ .k) (args′ .levels) (args′ .c) (pre′ .1 .here) (read-heading′ .ensures)
+    (statements-below around′ (scopeOf (args′ .dictionary .now) (read-heading′ .result .scope)) (args′ .request .now) (args′ .levels)
+    (pre′ .1 .deep) (args′ .c .statements) (descend′ .ensures)) (close′ .ensures)

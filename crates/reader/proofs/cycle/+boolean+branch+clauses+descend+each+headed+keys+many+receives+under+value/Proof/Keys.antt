@@ -22,9 +22,12 @@ plain-requires t c κs = search needs
 pub returns : (t : ℕ) → keys-lts.Need-returns (plain-reads.Asked, plain-reads.Learnt, direction-after-reads.Asked, direction-after-reads.Learnt, descend-below t, descend.Post, keys-below t, keys.Post) (keys-at t) keys.Post
 returns t c =
     let args′ = c .before .before .before .before .before .before .before .before .args in
+    let scope′ = scopeOf (args′ .dictionary .now) (args′ .scope) in
+    let around′ = environmentOf (args′ .dictionary .now) (args′ .parameters .now) (args′ .messages) in
     let if1′ = c .before .if1 in
     let plain′ = c .plain in
-    keys-none (readValue (args′ .levels) (environmentOf (args′ .dictionary .now) (args′ .parameters .now) (args′ .messages)) (scopeOf (args′ .dictionary .now) (args′ .scope))) (valueFit (environmentOf (args′ .dictionary .now) (args′ .parameters .now) (args′ .messages)) (scopeOf (args′ .dictionary .now) (args′ .scope))) (args′ .request .now) (args′ .left) (args′ .from) (if1′ .taken) (plain′ .ensures)
+    keys-none (readValue (args′ .levels) around′ scope′) (valueFit around′ scope′) (args′ .request .now) (args′ .left) (args′ .from)
+    (if1′ .taken) (plain′ .ensures)
 
 pub direction-after-requires : (t : ℕ) → keys-lts.Need-direction-after-requires (plain-reads.Asked, plain-reads.Learnt, direction-after-reads.Asked, direction-after-reads.Learnt, descend-below t, descend.Post, keys-below t, keys.Post) (keys-at t) keys.Post
 direction-after-requires t c κs = search needs
@@ -38,8 +41,14 @@ pub descend-requires : (t : ℕ) → keys-lts.Need-descend-requires (plain-reads
 descend-requires t c κs =
     let pre′ = c .before .before .before .before .before .before .before .before .before .before .before .pre in
     let direction-after′ = c .before .before .before .direction-after in
-    let args′ = c .before .before .before .before .before .before .before .before .before .before .before .args in
-    (omega (arith, pre′ .0, pre′ .1 .1 .0), (given-on (pre′ .1 .0) (from-equal {t = nothing} _ (direction-after′ .ensures)) (direction-onward (args′ .request .now)) (omega arith), omega arith))
+    let args′ = c .before .before .before .before .before .before .before .before .before .before .before .args in (
+      omega (arith, pre′ .0, pre′ .1 .1 .0),
+      (
+        given-on (pre′ .1 .0) (from-equal {t = nothing} _ (direction-after′ .ensures))
+            (direction-onward (args′ .request .now)) (omega arith),
+        omega arith,
+      ),
+    )
 
 pub sub-keys : (t : ℕ) → keys-lts.Need-sub-keys (plain-reads.Asked, plain-reads.Learnt, direction-after-reads.Asked, direction-after-reads.Learnt, descend-below t, descend.Post, keys-below t, keys.Post) (keys-at t) keys.Post
 sub-keys t c =
@@ -52,8 +61,16 @@ keys-requires t c κs =
     let if1′ = c .before .before .before .before .before .before .before .before .before .before .before .before .before .before .if1 in
     let direction-after′ = c .before .before .before .before .before .before .before .before .before .before .before .before .before .direction-after in
     let args′ = c .before .before .before .before .before .before .before .before .before .before .before .before .before .before .before .before .before .before .before .before .before .args in
-    let descend′ = c .before .before .before .before .before .before .before .before .before .descend in
-    (omega (arith, pre′ .0, if1′ .left), (given-again (given-again (pre′ .1 .0) (from-equal {t = nothing} _ (direction-after′ .ensures)) (direction-onward (args′ .request .now))) (values-below (environmentOf (args′ .dictionary .now) (args′ .parameters .now) (args′ .messages)) (scopeOf (args′ .dictionary .now) (args′ .scope)) (args′ .request .now) (args′ .levels) (pre′ .1 .1 .0) 0 (descend′ .ensures)) (value-onward (args′ .request .now) (pre′ .1 .0 .octets) _ _ _), (pre′ .1 .1 .0, omega (arith, pre′ .1 .1 .1))))
+    let descend′ = c .before .before .before .before .before .before .before .before .before .descend in (
+      omega (arith, pre′ .0, if1′ .left),
+      (
+        given-again (given-again (pre′ .1 .0) (from-equal {t = nothing} _ (direction-after′ .ensures))
+            (direction-onward (args′ .request .now))) (values-below (environmentOf (args′ .dictionary .now) (args′ .parameters .now)
+            (args′ .messages)) (scopeOf (args′ .dictionary .now) (args′ .scope)) (args′ .request .now) (args′ .levels) (pre′ .1 .1 .0) 0
+            (descend′ .ensures)) (value-onward (args′ .request .now) (pre′ .1 .0 .octets) _ _ _),
+        (pre′ .1 .1 .0, omega (arith, pre′ .1 .1 .1)),
+      ),
+    )
 
 pub same-length : (t : ℕ) → keys-lts.Need-same-length (plain-reads.Asked, plain-reads.Learnt, direction-after-reads.Asked, direction-after-reads.Learnt, descend-below t, descend.Post, keys-below t, keys.Post) (keys-at t) keys.Post
 same-length t c = search needs
@@ -67,9 +84,13 @@ same-length-3 t c = search needs
 pub returns-2 : (t : ℕ) → keys-lts.Need-returns-2 (plain-reads.Asked, plain-reads.Learnt, direction-after-reads.Asked, direction-after-reads.Learnt, descend-below t, descend.Post, keys-below t, keys.Post) (keys-at t) keys.Post
 returns-2 t c =
     let args′ = c .before .before .before .before .before .before .before .before .before .before .before .before .before .before .before .before .before .before .before .before .before .before .before .before .before .before .before .before .args in
+    let scope′ = scopeOf (args′ .dictionary .now) (args′ .scope) in
+    let around′ = environmentOf (args′ .dictionary .now) (args′ .parameters .now) (args′ .messages) in
     let if1′ = c .before .before .before .before .before .before .before .before .before .before .before .before .before .before .before .before .before .before .before .before .before .if1 in
     let direction-after′ = c .before .before .before .before .before .before .before .before .before .before .before .before .before .before .before .before .before .before .before .before .direction-after in
     let pre′ = c .before .before .before .before .before .before .before .before .before .before .before .before .before .before .before .before .before .before .before .before .before .before .before .before .before .before .before .before .pre in
     let descend′ = c .before .before .before .before .before .before .before .before .before .before .before .before .before .before .before .before .descend in
     let keys′ = c .before .before .before .before .before .before .keys in
-    keys-on (readValue (args′ .levels) (environmentOf (args′ .dictionary .now) (args′ .parameters .now) (args′ .messages)) (scopeOf (args′ .dictionary .now) (args′ .scope))) (valueFit (environmentOf (args′ .dictionary .now) (args′ .parameters .now) (args′ .messages)) (scopeOf (args′ .dictionary .now) (args′ .scope))) (args′ .request .now) (args′ .left) (args′ .from) (if1′ .left) (direction-after′ .ensures) (values-below (environmentOf (args′ .dictionary .now) (args′ .parameters .now) (args′ .messages)) (scopeOf (args′ .dictionary .now) (args′ .scope)) (args′ .request .now) (args′ .levels) (pre′ .1 .1 .0) 0 (descend′ .ensures)) (keys′ .ensures)
+    keys-on (readValue (args′ .levels) around′ scope′) (valueFit around′ scope′) (args′ .request .now) (args′ .left) (args′ .from)
+    (if1′ .left) (direction-after′ .ensures) (values-below around′ scope′ (args′ .request .now) (args′ .levels) (pre′ .1 .1 .0) 0
+    (descend′ .ensures)) (keys′ .ensures)

@@ -27,7 +27,9 @@ returns t c =
     let ending-after′ = c .before .before .before .before .ending-after in
     let c2′ = c .before .before .c2 in
     let if1′ = c .if1 in
-    many-ends-full (args′ .request .now) (pre′ .1 .0 .octets) (environmentOf (args′ .dictionary .now) (args′ .parameters .now) (args′ .messages)) (scopeOf (args′ .dictionary .now) (args′ .scope)) (args′ .levels) (args′ .most) (args′ .parent) (args′ .from) (ending-after′ .ensures) (c2′ .given .1) (if1′ .taken)
+    many-ends-full (args′ .request .now) (pre′ .1 .0 .octets) (environmentOf (args′ .dictionary .now) (args′ .parameters .now)
+    (args′ .messages)) (scopeOf (args′ .dictionary .now) (args′ .scope)) (args′ .levels) (args′ .most) (args′ .parent) (args′ .from)
+    (ending-after′ .ensures) (c2′ .given .1) (if1′ .taken)
 
 pub sub-descend : (t : ℕ) → many-lts.Need-sub-descend (ending-after-reads.Asked, ending-after-reads.Learnt, descend-below t, descend.Post, many-below t, many.Post) (many-at t) many.Post
 sub-descend t c =
@@ -39,8 +41,16 @@ descend-requires t c κs =
     let pre′ = c .before .before .before .before .before .before .before .before .before .before .before .before .before .before .pre in
     let args′ = c .before .before .before .before .before .before .before .before .before .before .before .before .before .before .args in
     let ending-after′ = c .before .before .before .before .before .before .before .ending-after in
-    let c2′ = c .before .before .before .before .before .c2 in
-    (omega (arith, pre′ .0, pre′ .1 .1 .0), (given-next _ (goes-given (args′ .request .now) (pre′ .1 .0 .octets) (environmentOf (args′ .dictionary .now) (args′ .parameters .now) (args′ .messages)) (scopeOf (args′ .dictionary .now) (args′ .scope)) (args′ .levels) (args′ .most) (args′ .parent) (args′ .from) (ending-after′ .ensures) (pre′ .1 .0) (c2′ .given .1)) (omega arith), pre′ .1 .1 .1 .1))
+    let c2′ = c .before .before .before .before .before .c2 in (
+      omega (arith, pre′ .0, pre′ .1 .1 .0),
+      (
+        given-next _ (goes-given (args′ .request .now) (pre′ .1 .0 .octets)
+            (environmentOf (args′ .dictionary .now) (args′ .parameters .now) (args′ .messages)) (scopeOf (args′ .dictionary .now) (args′ .scope))
+            (args′ .levels) (args′ .most) (args′ .parent) (args′ .from) (ending-after′ .ensures) (pre′ .1 .0) (c2′ .given .1)) (omega arith),
+        pre′
+            .1 .1 .1 .1,
+      ),
+    )
 
 pub sub-many : (t : ℕ) → many-lts.Need-sub-many (ending-after-reads.Asked, ending-after-reads.Learnt, descend-below t, descend.Post, many-below t, many.Post) (many-at t) many.Post
 sub-many t c =
@@ -52,10 +62,21 @@ many-requires t c κs =
     let pre′ = c .before .before .before .before .before .before .before .before .before .before .before .before .before .before .before .before .before .before .before .before .before .before .before .before .pre in
     let if1′ = c .before .before .before .before .before .before .before .before .before .before .before .before .before .if1 in
     let args′ = c .before .before .before .before .before .before .before .before .before .before .before .before .before .before .before .before .before .before .before .before .before .before .before .before .args in
+    let scope′ = scopeOf (args′ .dictionary .now) (args′ .scope) in
+    let around′ = environmentOf (args′ .dictionary .now) (args′ .parameters .now) (args′ .messages) in
     let ending-after′ = c .before .before .before .before .before .before .before .before .before .before .before .before .before .before .before .before .before .ending-after in
     let c2′ = c .before .before .before .before .before .before .before .before .before .before .before .before .before .before .before .c2 in
-    let descend′ = c .before .before .before .before .before .before .before .before .before .descend in
-    (omega (arith, pre′ .0, if1′ .left), (given-again (given-next {l′ = args′ .levels - 1} _ (goes-given (args′ .request .now) (pre′ .1 .0 .octets) (environmentOf (args′ .dictionary .now) (args′ .parameters .now) (args′ .messages)) (scopeOf (args′ .dictionary .now) (args′ .scope)) (args′ .levels) (args′ .most) (args′ .parent) (args′ .from) (ending-after′ .ensures) (pre′ .1 .0) (c2′ .given .1)) (omega arith)) (statements-below (environmentOf (args′ .dictionary .now) (args′ .parameters .now) (args′ .messages)) (scopeOf (args′ .dictionary .now) (args′ .scope)) (args′ .request .now) (args′ .levels) (pre′ .1 .1 .0) (args′ .parent) (descend′ .ensures)) (statement-onward (args′ .request .now) (pre′ .1 .0 .octets) _ _ _), (pre′ .1 .1 .0, (omega (arith, pre′ .1 .1 .1 .0), pre′ .1 .1 .1 .1))))
+    let descend′ = c .before .before .before .before .before .before .before .before .before .descend in (
+      omega (arith, pre′ .0, if1′ .left),
+      (
+        given-again (given-next {l′ = args′ .levels - 1} _
+            (goes-given (args′ .request .now) (pre′ .1 .0 .octets) around′ scope′ (args′ .levels) (args′ .most) (args′ .parent) (args′ .from)
+            (ending-after′ .ensures) (pre′ .1 .0) (c2′ .given .1)) (omega arith))
+            (statements-below around′ scope′ (args′ .request .now) (args′ .levels) (pre′ .1 .1 .0) (args′ .parent) (descend′ .ensures))
+            (statement-onward (args′ .request .now) (pre′ .1 .0 .octets) _ _ _),
+        (pre′ .1 .1 .0, (omega (arith, pre′ .1 .1 .1 .0), pre′ .1 .1 .1 .1)),
+      ),
+    )
 
 pub enum-known-r : (t : ℕ) → many-lts.Need-enum-known-r (ending-after-reads.Asked, ending-after-reads.Learnt, descend-below t, descend.Post, many-below t, many.Post) (many-at t) many.Post
 enum-known-r t c = search needs
@@ -66,7 +87,9 @@ returns-2 t c =
     let pre′ = c .before .before .before .before .before .before .before .before .before .before .pre in
     let ending-after′ = c .before .before .before .ending-after in
     let c′ = c .before .c in
-    many-ends (args′ .request .now) (pre′ .1 .0 .octets) (environmentOf (args′ .dictionary .now) (args′ .parameters .now) (args′ .messages)) (scopeOf (args′ .dictionary .now) (args′ .scope)) (args′ .levels) (args′ .most) (args′ .parent) (args′ .from) (ending-after′ .ensures) (c′ .given .1)
+    many-ends (args′ .request .now) (pre′ .1 .0 .octets) (environmentOf (args′ .dictionary .now) (args′ .parameters .now)
+    (args′ .messages)) (scopeOf (args′ .dictionary .now) (args′ .scope)) (args′ .levels) (args′ .most) (args′ .parent) (args′ .from)
+    (ending-after′ .ensures) (c′ .given .1)
 
 pub same-length : (t : ℕ) → many-lts.Need-same-length (ending-after-reads.Asked, ending-after-reads.Learnt, descend-below t, descend.Post, many-below t, many.Post) (many-at t) many.Post
 same-length t c = search needs
@@ -80,13 +103,17 @@ same-length-3 t c = search needs
 pub returns-3 : (t : ℕ) → many-lts.Need-returns-3 (ending-after-reads.Asked, ending-after-reads.Learnt, descend-below t, descend.Post, many-below t, many.Post) (many-at t) many.Post
 returns-3 t c =
     let args′ = c .before .before .before .before .before .before .before .before .before .before .before .before .before .before .before .before .before .before .before .before .before .before .before .before .before .before .before .before .before .before .before .args in
+    let scope′ = scopeOf (args′ .dictionary .now) (args′ .scope) in
+    let around′ = environmentOf (args′ .dictionary .now) (args′ .parameters .now) (args′ .messages) in
     let pre′ = c .before .before .before .before .before .before .before .before .before .before .before .before .before .before .before .before .before .before .before .before .before .before .before .before .before .before .before .before .before .before .before .pre in
     let ending-after′ = c .before .before .before .before .before .before .before .before .before .before .before .before .before .before .before .before .before .before .before .before .before .before .before .before .ending-after in
     let c2′ = c .before .before .before .before .before .before .before .before .before .before .before .before .before .before .before .before .before .before .before .before .before .before .c2 in
     let if1′ = c .before .before .before .before .before .before .before .before .before .before .before .before .before .before .before .before .before .before .before .before .if1 in
     let descend′ = c .before .before .before .before .before .before .before .before .before .before .before .before .before .before .before .before .descend in
     let many′ = c .before .before .before .before .before .before .many in
-    many-goes (args′ .request .now) (pre′ .1 .0 .octets) (environmentOf (args′ .dictionary .now) (args′ .parameters .now) (args′ .messages)) (scopeOf (args′ .dictionary .now) (args′ .scope)) (args′ .levels) (args′ .most) (args′ .parent) (args′ .from) (ending-after′ .ensures) (c2′ .given .1) (if1′ .left) (statements-below (environmentOf (args′ .dictionary .now) (args′ .parameters .now) (args′ .messages)) (scopeOf (args′ .dictionary .now) (args′ .scope)) (args′ .request .now) (args′ .levels) (pre′ .1 .1 .0) (args′ .parent) (descend′ .ensures)) (many′ .ensures)
+    many-goes (args′ .request .now) (pre′ .1 .0 .octets) around′ scope′ (args′ .levels) (args′ .most) (args′ .parent) (args′ .from)
+    (ending-after′ .ensures) (c2′ .given .1) (if1′ .left) (statements-below around′ scope′ (args′ .request .now) (args′ .levels)
+    (pre′ .1 .1 .0) (args′ .parent) (descend′ .ensures)) (many′ .ensures)
 
 pub returns-4 : (t : ℕ) → many-lts.Need-returns-4 (ending-after-reads.Asked, ending-after-reads.Learnt, descend-below t, descend.Post, many-below t, many.Post) (many-at t) many.Post
 returns-4 t c =
@@ -94,4 +121,6 @@ returns-4 t c =
     let pre′ = c .before .before .before .before .before .before .before .before .before .before .pre in
     let ending-after′ = c .before .before .before .ending-after in
     let r′ = c .before .r in
-    many-stops (args′ .request .now) (pre′ .1 .0 .octets) (environmentOf (args′ .dictionary .now) (args′ .parameters .now) (args′ .messages)) (scopeOf (args′ .dictionary .now) (args′ .scope)) (args′ .levels) (args′ .most) (args′ .parent) (args′ .from) (ending-after′ .ensures) (r′ .given .1)
+    many-stops (args′ .request .now) (pre′ .1 .0 .octets) (environmentOf (args′ .dictionary .now) (args′ .parameters .now)
+    (args′ .messages)) (scopeOf (args′ .dictionary .now) (args′ .scope)) (args′ .levels) (args′ .most) (args′ .parent) (args′ .from)
+    (ending-after′ .ensures) (r′ .given .1)

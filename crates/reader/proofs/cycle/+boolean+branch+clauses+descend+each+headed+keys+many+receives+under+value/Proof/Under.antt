@@ -85,8 +85,13 @@ enum-told-7 t c = search needs
 
 pub receives-requires : (t : ℕ) → under-lts.Need-receives-requires (descend-below t, descend.Post, target-after-reads.Asked, target-after-reads.Learnt, alike-reads.Asked, alike-reads.Learnt, many-below t, many.Post, erase-reads.Asked, erase-reads.Learnt, each-below t, each.Post, leave-reads.Asked, leave-reads.Learnt, branch-below t, branch.Post, receives-below t, receives.Post, headed-below t, headed.Post) (under-at t) under.Post
 receives-requires t c κs =
-    let pre′ = c .before .before .before .before .before .before .before .before .before .before .before .pre in
-    (omega (arith, pre′ .0), (given-next _ (pre′ .1 .given) (omega arith), (pre′ .1 .deep, (omega arith, (pre′ .1 .given .ready .statements-few, marks-none _ refl)))))
+    let pre′ = c .before .before .before .before .before .before .before .before .before .before .before .pre in (
+      omega (arith, pre′ .0),
+      (
+        given-next _ (pre′ .1 .given) (omega arith),
+        (pre′ .1 .deep, (omega arith, (pre′ .1 .given .ready .statements-few, marks-none _ refl))),
+      ),
+    )
 
 pub headed-requires : (t : ℕ) → under-lts.Need-headed-requires (descend-below t, descend.Post, target-after-reads.Asked, target-after-reads.Learnt, alike-reads.Asked, alike-reads.Learnt, many-below t, many.Post, erase-reads.Asked, erase-reads.Learnt, each-below t, each.Post, leave-reads.Asked, leave-reads.Learnt, branch-below t, branch.Post, receives-below t, receives.Post, headed-below t, headed.Post) (under-at t) under.Post
 headed-requires t c κs =
@@ -105,12 +110,16 @@ same-length-3 t c = search needs
 pub returns : (t : ℕ) → under-lts.Need-returns (descend-below t, descend.Post, target-after-reads.Asked, target-after-reads.Learnt, alike-reads.Asked, alike-reads.Learnt, many-below t, many.Post, erase-reads.Asked, erase-reads.Learnt, each-below t, each.Post, leave-reads.Asked, leave-reads.Learnt, branch-below t, branch.Post, receives-below t, receives.Post, headed-below t, headed.Post) (under-at t) under.Post
 returns t c =
     let args′ = c .before .before .before .before .before .before .before .before .before .before .before .before .before .before .before .before .before .before .before .before .args in
+    let scope′ = scopeOf (args′ .dictionary .now) (args′ .scope) in
+    let around′ = environmentOf (args′ .dictionary .now) (args′ .parameters .now) (args′ .messages) in
     let enum-told′ = c .before .before .before .before .before .before .before .before .before .before .before .before .enum-told in
     let pre′ = c .before .before .before .before .before .before .before .before .before .before .before .before .before .before .before .before .before .before .before .before .pre in
     let descend′ = c .before .before .before .before .before .before .before .before .descend in
     let target-after′ = c .before .target-after in
     let alike′ = c .alike in
-    assign-under (args′ .request .now) (environmentOf (args′ .dictionary .now) (args′ .parameters .now) (args′ .messages)) (scopeOf (args′ .dictionary .now) (args′ .scope)) (args′ .levels) (args′ .at) (args′ .c) (enum-told′ .given .1) (values-below (environmentOf (args′ .dictionary .now) (args′ .parameters .now) (args′ .messages)) (scopeOf (args′ .dictionary .now) (args′ .scope)) (args′ .request .now) (args′ .levels) (pre′ .1 .deep) 0 (descend′ .ensures)) (target-after′ .ensures) (alike′ .ensures)
+    assign-under (args′ .request .now) around′ scope′ (args′ .levels) (args′ .at) (args′ .c) (enum-told′ .given .1)
+    (values-below around′ scope′ (args′ .request .now) (args′ .levels) (pre′ .1 .deep) 0 (descend′ .ensures)) (target-after′ .ensures)
+    (alike′ .ensures)
 
 pub same-length-4 : (t : ℕ) → under-lts.Need-same-length-4 (descend-below t, descend.Post, target-after-reads.Asked, target-after-reads.Learnt, alike-reads.Asked, alike-reads.Learnt, many-below t, many.Post, erase-reads.Asked, erase-reads.Learnt, each-below t, each.Post, leave-reads.Asked, leave-reads.Learnt, branch-below t, branch.Post, receives-below t, receives.Post, headed-below t, headed.Post) (under-at t) under.Post
 same-length-4 t c = search needs
@@ -127,14 +136,17 @@ returns-2 t c =
     let enum-told2′ = c .before .before .before .before .before .before .before .before .before .before .enum-told2 in
     let pre′ = c .before .before .before .before .before .before .before .before .before .before .before .before .before .before .before .before .before .before .pre in
     let many′ = c .before .before .before .before .before .before .many in
-    begin-under (args′ .request .now) (environmentOf (args′ .dictionary .now) (args′ .parameters .now) (args′ .messages)) (scopeOf (args′ .dictionary .now) (args′ .scope)) (args′ .levels) (args′ .at) (args′ .c) (enum-told2′ .given .1) (pre′ .1 .here) (many′ .ensures)
+    begin-under (args′ .request .now) (environmentOf (args′ .dictionary .now) (args′ .parameters .now) (args′ .messages))
+    (scopeOf (args′ .dictionary .now) (args′ .scope)) (args′ .levels) (args′ .at) (args′ .c) (enum-told2′ .given .1) (pre′ .1 .here)
+    (many′ .ensures)
 
 pub returns-3 : (t : ℕ) → under-lts.Need-returns-3 (descend-below t, descend.Post, target-after-reads.Asked, target-after-reads.Learnt, alike-reads.Asked, alike-reads.Learnt, many-below t, many.Post, erase-reads.Asked, erase-reads.Learnt, each-below t, each.Post, leave-reads.Asked, leave-reads.Learnt, branch-below t, branch.Post, receives-below t, receives.Post, headed-below t, headed.Post) (under-at t) under.Post
 returns-3 t c =
     let args′ = c .before .before .before .before .before .before .before .before .before .args in
     let enum-told3′ = c .before .enum-told3 in
     let erase′ = c .erase in
-    erase-under (args′ .request .now) (environmentOf (args′ .dictionary .now) (args′ .parameters .now) (args′ .messages)) (scopeOf (args′ .dictionary .now) (args′ .scope)) (args′ .levels) (args′ .at) (args′ .c) (enum-told3′ .given .1) (erase′ .ensures)
+    erase-under (args′ .request .now) (environmentOf (args′ .dictionary .now) (args′ .parameters .now) (args′ .messages))
+    (scopeOf (args′ .dictionary .now) (args′ .scope)) (args′ .levels) (args′ .at) (args′ .c) (enum-told3′ .given .1) (erase′ .ensures)
 
 pub same-length-7 : (t : ℕ) → under-lts.Need-same-length-7 (descend-below t, descend.Post, target-after-reads.Asked, target-after-reads.Learnt, alike-reads.Asked, alike-reads.Learnt, many-below t, many.Post, erase-reads.Asked, erase-reads.Learnt, each-below t, each.Post, leave-reads.Asked, leave-reads.Learnt, branch-below t, branch.Post, receives-below t, receives.Post, headed-below t, headed.Post) (under-at t) under.Post
 same-length-7 t c = search needs
@@ -150,14 +162,16 @@ returns-4 t c =
     let args′ = c .before .before .before .before .before .before .before .before .before .before .before .before .before .before .before .before .before .before .args in
     let enum-told4′ = c .before .before .before .before .before .before .before .before .before .before .enum-told4 in
     let each′ = c .before .before .before .before .before .before .each in
-    for-under (args′ .request .now) (environmentOf (args′ .dictionary .now) (args′ .parameters .now) (args′ .messages)) (scopeOf (args′ .dictionary .now) (args′ .scope)) (args′ .levels) (args′ .at) (args′ .c) (enum-told4′ .given .1) (each′ .ensures)
+    for-under (args′ .request .now) (environmentOf (args′ .dictionary .now) (args′ .parameters .now) (args′ .messages))
+    (scopeOf (args′ .dictionary .now) (args′ .scope)) (args′ .levels) (args′ .at) (args′ .c) (enum-told4′ .given .1) (each′ .ensures)
 
 pub returns-5 : (t : ℕ) → under-lts.Need-returns-5 (descend-below t, descend.Post, target-after-reads.Asked, target-after-reads.Learnt, alike-reads.Asked, alike-reads.Learnt, many-below t, many.Post, erase-reads.Asked, erase-reads.Learnt, each-below t, each.Post, leave-reads.Asked, leave-reads.Learnt, branch-below t, branch.Post, receives-below t, receives.Post, headed-below t, headed.Post) (under-at t) under.Post
 returns-5 t c =
     let args′ = c .before .before .before .before .before .before .before .before .before .args in
     let enum-told5′ = c .before .enum-told5 in
     let leave′ = c .leave in
-    leave-under (args′ .request .now) (environmentOf (args′ .dictionary .now) (args′ .parameters .now) (args′ .messages)) (scopeOf (args′ .dictionary .now) (args′ .scope)) (args′ .levels) (args′ .at) (args′ .c) (enum-told5′ .given .1) (leave′ .ensures)
+    leave-under (args′ .request .now) (environmentOf (args′ .dictionary .now) (args′ .parameters .now) (args′ .messages))
+    (scopeOf (args′ .dictionary .now) (args′ .scope)) (args′ .levels) (args′ .at) (args′ .c) (enum-told5′ .given .1) (leave′ .ensures)
 
 pub same-length-10 : (t : ℕ) → under-lts.Need-same-length-10 (descend-below t, descend.Post, target-after-reads.Asked, target-after-reads.Learnt, alike-reads.Asked, alike-reads.Learnt, many-below t, many.Post, erase-reads.Asked, erase-reads.Learnt, each-below t, each.Post, leave-reads.Asked, leave-reads.Learnt, branch-below t, branch.Post, receives-below t, receives.Post, headed-below t, headed.Post) (under-at t) under.Post
 same-length-10 t c = search needs
@@ -173,7 +187,8 @@ returns-6 t c =
     let args′ = c .before .before .before .before .before .before .before .before .before .before .before .before .before .before .before .before .before .before .args in
     let enum-told6′ = c .before .before .before .before .before .before .before .before .before .before .enum-told6 in
     let branch′ = c .before .before .before .before .before .before .branch in
-    if-under (args′ .request .now) (environmentOf (args′ .dictionary .now) (args′ .parameters .now) (args′ .messages)) (scopeOf (args′ .dictionary .now) (args′ .scope)) (args′ .levels) (args′ .at) (args′ .c) (enum-told6′ .given .1) (branch′ .ensures)
+    if-under (args′ .request .now) (environmentOf (args′ .dictionary .now) (args′ .parameters .now) (args′ .messages))
+    (scopeOf (args′ .dictionary .now) (args′ .scope)) (args′ .levels) (args′ .at) (args′ .c) (enum-told6′ .given .1) (branch′ .ensures)
 
 pub same-length-13 : (t : ℕ) → under-lts.Need-same-length-13 (descend-below t, descend.Post, target-after-reads.Asked, target-after-reads.Learnt, alike-reads.Asked, alike-reads.Learnt, many-below t, many.Post, erase-reads.Asked, erase-reads.Learnt, each-below t, each.Post, leave-reads.Asked, leave-reads.Learnt, branch-below t, branch.Post, receives-below t, receives.Post, headed-below t, headed.Post) (under-at t) under.Post
 same-length-13 t c = search needs
@@ -190,7 +205,9 @@ returns-7 t c =
     let enum-told7′ = c .before .before .before .before .before .before .before .before .before .before .enum-told7 in
     let pre′ = c .before .before .before .before .before .before .before .before .before .before .before .before .before .before .before .before .before .before .pre in
     let receives′ = c .before .before .before .before .before .before .receives in
-    select-under (args′ .request .now) (environmentOf (args′ .dictionary .now) (args′ .parameters .now) (args′ .messages)) (scopeOf (args′ .dictionary .now) (args′ .scope)) (args′ .levels) (args′ .at) (args′ .c) (enum-told7′ .given .1) (pre′ .1 .here) (receives′ .ensures .received [] (none-selected _ refl))
+    select-under (args′ .request .now) (environmentOf (args′ .dictionary .now) (args′ .parameters .now) (args′ .messages))
+    (scopeOf (args′ .dictionary .now) (args′ .scope)) (args′ .levels) (args′ .at) (args′ .c) (enum-told7′ .given .1) (pre′ .1 .here)
+    (receives′ .ensures .received [] (none-selected _ refl))
 
 pub same-length-16 : (t : ℕ) → under-lts.Need-same-length-16 (descend-below t, descend.Post, target-after-reads.Asked, target-after-reads.Learnt, alike-reads.Asked, alike-reads.Learnt, many-below t, many.Post, erase-reads.Asked, erase-reads.Learnt, each-below t, each.Post, leave-reads.Asked, leave-reads.Learnt, branch-below t, branch.Post, receives-below t, receives.Post, headed-below t, headed.Post) (under-at t) under.Post
 same-length-16 t c = search needs
@@ -206,4 +223,5 @@ returns-8 t c =
     let args′ = c .before .before .before .before .before .before .before .before .before .before .before .before .before .before .before .before .before .args in
     let match′ = c .before .before .before .before .before .before .before .before .before .before .match in
     let headed′ = c .before .before .before .before .before .before .headed in
-    headed-under (args′ .request .now) (environmentOf (args′ .dictionary .now) (args′ .parameters .now) (args′ .messages)) (scopeOf (args′ .dictionary .now) (args′ .scope)) (args′ .levels) (args′ .at) (args′ .c) (args′ .k) (match′ .keys8) (headed′ .ensures)
+    headed-under (args′ .request .now) (environmentOf (args′ .dictionary .now) (args′ .parameters .now) (args′ .messages))
+    (scopeOf (args′ .dictionary .now) (args′ .scope)) (args′ .levels) (args′ .at) (args′ .c) (args′ .k) (match′ .keys8) (headed′ .ensures)

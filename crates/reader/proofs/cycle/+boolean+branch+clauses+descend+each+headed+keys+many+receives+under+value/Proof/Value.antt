@@ -49,8 +49,14 @@ pub descend-requires-2 : (t : ℕ) → value-lts.Need-descend-requires-2 (read-l
 descend-requires-2 t c κs =
     let pre′ = c .before .before .before .before .before .before .before .before .before .before .before .before .before .before .before .before .before .before .before .before .before .before .pre in
     let descend′ = c .before .before .before .before .before .before .before .before .before .descend in
-    let args′ = c .before .before .before .before .before .before .before .before .before .before .before .before .before .before .before .before .before .before .before .before .before .before .args in
-    (omega (arith, pre′ .0, pre′ .1 .deep), ((given-again (given-next _ (pre′ .1 .given) (omega arith)) (descend′ .ensures) (value-onward (args′ .request .now) (pre′ .1 .given .octets) _ _ _)), omega arith))
+    let args′ = c .before .before .before .before .before .before .before .before .before .before .before .before .before .before .before .before .before .before .before .before .before .before .args in (
+      omega (arith, pre′ .0, pre′ .1 .deep),
+      (
+        (given-again (given-next _ (pre′ .1 .given) (omega arith)) (descend′ .ensures)
+            (value-onward (args′ .request .now) (pre′ .1 .given .octets) _ _ _)),
+        omega arith,
+      ),
+    )
 
 pub arithmetic-requires : (t : ℕ) → value-lts.Need-arithmetic-requires (read-literal-reads.Asked, read-literal-reads.Learnt, read-reference-reads.Asked, read-reference-reads.Learnt, descend-below t, descend.Post, arithmetic-reads.Asked, arithmetic-reads.Learnt, negation-reads.Asked, negation-reads.Learnt) (value-at t) value.Post
 arithmetic-requires t c κs = search needs
@@ -74,16 +80,22 @@ negation-requires t c κs = search needs
 pub returns : (t : ℕ) → value-lts.Need-returns (read-literal-reads.Asked, read-literal-reads.Learnt, read-reference-reads.Asked, read-reference-reads.Learnt, descend-below t, descend.Post, arithmetic-reads.Asked, arithmetic-reads.Learnt, negation-reads.Asked, negation-reads.Learnt) (value-at t) value.Post
 returns t c =
     let args′ = c .before .before .before .before .before .before .before .before .before .args in
+    let scope′ = scopeOf (args′ .dictionary .now) (args′ .scope) in
+    let around′ = environmentOf (args′ .dictionary .now) (args′ .parameters .now) (args′ .messages) in
     let enum-told′ = c .before .enum-told in
     let read-literal′ = c .read-literal in
-    literal-kept (readValue (args′ .levels) (environmentOf (args′ .dictionary .now) (args′ .parameters .now) (args′ .messages)) (scopeOf (args′ .dictionary .now) (args′ .scope))) (environmentOf (args′ .dictionary .now) (args′ .parameters .now) (args′ .messages)) (scopeOf (args′ .dictionary .now) (args′ .scope)) (args′ .at) (args′ .request .now) (args′ .c) (enum-told′ .given .1) (read-literal′ .ensures)
+    literal-kept (readValue (args′ .levels) around′ scope′) around′ scope′ (args′ .at) (args′ .request .now) (args′ .c)
+    (enum-told′ .given .1) (read-literal′ .ensures)
 
 pub returns-2 : (t : ℕ) → value-lts.Need-returns-2 (read-literal-reads.Asked, read-literal-reads.Learnt, read-reference-reads.Asked, read-reference-reads.Learnt, descend-below t, descend.Post, arithmetic-reads.Asked, arithmetic-reads.Learnt, negation-reads.Asked, negation-reads.Learnt) (value-at t) value.Post
 returns-2 t c =
     let args′ = c .before .before .before .before .before .before .before .before .before .before .args in
+    let scope′ = scopeOf (args′ .dictionary .now) (args′ .scope) in
+    let around′ = environmentOf (args′ .dictionary .now) (args′ .parameters .now) (args′ .messages) in
     let k′ = c .before .before .k in
     let read-reference′ = c .read-reference in
-    reference-kept (readValue (args′ .levels) (environmentOf (args′ .dictionary .now) (args′ .parameters .now) (args′ .messages)) (scopeOf (args′ .dictionary .now) (args′ .scope))) (environmentOf (args′ .dictionary .now) (args′ .parameters .now) (args′ .messages)) (scopeOf (args′ .dictionary .now) (args′ .scope)) (args′ .at) (args′ .request .now) (args′ .c) (k′ .given .1) (read-reference′ .ensures)
+    reference-kept (readValue (args′ .levels) around′ scope′) around′ scope′ (args′ .at) (args′ .request .now) (args′ .c) (k′ .given .1)
+    (read-reference′ .ensures)
 
 pub same-length : (t : ℕ) → value-lts.Need-same-length (read-literal-reads.Asked, read-literal-reads.Learnt, read-reference-reads.Asked, read-reference-reads.Learnt, descend-below t, descend.Post, arithmetic-reads.Asked, arithmetic-reads.Learnt, negation-reads.Asked, negation-reads.Learnt) (value-at t) value.Post
 same-length t c = search needs
@@ -97,12 +109,16 @@ same-length-3 t c = search needs
 pub returns-3 : (t : ℕ) → value-lts.Need-returns-3 (read-literal-reads.Asked, read-literal-reads.Learnt, read-reference-reads.Asked, read-reference-reads.Learnt, descend-below t, descend.Post, arithmetic-reads.Asked, arithmetic-reads.Learnt, negation-reads.Asked, negation-reads.Learnt) (value-at t) value.Post
 returns-3 t c =
     let args′ = c .before .before .before .before .before .before .before .before .before .before .before .before .before .before .before .before .before .before .before .before .before .before .before .before .before .before .before .before .before .before .args in
+    let scope′ = scopeOf (args′ .dictionary .now) (args′ .scope) in
+    let around′ = environmentOf (args′ .dictionary .now) (args′ .parameters .now) (args′ .messages) in
     let pre′ = c .before .before .before .before .before .before .before .before .before .before .before .before .before .before .before .before .before .before .before .before .before .before .before .before .before .before .before .before .before .before .pre in
     let descend′ = c .before .before .before .before .before .before .before .before .before .before .before .before .before .before .before .before .before .descend in
     let k2′ = c .before .before .before .before .before .before .before .before .before .before .before .before .before .before .before .before .before .before .before .before .before .before .k2 in
     let descend2′ = c .before .before .before .before .before .before .before .descend2 in
     let arithmetic′ = c .arithmetic in
-    arithmetic-kept (readValue (args′ .levels) (environmentOf (args′ .dictionary .now) (args′ .parameters .now) (args′ .messages)) (scopeOf (args′ .dictionary .now) (args′ .scope))) (environmentOf (args′ .dictionary .now) (args′ .parameters .now) (args′ .messages)) (scopeOf (args′ .dictionary .now) (args′ .scope)) (args′ .at) (args′ .request .now) (args′ .c) (values-below (environmentOf (args′ .dictionary .now) (args′ .parameters .now) (args′ .messages)) (scopeOf (args′ .dictionary .now) (args′ .scope)) (args′ .request .now) (args′ .levels) (pre′ .1 .deep) 0 (descend′ .ensures)) (k2′ .given .1) (values-below (environmentOf (args′ .dictionary .now) (args′ .parameters .now) (args′ .messages)) (scopeOf (args′ .dictionary .now) (args′ .scope)) (args′ .request .now) (args′ .levels) (pre′ .1 .deep) 0 (descend2′ .ensures)) (arithmetic′ .ensures)
+    arithmetic-kept (readValue (args′ .levels) around′ scope′) around′ scope′ (args′ .at) (args′ .request .now) (args′ .c)
+    (values-below around′ scope′ (args′ .request .now) (args′ .levels) (pre′ .1 .deep) 0 (descend′ .ensures)) (k2′ .given .1)
+    (values-below around′ scope′ (args′ .request .now) (args′ .levels) (pre′ .1 .deep) 0 (descend2′ .ensures)) (arithmetic′ .ensures)
 
 pub same-length-4 : (t : ℕ) → value-lts.Need-same-length-4 (read-literal-reads.Asked, read-literal-reads.Learnt, read-reference-reads.Asked, read-reference-reads.Learnt, descend-below t, descend.Post, arithmetic-reads.Asked, arithmetic-reads.Learnt, negation-reads.Asked, negation-reads.Learnt) (value-at t) value.Post
 same-length-4 t c = search needs
@@ -116,8 +132,12 @@ same-length-6 t c = search needs
 pub returns-4 : (t : ℕ) → value-lts.Need-returns-4 (read-literal-reads.Asked, read-literal-reads.Learnt, read-reference-reads.Asked, read-reference-reads.Learnt, descend-below t, descend.Post, arithmetic-reads.Asked, arithmetic-reads.Learnt, negation-reads.Asked, negation-reads.Learnt) (value-at t) value.Post
 returns-4 t c =
     let args′ = c .before .before .before .before .before .before .before .before .before .before .before .before .before .before .before .before .before .before .before .args in
+    let scope′ = scopeOf (args′ .dictionary .now) (args′ .scope) in
+    let around′ = environmentOf (args′ .dictionary .now) (args′ .parameters .now) (args′ .messages) in
     let pre′ = c .before .before .before .before .before .before .before .before .before .before .before .before .before .before .before .before .before .before .before .pre in
     let descend3′ = c .before .before .before .before .before .before .before .descend3 in
     let enum-told2′ = c .before .before .before .before .before .before .before .before .before .before .before .enum-told2 in
     let negation′ = c .negation in
-    negate-kept (readValue (args′ .levels) (environmentOf (args′ .dictionary .now) (args′ .parameters .now) (args′ .messages)) (scopeOf (args′ .dictionary .now) (args′ .scope))) (environmentOf (args′ .dictionary .now) (args′ .parameters .now) (args′ .messages)) (scopeOf (args′ .dictionary .now) (args′ .scope)) (args′ .at) (args′ .request .now) (args′ .c) (values-below (environmentOf (args′ .dictionary .now) (args′ .parameters .now) (args′ .messages)) (scopeOf (args′ .dictionary .now) (args′ .scope)) (args′ .request .now) (args′ .levels) (pre′ .1 .deep) 0 (descend3′ .ensures)) (enum-told2′ .given .1) (negation′ .ensures)
+    negate-kept (readValue (args′ .levels) around′ scope′) around′ scope′ (args′ .at) (args′ .request .now) (args′ .c)
+    (values-below around′ scope′ (args′ .request .now) (args′ .levels) (pre′ .1 .deep) 0 (descend3′ .ensures)) (enum-told2′ .given .1)
+    (negation′ .ensures)
