@@ -4,6 +4,8 @@
  * seen from here: a call takes numbers and pointers with lengths, allocates nothing, keeps no state between calls, never
  * traps, and always returns, whatever the bytes are. No argument has to be tested before a call.
  *
+ * A call uses at most about 100 kilobytes of stack, by the depth of the request (docs/PROOFS.md).
+ *
  * A pointer may be anything if its length is 0. The slices of one call must not overlap. Any number of threads may call
  * at once, each with tables of its own.
  *

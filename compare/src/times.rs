@@ -9,19 +9,26 @@ use second::{decimal, text, wire};
 use std::hint::black_box;
 use std::time::Instant;
 
-/// Seconds that so many calls take: the least of five runs.
-fn seconds(calls: usize, mut call: impl FnMut(usize)) -> f64 {
-    (0..5)
-        .map(|_| {
-            let start = Instant::now();
-            (0..calls).for_each(&mut call);
-            start.elapsed().as_secs_f64()
-        })
-        .fold(f64::INFINITY, f64::min)
+/// Seconds that so many calls take.
+fn seconds(calls: usize, call: &mut impl FnMut(usize)) -> f64 {
+    let start = Instant::now();
+    (0..calls).for_each(call);
+    start.elapsed().as_secs_f64()
+}
+
+/// Seconds that so many calls of each take: the least of eleven runs, which go in turn, so that both see the same machine.
+fn both(
+    calls: usize,
+    mut proved: impl FnMut(usize),
+    mut plain: impl FnMut(usize),
+) -> (f64, f64) {
+    (0..11).fold((f64::INFINITY, f64::INFINITY), |(one, other), _| {
+        (one.min(seconds(calls, &mut proved)), other.min(seconds(calls, &mut plain)))
+    })
 }
 
 fn line(name: &str, calls: usize, proved: impl FnMut(usize), plain: impl FnMut(usize)) {
-    let (one, other) = (seconds(calls, proved), seconds(calls, plain));
+    let (one, other) = both(calls, proved, plain);
     let each = one / calls as f64 * 1e9;
     println!("{name:<32} {:>8.2} {each:>12.1} ns a call", one / other);
 }
@@ -206,16 +213,27 @@ fn readings() {
         let request = request_of_about(about);
         let length = request.len();
         let mut tables = TABLE_LENGTHS.map(|length| vec![0u32; length]);
+        let mut plain_tables = tables.clone();
         let [statements, parameters, contexts] = &mut tables;
+        let [plain_statements, plain_parameters, plain_contexts] = &mut plain_tables;
         let calls = 2_000_000 / length;
-        let one = seconds(calls, |_| {
-            let answer = proved::read(&request, &dictionary, statements, parameters, contexts);
-            black_box(answer).expect("a request that the rules allow");
-        });
-        let other = seconds(calls, |_| {
-            let answer = reader::read(&request, &dictionary, statements, parameters, contexts);
-            black_box(answer).expect("a request that the rules allow");
-        });
+        let (one, other) = both(
+            calls,
+            |_| {
+                let answer = proved::read(&request, &dictionary, statements, parameters, contexts);
+                black_box(answer).expect("a request that the rules allow");
+            },
+            |_| {
+                let answer = reader::read(
+                    &request,
+                    &dictionary,
+                    plain_statements,
+                    plain_parameters,
+                    plain_contexts,
+                );
+                black_box(answer).expect("a request that the rules allow");
+            },
+        );
         let speed = (length * calls) as f64 / one / 1e6;
         println!("{:<32} {:>8.2} {speed:>12.1} MB a second", format!("reading {length} bytes"), one / other);
     }
