@@ -34,7 +34,12 @@ fn rubbish(rng: &mut Rng, length: usize) -> Vec<u32> {
 }
 
 /// What differs between both readings of a request; the number of the refusal, or 0.
-fn differ(rng: &mut Rng, dictionary: &[u8], request: &[u8], lengths: [usize; 3]) -> (Option<String>, usize) {
+fn differ(
+    rng: &mut Rng,
+    dictionary: &[u8],
+    request: &[u8],
+    lengths: [usize; 3],
+) -> (Option<String>, usize) {
     let mut one = lengths.map(|length| rubbish(rng, length));
     let mut other = one.clone();
     let [statements, parameters, contexts] = &mut one;
@@ -45,11 +50,17 @@ fn differ(rng: &mut Rng, dictionary: &[u8], request: &[u8], lengths: [usize; 3])
         .map_err(|refusal| (refusal.number, refusal.place as u32));
     let number = plain.err().map_or(0, |(number, _)| number as usize);
     if proved != plain {
-        let text = format!("read {} {}: {proved:?}, {plain:?}", hex::write(dictionary), hex::write(request));
+        let text = format!(
+            "read {} {}: {proved:?}, {plain:?}",
+            hex::write(dictionary),
+            hex::write(request)
+        );
         return (Some(text), number);
     }
     let table = (0..3).find(|table| one[*table] != other[*table]);
-    let text = table.map(|table| format!("table {table} of {} {}", hex::write(dictionary), hex::write(request)));
+    let text = table.map(|table| {
+        format!("table {table} of {} {}", hex::write(dictionary), hex::write(request))
+    });
     (text, number)
 }
 

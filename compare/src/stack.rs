@@ -15,7 +15,8 @@ struct Attributes([u8; 256]);
 
 extern "C" {
     fn pthread_attr_init(attributes: *mut Attributes) -> c_int;
-    fn pthread_attr_setstack(attributes: *mut Attributes, stack: *mut c_void, size: usize) -> c_int;
+    fn pthread_attr_setstack(attributes: *mut Attributes, stack: *mut c_void, size: usize)
+        -> c_int;
     fn pthread_create(
         thread: *mut usize,
         attributes: *const Attributes,
@@ -83,24 +84,41 @@ pub fn run() {
     let assign = |value: Vec<u8>| {
         headed(&[wire::SEND, 0], assemble::assignment(&value, &assemble::parameter(0, 0)))
     };
-    let conditional = |boolean: Vec<u8>| [&[wire::IF], boolean.as_slice(), &empty, &[wire::END]].concat();
+    let conditional =
+        |boolean: Vec<u8>| [&[wire::IF], boolean.as_slice(), &empty, &[wire::END]].concat();
     let loops = |level, inner| {
         assemble::for_loop(&[&assemble::rid(1, level as u8)], &[], &Vec::<u8>::clone(&inner))
     };
     let cases = [
-        ("begin", nested(30, empty.clone(), |_, inner| [&[wire::BEGIN], inner.as_slice(), &[wire::END]].concat())),
+        (
+            "begin",
+            nested(30, empty.clone(), |_, inner| {
+                [&[wire::BEGIN], inner.as_slice(), &[wire::END]].concat()
+            }),
+        ),
         ("loop", nested(30, empty.clone(), |_, inner| headed(&[wire::LOOP], inner))),
         ("label", nested(30, empty.clone(), |_, inner| headed(&[wire::LABEL, 1], inner))),
-        ("if", nested(29, empty.clone(), |_, inner| {
-            let test = assemble::operator(wire::MISSING, &[&assemble::short(0, 1)]);
-            [&[wire::IF], test.as_slice(), &inner, &[wire::END]].concat()
-        })),
-        ("select", nested(15, empty.clone(), |_, inner| {
-            [&[wire::SELECT, wire::RECEIVE, 0], inner.as_slice(), &[wire::END]].concat()
-        })),
+        (
+            "if",
+            nested(29, empty.clone(), |_, inner| {
+                let test = assemble::operator(wire::MISSING, &[&assemble::short(0, 1)]);
+                [&[wire::IF], test.as_slice(), &inner, &[wire::END]].concat()
+            }),
+        ),
+        (
+            "select",
+            nested(15, empty.clone(), |_, inner| {
+                [&[wire::SELECT, wire::RECEIVE, 0], inner.as_slice(), &[wire::END]].concat()
+            }),
+        ),
         ("for", nested(30, empty.clone(), loops)),
         ("negate", nested(1, operators(&[wire::NEGATE; 28]), |_, value| assign(value))),
-        ("not", nested(1, operators(&[&[wire::NOT; 28][..], &[wire::MISSING]].concat()), |_, test| conditional(test))),
+        (
+            "not",
+            nested(1, operators(&[&[wire::NOT; 28][..], &[wire::MISSING]].concat()), |_, test| {
+                conditional(test)
+            }),
+        ),
     ];
     let own = used(None);
     for (name, request) in cases {

@@ -17,11 +17,7 @@ fn seconds(calls: usize, call: &mut impl FnMut(usize)) -> f64 {
 }
 
 /// Seconds that so many calls of each take: the least of eleven runs, which go in turn, so that both see the same machine.
-fn both(
-    calls: usize,
-    mut proved: impl FnMut(usize),
-    mut plain: impl FnMut(usize),
-) -> (f64, f64) {
+fn both(calls: usize, mut proved: impl FnMut(usize), mut plain: impl FnMut(usize)) -> (f64, f64) {
     (0..11).fold((f64::INFINITY, f64::INFINITY), |(one, other), _| {
         (one.min(seconds(calls, &mut proved)), other.min(seconds(calls, &mut plain)))
     })
@@ -189,7 +185,8 @@ fn branch(tests: usize) -> Vec<u8> {
             assemble::operator(wire::LSS, &[&sum, &assemble::long(0, n as i32)])
         }
     };
-    let condition = (1..tests).fold(test(0), |rest, n| assemble::operator(wire::AND, &[&test(n), &rest]));
+    let condition =
+        (1..tests).fold(test(0), |rest, n| assemble::operator(wire::AND, &[&test(n), &rest]));
     let assign = assemble::assignment(&assemble::fid(0, 1), &assemble::parameter(0, 0));
     [&[wire::IF], condition.as_slice(), assign.as_slice(), &[wire::END]].concat()
 }
@@ -235,7 +232,11 @@ fn readings() {
             },
         );
         let speed = (length * calls) as f64 / one / 1e6;
-        println!("{:<32} {:>8.2} {speed:>12.1} MB a second", format!("reading {length} bytes"), one / other);
+        println!(
+            "{:<32} {:>8.2} {speed:>12.1} MB a second",
+            format!("reading {length} bytes"),
+            one / other
+        );
     }
 }
 
