@@ -42,7 +42,7 @@ module _ (e : Environment) (table : List ℕ) (x : Messages) (k : e .messages �
   unfolding Names.messageOf messagesOf
   found-in =
       ap (find (λ y. eqb (y .number) m)) k ∙ find-map (messageIn table) (λ y. eqb (y .number) m) (declaredIn x) ∙
-      found-answer table (find (λ y. eqb (y .number) m) (declaredIn x))
+      found-answer table (find (λ y. eqb (y .number .0) m) (declaredIn x))
 
   module _ (y : Message) (h : foundOf (declaredIn x) m ≡ Is y) where
     pub found-message : Names.messageOf e m ≡ some (messageIn table y)

@@ -70,11 +70,11 @@ module _ (s : List ℕ) (c : Cursor) (before : Messages) (table : List ℕ) wher
     pub message-again : {x : Message} → foundOf (declaredIn before) m ≡ Found.Is x → here ≡ refused BadMessage (c .at)
     unfolding messageBeside tested
     message-again f =
-        let a : anyOf (λ x. eqb (x .number) m) (declaredIn before) ≡ true = sym (found-any (declaredIn before) m) ∙ ap isFound f in
+        let a : anyOf (λ x. eqb (x .number .0) m) (declaredIn before) ≡ true = sym (found-any (declaredIn before) m) ∙ ap isFound f in
         rw (messageBeside, tested, e, a)
 
     module _ (f : foundOf (declaredIn before) m ≡ Found.Nothing) where
-      fresh : anyOf (λ x. eqb (x .number) m) (declaredIn before) ≡ false
+      fresh : anyOf (λ x. eqb (x .number .0) m) (declaredIn before) ≡ false
       fresh = sym (found-any (declaredIn before) m) ∙ ap isFound f
 
       pub message-cut : {r : Refusal} {p : ℕ} → word s first ≡ refused r p → here ≡ refused EndsEarly (length s)
@@ -104,7 +104,7 @@ module _ (s : List ℕ) (c : Cursor) (before : Messages) (table : List ℕ) wher
             described = rw w at j′
 
             pub message-told : {k : Fit} {q : Cursor} → r ≡ Step.Next k q → {y : Message} →
-                y ≡ record { number = m; first = before .rows; parameters = n } → Told s c before table table′ (MessageStep.Is y q)
+                y ≡ record { number = record { 0 = m }; first = before .rows; parameters = n } → Told s c before table table′ (MessageStep.Is y q)
             message-told {q} v {y} u =
                 let d = step-read noKind (descriptors n 0 s second) (sym v ∙ described .answer) in
                 let z = told-by (read (d .0) q) (d .1) in
@@ -121,7 +121,7 @@ beside-few : (before : List Message) (rows : ℕ) (s : List ℕ) (c : Cursor) {m
     messageBeside before rows s c ≡ read m q → rows + length (m .descriptors) ≤ 256
 unfolding messageBeside
 beside-few before rows s c {m} {q} h =
-    undo (tested byte (λ m. not (anyOf (λ x. eqb (x .number) m) before)) _ s c) _ h (λ k q₁ e v.
+    undo (tested byte (λ m. not (anyOf (λ x. eqb (x .number .0) m) before)) _ s c) _ h (λ k q₁ e v.
     undo (tested word (λ n. leb n 128 && leb (rows + n) 256) _ s q₁) _ v (λ n q₂ e₁ v₁.
     undo (descriptors n 0 s q₂) _ v₁ (λ ds q₃ e₂ v₂.
     let b = tested-read s q₁ word (λ n. leb n 128 && leb (rows + n) 256) _ e₁ in
@@ -130,7 +130,7 @@ beside-few before rows s c {m} {q} h =
 
 -- the code's answer taken apart
 told-read : (row : ℕ) (x : Read Tree.Message) {y : Message} {q : Cursor} → MessageStep.Is y q ≡ messageStep row x →
-    (m : Tree.Message) × (x ≡ read m q) × (y ≡ record { number = m .number; first = row; parameters = length (m .descriptors) })
+    (m : Tree.Message) × (x ≡ read m q) × (y ≡ record { first = row; number = record { 0 = m .number }; parameters = length (m .descriptors) })
 told-read row (read m c) e = (m, cc, cc)
 told-read row (refused r p) e = absurd-eq (cc)
 
@@ -141,7 +141,7 @@ told-not row (refused r p) e = cc
 -- ---- messages as the code has them
 
 any-entries : (ms : List Tree.Message) (row m : ℕ) →
-    anyOf (λ x. eqb (x .number) m) (entriesFrom row ms) ≡ anyOf (λ x. eqb (x .number) m) ms
+    anyOf (λ x. eqb (x .number .0) m) (entriesFrom row ms) ≡ anyOf (λ x. eqb (x .number) m) ms
 unfolding anyOf entriesFrom
 any-entries [] row m = refl
 any-entries (x ∷ ms) row m = ap (λ b. eqb (x .number) m || b) (any-entries ms (row + length (x .descriptors)) m)
@@ -157,7 +157,7 @@ message-beside ms s c =
 
 pub entries-more : (ms : List Tree.Message) (row : ℕ) (m : Tree.Message) →
     entriesFrom row (ms ++ (m ∷ [])) ≡
-    entriesFrom row ms ++ (record { number = m .number; first = row + parameterCount ms; parameters = length (m .descriptors) } ∷ [])
+    entriesFrom row ms ++ (record { first = row + parameterCount ms; number = record { 0 = m .number }; parameters = length (m .descriptors) } ∷ [])
 unfolding entriesFrom sumOf
 entries-more [] row m = rw (add-zero row)
 entries-more (x ∷ ms) row m =
@@ -166,7 +166,7 @@ entries-more (x ∷ ms) row m =
 
 entries-added : (l : List Message) (n : ℕ) (ms : List Tree.Message) (m : Message) (tree : Tree.Message) → n < length l →
     take n l ≡ entriesFrom 0 ms →
-    m ≡ record { number = tree .number; first = parameterCount ms; parameters = length (tree .descriptors) } →
+    m ≡ record { first = parameterCount ms; number = record { 0 = tree .number }; parameters = length (tree .descriptors) } →
     take (n + 1) (set l n m) ≡ entriesFrom 0 (ms ++ (tree ∷ []))
 entries-added l n ms m tree h e k =
     let a : take (n + 1) (set l n m) ≡ take n l ++ (m ∷ []) = rw (add-one n) (take-suc-set l n m h) in
@@ -288,7 +288,7 @@ module _ {s : List ℕ} {c₀ c : Cursor} {x : Messages} {table₀ table : List 
 
       more : (tree : Tree.Message) (q₁ : Cursor) → messageBeside (declaredIn x) (x .rows) s (on c 1) ≡ read tree q₁ → (table₁ : List ℕ) →
           table₁ ≡ sets table (x .rows * 6) (descriptorRows (tree .number) 0 0 (tree .descriptors)) → (m : Message) →
-          m ≡ record { number = tree .number; first = x .rows; parameters = length (tree .descriptors) } →
+          m ≡ record { first = x .rows; number = record { 0 = tree .number }; parameters = length (tree .descriptors) } →
           Reached s c₀ q₁ (record { all = set (x .all) (x .count) m; count = x .count + 1; rows = x .rows + m .parameters }) table₀ table₁
       more tree q₁ d table₁ g m f =
           let l : m .parameters ≡ length (tree .descriptors) = ap (λ m. m .parameters) f in

@@ -19,13 +19,13 @@ unfolding find
 no-message m e = rw e
 
 module _ (m : ℕ) (l : List Message) (n i : ℕ) (h : i < length l) (k : i < n) (d : Message) where
-  pub message-here : getD l i d .number ≡ m → Is (getD l i d) ≡ foundOf (rest l n i) m
+  pub message-here : getD l i d .number .0 ≡ m → Is (getD l i d) ≡ foundOf (rest l n i) m
   unfolding find
-  message-here e = rw (rest-next l n i d h k, eq-eqb (getD l i d .number) m e)
+  message-here e = rw (rest-next l n i d h k, eq-eqb (getD l i d .number .0) m e)
 
-  pub message-next : (getD l i d .number ≡ m → ⊥) → foundOf (rest l n i) m ≡ foundOf (rest l n (i + 1)) m
+  pub message-next : (getD l i d .number .0 ≡ m → ⊥) → foundOf (rest l n i) m ≡ foundOf (rest l n (i + 1)) m
   unfolding find
-  message-next e = rw (rest-next l n i d h k, ne-eqb (getD l i d .number) m e)
+  message-next e = rw (rest-next l n i d h k, ne-eqb (getD l i d .number .0) m e)
 
 -- ---- a message is found where one has the number
 
@@ -46,5 +46,5 @@ found-some : (o : Option Message) → isFound (foundAnswer o) ≡ isSome o
 found-some none = refl
 found-some (some x) = refl
 
-pub found-any : (l : List Message) (m : ℕ) → isFound (foundOf l m) ≡ anyOf (λ x. eqb (x .number) m) l
-found-any l m = found-some (find (λ x. eqb (x .number) m) l) ∙ find-any (λ x. eqb (x .number) m) l
+pub found-any : (l : List Message) (m : ℕ) → isFound (foundOf l m) ≡ anyOf (λ x. eqb (x .number .0) m) l
+found-any l m = found-some (find (λ x. eqb (x .number .0) m) l) ∙ find-any (λ x. eqb (x .number .0) m) l

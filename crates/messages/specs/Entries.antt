@@ -27,7 +27,7 @@ foundAnswer none = Nothing
 foundAnswer (some x) = Is x
 
 abbrev pub foundOf : List Message → ℕ → FoundMessage
-foundOf xs m = foundAnswer (find (λ x. eqb (x .number) m) xs)
+foundOf xs m = foundAnswer (find (λ x. eqb (x .number .0) m) xs)
 
 abbrev pub withMessage : Messages → Message → Messages
 withMessage x m =
@@ -56,7 +56,7 @@ descriptorsAt table row zero = []
 descriptorsAt table row (suc n) = descriptorAt table row ∷ descriptorsAt table (row + 1) n
 
 abbrev pub messageIn : List ℕ → Message → Tree.Message
-messageIn table x = record { number = x .number; descriptors = descriptorsAt table (x .first) (x .parameters) }
+messageIn table x = record { number = x .number .0; descriptors = descriptorsAt table (x .first) (x .parameters) }
 
 -- the messages that the array and the table stand for
 unfoldable pub messagesOf : List ℕ → Messages → List Tree.Message
@@ -71,7 +71,7 @@ parameterKind table x i = Option·map (λ d. formatKind (descriptorFormat d)) (g
 unfoldable pub entriesFrom : ℕ → List Tree.Message → List Message
 entriesFrom row [] = []
 entriesFrom row (m ∷ ms) =
-    record { number = m .number; first = row; parameters = length (m .descriptors) } ∷ entriesFrom (row + length (m .descriptors)) ms
+    record { first = row; number = record { 0 = m .number }; parameters = length (m .descriptors) } ∷ entriesFrom (row + length (m .descriptors)) ms
 
 abbrev pub noMessage : Message
-noMessage = record { number = 0; first = 0; parameters = 0 }
+noMessage = record { first = 0; number = record { 0 = 0 }; parameters = 0 }

@@ -60,13 +60,13 @@ pub record Described (y : Read (List Tree.Descriptor)) (x : Parameter) (table ta
 -- a message after its code, beside the numbers and the parameters of those before it
 unfoldable pub messageBeside : List Message → ℕ → Reader Tree.Message
 messageBeside before rows = do
-  m ← tested byte (λ m. not (anyOf (λ x. eqb (x .number) m) before)) BadMessage
+  m ← tested byte (λ m. not (anyOf (λ x. eqb (x .number .0) m) before)) BadMessage
   n ← tested word (λ n. leb n 128 && leb (rows + n) 256) TooGreat
   ds ← descriptors n 0
   return (record { number = m; descriptors = ds })
 
 abbrev pub messageStep : ℕ → Read Tree.Message → MessageStep
-messageStep row (read m c) = MessageStep.Is (record { number = m .number; first = row; parameters = length (m .descriptors) }) c
+messageStep row (read m c) = MessageStep.Is (record { first = row; number = record { 0 = m .number }; parameters = length (m .descriptors) }) c
 messageStep row (refused r p) = MessageStep.Refused r p
 
 -- a message that was read, and its rows

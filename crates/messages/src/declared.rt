@@ -14,7 +14,7 @@ use wire::numbers::MessageNumber;
 // is kept small.
 pub struct Message {
     pub first: u16,
-    pub number: u8,
+    pub number: MessageNumber,
     pub parameters: u8,
 }
 
@@ -43,7 +43,7 @@ impl Messages {
                 return FoundMessage::Nothing;
             }
             let x = all[i];
-            if x.number == m.0 {
+            if x.number.0 == m.0 {
                 return FoundMessage::Is(x);
             }
             i += 1;

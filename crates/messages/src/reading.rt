@@ -109,7 +109,7 @@ fn first_parameter(message: u8, row: usize) -> Parameter
 }
 
 // A message of its number, its first row and its parameters.
-fn message_of(number: u8, first: usize, parameters: usize) -> Message
+fn message_of(number: MessageNumber, first: usize, parameters: usize) -> Message
     requires { ⌜ (first ≤ 256) × (parameters ≤ 128) ⌝ }
     ensures { λ r. ⌜ r ≡ record { first = first; number = number; parameters = parameters } ⌝ }
 {
@@ -145,7 +145,10 @@ fn read_message(request: &[u8], table: &mut [u32], c: Cursor, before: Messages) 
     }
     let x = first_parameter(m, before.rows);
     match read_descriptors(request, table, second, x, parameters) {
-        Step::Next(_, after) => MessageStep::Is(message_of(m, before.rows, parameters), after),
+        Step::Next(_, after) => MessageStep::Is(
+            message_of(MessageNumber(m), before.rows, parameters),
+            after,
+        ),
         Step::Refused(r, p) => MessageStep::Refused(r, p),
     }
 }
@@ -169,7 +172,7 @@ fn with_message(x: Messages, m: Message) -> Messages
 fn no_messages() -> Messages
     ensures { λ r. ⌜ r ≡ record { all = replicate 16 noMessage; count = 0; rows = 0 } ⌝ }
 {
-    let none = message_of(0, 0, 0);
+    let none = message_of(MessageNumber(0), 0, 0);
     Messages {
         all: [none; 16],
         count: 0,

@@ -106,7 +106,7 @@ unfolding modifyHeading
 modify-full sc p s c e = rw (modifyHeading, e)
 
 pub modify-context-is : (d : List ℕ) (sc : Names.Scope) (n to : ℕ) (x : Context) → Names.contextOf sc n ≡ some (contextOf d x) →
-    contextOf d (record { number = to; relation = x .relation; «from_for» = false }) ≡ Names.modifyContext sc n to
+    contextOf d (record { relation = x .relation; number = record { 0 = to }; «from_for» = false }) ≡ Names.modifyContext sc n to
 unfolding Names.relationOfContext
 modify-context-is d sc n to x e = rw e
 
@@ -127,7 +127,7 @@ pub updating-is : (d : List ℕ) (sc : Scope) → updating (scopeOf d sc) ≡ sc
 unfolding updating scopeOf
 updating-is d sc = by (sc .updating)
   where
-    by : (b : Bool) → isSome (cond b (some (sc .target)) none) ≡ b
+    by : (b : Bool) → isSome (cond b (some (sc .target .0)) none) ≡ b
     by true = refl
     by false = refl
 
@@ -157,7 +157,7 @@ pub opens-plain : (x : Read Heading) (h : Heading) (q : Cursor) → x ≡ read h
     (ct : List ℕ)
     (sc′ : Scope) → openRow (relations d) (scopeOf d sc) h p ≡ [] → headingContexts h ≡ 0 →
     scopeOf d sc′ ≡ underHeading (relations d) (scopeOf d sc) h → sc′ .count ≡ sc .count →
-    sc′ .sends .count ≤ sc .sends .count + 1 → sc′ .labels .count ≤ sc .labels .count + 1 →
+    sc′ .sends .0 .count ≤ sc .sends .0 .count + 1 → sc′ .labels .0 .count ≤ sc .labels .0 .count + 1 →
     OpensHeading x d p sc c ct ct (record { step = Step.Next Fit.NoKind q; scope = sc′ })
 opens-plain x h q is d p sc c ct sc′ o n u k f g = rw is (record {
   answer = refl;
@@ -173,7 +173,7 @@ target-scope : (d : List ℕ) (sc : Scope) (x : Context) → sc .count < 32 → 
     scopeOf d (withTarget (withContext sc x) (x .number)) ≡ underUpdate (scopeOf d sc) (contextOf d x)
 unfolding scopeOf
 target-scope d sc x h e =
-    ap (λ (z : Names.Scope). record { contexts = z .contexts; target = some (x .number); sends = z .sends; labels = z .labels })
+    ap (λ (z : Names.Scope). record { contexts = z .contexts; target = some (x .number .0); sends = z .sends; labels = z .labels })
     (scope-with d sc x h e)
 
 module _ (d : List ℕ) (p : ℕ) (sc : Scope) (c : Cursor) (ct ct′ : List ℕ) (x : Context) (place : ℕ) (below : Scope)
@@ -197,12 +197,12 @@ module _ (d : List ℕ) (p : ℕ) (sc : Scope) (c : Cursor) (ct ct′ : List ℕ
         rw e (omega arith);
   })
 
-  pub opens-modify : (y : Read Heading) (n : ℕ) (q : Cursor) → y ≡ read (modify n (x .number)) q →
-      contextOf d x ≡ Names.modifyContext (scopeOf d sc) n (x .number) → place ≡ p →
+  pub opens-modify : (y : Read Heading) (n : ℕ) (q : Cursor) → y ≡ read (modify n (x .number .0)) q →
+      contextOf d x ≡ Names.modifyContext (scopeOf d sc) n (x .number .0) → place ≡ p →
       OpensHeading y d p sc c ct ct′ (record { step = Step.Next Fit.NoKind q; scope = withTarget below (x .number) })
   unfolding headingContexts underHeading
   opens-modify y n q is k e =
-      opens-update y (modify n (x .number)) q is (Names.modifyContext (scopeOf d sc) n (x .number)) k (rw e) refl refl
+      opens-update y (modify n (x .number .0)) q is (Names.modifyContext (scopeOf d sc) n (x .number .0)) k (rw e) refl refl
 
   pub opens-store : (y : Read Heading) (st : Stream) (q : Cursor) → y ≡ read (store st) q →
       contextOf d x ≡ Names.streamContext (relations d) false st → place ≡ p + 1 →
@@ -219,17 +219,17 @@ module _ (d : List ℕ) (p : ℕ) (sc : Scope) (c : Cursor) (ct : List ℕ) (y :
   unfolding headingContexts underHeading
   opens-receive is = opens-plain y (receive n) q is d p sc c ct sc refl refl refl refl (omega arith) (omega arith)
 
-  pub opens-send : y ≡ read (send n) q → sc .sends .count ≤ 31 → length (sc .sends .bytes) ≡ 32 →
+  pub opens-send : y ≡ read (send n) q → sc .sends .0 .count ≤ 31 → length (sc .sends .0 .bytes) ≡ 32 →
       OpensHeading y d p sc c ct ct (record { step = Step.Next Fit.NoKind q; scope = withSend sc n })
   unfolding headingContexts underHeading scopeOf
   opens-send is h e = opens-plain y (send n) q is d p sc c ct (withSend sc n) refl refl
-      (rw (with-number (sc .sends) n (omega arith) e)) refl (number-more (sc .sends) n h) (omega arith)
+      (rw (with-number (sc .sends .0) n (omega arith) e)) refl (number-more (sc .sends .0) n h) (omega arith)
 
-  pub opens-label : y ≡ read (label n) q → sc .labels .count ≤ 31 → length (sc .labels .bytes) ≡ 32 →
+  pub opens-label : y ≡ read (label n) q → sc .labels .0 .count ≤ 31 → length (sc .labels .0 .bytes) ≡ 32 →
       OpensHeading y d p sc c ct ct (record { step = Step.Next Fit.NoKind q; scope = withLabel sc n })
   unfolding headingContexts underHeading scopeOf
   opens-label is h e = opens-plain y (label n) q is d p sc c ct (withLabel sc n) refl refl
-      (rw (with-number (sc .labels) n (omega arith) e)) refl (omega arith) (number-more (sc .labels) n h)
+      (rw (with-number (sc .labels .0) n (omega arith) e)) refl (omega arith) (number-more (sc .labels .0) n h)
 
 pub opens-loop : (d : List ℕ) (p : ℕ) (sc : Scope) (c : Cursor) (ct : List ℕ) →
     OpensHeading (read loop c) d p sc c ct ct (record { step = Step.Next Fit.NoKind c; scope = sc })

@@ -34,11 +34,11 @@ module _ (d : List ℕ) (sc : Scope) (p : ℕ) (s : List ℕ) (c : Cursor) where
     unfolding eraseUnder contextByte tested
     erase-unknown e = rw (eraseUnder, contextByte, tested, b, nothing-in-scope d sc n e)
 
-    pub leave-inside : among n (numbersOf (sc .labels)) ≡ true → leaveUnder (scopeOf d sc) p s c ≡ read (leave n) q
+    pub leave-inside : among n (numbersOf (sc .labels .0)) ≡ true → leaveUnder (scopeOf d sc) p s c ≡ read (leave n) q
     unfolding leaveUnder scopeOf
     leave-inside t = rw (leaveUnder, b, t)
 
-    pub leave-outside : among n (numbersOf (sc .labels)) ≡ false → leaveUnder (scopeOf d sc) p s c ≡ refused Misplaced p
+    pub leave-outside : among n (numbersOf (sc .labels .0)) ≡ false → leaveUnder (scopeOf d sc) p s c ≡ refused Misplaced p
     unfolding leaveUnder scopeOf
     leave-outside t = rw (leaveUnder, b, t)
 

@@ -162,6 +162,6 @@ entry-below d n = by (relationPlace d n) refl
 pub under-read : (d : List ℕ) (f : Bool) (rs : List Relation) (sc : Names.Scope) (k : StreamCode) (s : List ℕ) (c : Cursor)
     {n : Name} {q : Cursor} {z x : ℕ} {q′ : Cursor} →
     relationNamed rs (naming k) s c ≡ read n q → z ≡ entryOf d n → freshByte sc s q ≡ read x q′ →
-    StreamStep.Is (record { number = x; relation = z; «from_for» = f }) q′ ≡ streamStep d f (streamUnder rs sc k s c)
+    StreamStep.Is (record { relation = z; number = record { 0 = x }; «from_for» = f }) q′ ≡ streamStep d f (streamUnder rs sc k s c)
 unfolding streamUnder
 under-read d f rs sc k s c e z g = rw (streamUnder, e, g, z)

@@ -19,6 +19,7 @@ use Rattle.messages.specs.declared.declared.Messages.{Messages}
 use Rattle.references.specs.Promises.{environmentOf}
 use Rattle.scopes.specs.declared.scope.Scope.{Scope}
 use Rattle.scopes.specs.Scopes.{withNumber, contextOf, scopeOf}
+use Rattle.wire.specs.declared.numbers.ContextNumber.{ContextNumber}
 use Rattle.reader.specs.declared.opening.Opened.{Opened}
 use Rattle.reader.specs.declared.streams.StreamStep.{StreamStep}
 use Rattle.reader.specs.declared.streams.StreamStep.the-variants as StreamStep
@@ -26,7 +27,7 @@ use Rattle.reader.specs.Promises.{OpensHeading}
 
 -- ---- scopes
 
-abbrev pub withTarget : Scope → ℕ → Scope
+abbrev pub withTarget : Scope → ContextNumber → Scope
 withTarget sc n =
     record {
       contexts = sc .contexts;
@@ -44,7 +45,7 @@ withSend sc m =
       count = sc .count;
       updating = sc .updating;
       target = sc .target;
-      sends = withNumber (sc .sends) m;
+      sends = record { 0 = withNumber (sc .sends .0) m };
       labels = sc .labels;
     }
 
@@ -56,7 +57,7 @@ withLabel sc n =
       updating = sc .updating;
       target = sc .target;
       sends = sc .sends;
-      labels = withNumber (sc .labels) n;
+      labels = record { 0 = withNumber (sc .labels .0) n };
     }
 
 -- ---- contexts, beside any dictionary
@@ -76,8 +77,8 @@ FromFor sc p s c (StreamStep.Refused r z) = (d : List ℕ) → forContext (scope
 -- the context that a modify at p declares
 abbrev pub Modifies : Scope → ℕ → List ℕ → Cursor → StreamStep → Type 0
 Modifies sc p s c (StreamStep.Is x q) =
-    (d : List ℕ) → (n : ℕ) × (modifyHeading (scopeOf d sc) p s c ≡ read (modify n (x .number)) q) ×
-    (contextOf d x ≡ modifyContext (scopeOf d sc) n (x .number)) × (c .contexts < 32)
+    (d : List ℕ) → (n : ℕ) × (modifyHeading (scopeOf d sc) p s c ≡ read (modify n (x .number .0)) q) ×
+    (contextOf d x ≡ modifyContext (scopeOf d sc) n (x .number .0)) × (c .contexts < 32)
 Modifies sc p s c (StreamStep.Refused r z) = (d : List ℕ) → modifyHeading (scopeOf d sc) p s c ≡ refused r z
 
 -- ---- messages and labels, beside any dictionary and any table

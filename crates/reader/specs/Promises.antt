@@ -43,8 +43,8 @@ pub record Ready (s d : List ℕ) (sc : Scope) (c : Cursor) (levels : ℕ) : Typ
   pub contexts-few : c .contexts ≤ 32
   pub conditions-few : c .conditions ≤ c .at
   pub scope-fits : sc .count ≤ c .contexts
-  pub sends-fit : sc .sends .count + levels ≤ 31
-  pub labels-fit : sc .labels .count + levels ≤ 31
+  pub sends-fit : sc .sends .0 .count + levels ≤ 31
+  pub labels-fit : sc .labels .0 .count + levels ≤ 31
 
 -- ---- headings, and the head of an rse
 
@@ -83,8 +83,8 @@ pub record Opens {A : Type 0} (x : Read A) (d ct : List ℕ) (row : ℕ) (rows :
   pub contexts-filled : ct′ ≡ after (λ a. sets ct (row * 5) (rows a)) ct′ x
   pub scope-below : scopeOf d (r .scope) ≡ after below (scopeOf d (r .scope)) x
   pub count-below : r .scope .count ≡ after (λ a. sc .count + opened a) (r .scope .count) x
-  pub sends-below : r .scope .sends .count ≤ sc .sends .count + 1
-  pub labels-below : r .scope .labels .count ≤ sc .labels .count + 1
+  pub sends-below : r .scope .sends .0 .count ≤ sc .sends .0 .count + 1
+  pub labels-below : r .scope .labels .0 .count ≤ sc .labels .0 .count + 1
 
 -- the head of an rse, whose code stands at the cursor
 abbrev pub OpensHead : Read (List Stream) → List ℕ → Scope → Cursor → List ℕ → List ℕ → Opened → Type 0

@@ -97,8 +97,8 @@ pub record Begun (s d pt : List ℕ) (c : Cursor) : Type 0 where
 pub record Outermost (sc : Scope) : Type 0 where
   pub none : sc .count ≡ 0
   pub no-update : sc .updating ≡ false
-  pub no-sends : sc .sends .count ≡ 0
-  pub no-labels : sc .labels .count ≡ 0
+  pub no-sends : sc .sends .0 .count ≡ 0
+  pub no-labels : sc .labels .0 .count ≡ 0
 
 -- ---- what comes before the request's first byte
 

@@ -83,7 +83,7 @@ relationNamed rs names = tested names (λ n. isSome (relationOf rs n)) Unknown
 
 -- the context of a stream, as the code has it
 abbrev pub contextIn : List ℕ → Bool → Stream → Context
-contextIn d f st = record { number = st .context; relation = entryOf d (st .relation); «from_for» = f }
+contextIn d f st = record { relation = entryOf d (st .relation); number = record { 0 = st .context }; «from_for» = f }
 
 abbrev pub streamStep : List ℕ → Bool → Read Stream → StreamStep
 streamStep d f (read st c) = StreamStep.Is (contextIn d f st) c

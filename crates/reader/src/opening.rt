@@ -30,6 +30,7 @@ use steps::next_byte;
 use wire::bytes::word_at;
 use wire::codes::StatementCode;
 use wire::numbers::ContextNumber;
+use wire::numbers::LabelNumber;
 use wire::numbers::MessageNumber;
 
 // How reading went, and the scope below what was read.
@@ -65,7 +66,7 @@ fn add_context(
     put_context(
         contexts,
         row,
-        x.number,
+        x.number.0,
         place,
         relation_id(dictionary, relation),
     );
@@ -167,8 +168,8 @@ fn modify_context(request: &[u8], scope: Scope, at: usize, c: Cursor) -> StreamS
             StreamStep::Is(x, second) => match fresh_context(request, scope, second) {
                 ByteStep::Is(n, last) => StreamStep::Is(
                     Context {
-                        number: n,
                         relation: x.relation,
+                        number: ContextNumber(n),
                         from_for: false,
                     },
                     last,
@@ -182,7 +183,7 @@ fn modify_context(request: &[u8], scope: Scope, at: usize, c: Cursor) -> StreamS
 }
 
 // The scope of the substatement of a store or a modify, whose context has a number.
-fn updating(scope: Scope, n: u8) -> Scope
+fn updating(scope: Scope, n: ContextNumber) -> Scope
     ensures { λ r. ⌜ r ≡ withTarget scope n ⌝ }
 {
     let mut next = scope;
@@ -283,8 +284,8 @@ fn read_receive(request: &[u8], messages: Messages, scope: Scope, at: usize, c: 
 }
 
 // The scope of the substatement of a send.
-fn sending(scope: Scope, m: u8) -> Scope
-    ensures { λ r. ⌜ r ≡ withSend scope m ⌝ }
+fn sending(scope: Scope, m: MessageNumber) -> Scope
+    ensures { λ r. ⌜ r ≡ withSend scope (m .0) ⌝ }
 {
     let mut next = scope;
     next.sends = scope.sends.with(m);
@@ -292,13 +293,13 @@ fn sending(scope: Scope, m: u8) -> Scope
 }
 
 fn read_send(request: &[u8], messages: Messages, scope: Scope, at: usize, c: Cursor) -> Opened
-    requires { ⌜ scope .sends .count ≤ 31 ⌝ }
+    requires { ⌜ scope .sends .0 .count ≤ 31 ⌝ }
     ensures { λ r. ⌜ Sends messages scope at (now (request .entry)) c r ⌝ }
 {
     match exchanged_message(request, messages, scope, at, c) {
         ByteStep::Is(m, next) => Opened {
             step: Step::Next(Fit::NoKind, next),
-            scope: sending(scope, m),
+            scope: sending(scope, MessageNumber(m)),
         },
         ByteStep::Refused(r, p) => Opened {
             step: Step::Refused(r, p),
@@ -308,8 +309,8 @@ fn read_send(request: &[u8], messages: Messages, scope: Scope, at: usize, c: Cur
 }
 
 // The scope of the substatement of a label.
-fn labelled(scope: Scope, n: u8) -> Scope
-    ensures { λ r. ⌜ r ≡ withLabel scope n ⌝ }
+fn labelled(scope: Scope, n: LabelNumber) -> Scope
+    ensures { λ r. ⌜ r ≡ withLabel scope (n .0) ⌝ }
 {
     let mut next = scope;
     next.labels = scope.labels.with(n);
@@ -317,13 +318,13 @@ fn labelled(scope: Scope, n: u8) -> Scope
 }
 
 fn read_label(request: &[u8], scope: Scope, at: usize, c: Cursor) -> Opened
-    requires { ⌜ scope .labels .count ≤ 31 ⌝ }
+    requires { ⌜ scope .labels .0 .count ≤ 31 ⌝ }
     ensures { λ r. ⌜ Labels scope at (now (request .entry)) c r ⌝ }
 {
     match next_byte(request, c) {
         ByteStep::Is(n, next) => Opened {
             step: Step::Next(Fit::NoKind, next),
-            scope: labelled(scope, n),
+            scope: labelled(scope, LabelNumber(n)),
         },
         ByteStep::Refused(r, p) => Opened {
             step: Step::Refused(r, p),

@@ -31,6 +31,7 @@ use scopes::scope::Scope;
 use steps::due_code;
 use steps::next_byte;
 use wire::numbers::ContextNumber;
+use wire::numbers::LabelNumber;
 use wire::numbers::MessageNumber;
 
 // The messages that a select has had.
@@ -98,7 +99,7 @@ pub fn leave(request: &[u8], dictionary: &[u8], scope: Scope, at: usize, c: Curs
     match next_byte(request, c) {
         ByteStep::Is(n, first) => {
             let labels = scope.labels;
-            if labels.has(n) {
+            if labels.has(LabelNumber(n)) {
                 Step::Next(Fit::NoKind, first)
             } else {
                 Step::Refused(Refusal::Misplaced, at)

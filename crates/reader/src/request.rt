@@ -16,9 +16,12 @@ use grammar::Refusal;
 use grammar::Step;
 use messages::reading::read_messages;
 use scopes::scope::Context;
+use scopes::scope::Labels;
 use scopes::scope::Numbers;
 use scopes::scope::Scope;
+use scopes::scope::Sends;
 use steps::due_code;
+use wire::numbers::ContextNumber;
 
 // How reading went, and the rows of parameters.
 pub struct Whole {
@@ -31,8 +34,8 @@ fn outermost() -> Scope
     ensures { λ r. ⌜ Outermost r ⌝ }
 {
     let none = Context {
-        number: 0,
         relation: 0,
+        number: ContextNumber(0),
         from_for: false,
     };
     let no_numbers = Numbers {
@@ -43,9 +46,9 @@ fn outermost() -> Scope
         contexts: [none; 32],
         count: 0,
         updating: false,
-        target: 0,
-        sends: no_numbers,
-        labels: no_numbers,
+        target: ContextNumber(0),
+        sends: Sends(no_numbers),
+        labels: Labels(no_numbers),
     }
 }
 

@@ -155,7 +155,7 @@ fn stream_under(
                 StreamStep::Is(
                     Context {
                         relation: relation,
-                        number: n,
+                        number: ContextNumber(n),
                         from_for: from_for,
                     },
                     last,

@@ -115,7 +115,7 @@ pub fn read_field(
     let Found::Is(x) = scope.find(ContextNumber(n)) else {
         return Step::Refused(Refusal::BadContext, c.at);
     };
-    if !field_allowed(dictionary, scope, role, n) {
+    if !field_allowed(dictionary, scope, role, ContextNumber(n)) {
         return Step::Refused(Refusal::Misplaced, target_place(role));
     }
     let relation = x.relation as usize;

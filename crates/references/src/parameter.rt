@@ -74,7 +74,7 @@ pub fn read_parameter(
     let FoundMessage::Is(x) = messages.find(MessageNumber(m)) else {
         return Step::Refused(Refusal::BadMessage, c.at);
     };
-    if !parameter_allowed(scope, role, m) {
+    if !parameter_allowed(scope, role, MessageNumber(m)) {
         return Step::Refused(Refusal::Misplaced, target_place(role));
     }
     match read_word(request, parameters, x, first) {

@@ -6,6 +6,8 @@ ghost use Rattle.scopes.specs.Scopes.{scopeOf};
 ghost use Rattle.references.specs.Promises.{fieldAllows, parameterAllows, placeOf};
 use grammar::Role;
 use scopes::scope::Scope;
+use wire::numbers::ContextNumber;
+use wire::numbers::MessageNumber;
 
 // The place of the assignment; a value has none.
 pub fn target_place(role: Role) -> usize
@@ -18,13 +20,13 @@ pub fn target_place(role: Role) -> usize
 }
 
 // A field target names the context of the nearest store or modify around.
-pub fn field_allowed(dictionary: &[u8], scope: Scope, role: Role, n: u8) -> bool
-    ensures { λ r. ⌜ r ≡ fieldAllows role (scopeOf (now (dictionary .entry)) scope) n ⌝ }
+pub fn field_allowed(dictionary: &[u8], scope: Scope, role: Role, n: ContextNumber) -> bool
+    ensures { λ r. ⌜ r ≡ fieldAllows role (scopeOf (now (dictionary .entry)) scope) (n .0) ⌝ }
 {
     match role {
         Role::AsValue => true,
         Role::AsTarget(_) => if scope.updating {
-            scope.target == n
+            scope.target.0 == n.0
         } else {
             false
         },
@@ -32,8 +34,8 @@ pub fn field_allowed(dictionary: &[u8], scope: Scope, role: Role, n: u8) -> bool
 }
 
 // A parameter target stands inside a send of its message.
-pub fn parameter_allowed(scope: Scope, role: Role, m: u8) -> bool
-    ensures { λ r. ⌜ ((d : List ℕ) → r ≡ parameterAllows role (scopeOf d scope) m) ⌝ }
+pub fn parameter_allowed(scope: Scope, role: Role, m: MessageNumber) -> bool
+    ensures { λ r. ⌜ ((d : List ℕ) → r ≡ parameterAllows role (scopeOf d scope) (m .0)) ⌝ }
 {
     let sends = scope.sends;
     match role {

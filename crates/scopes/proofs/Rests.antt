@@ -54,10 +54,10 @@ unfolding find
 no-context m e = rw e
 
 module _ (m : ℕ) (l : List Context) (n i : ℕ) (h : i < length l) (k : i < n) (d : Context) where
-  pub context-here : getD l i d .number ≡ m → Is (getD l i d) ≡ foundOf (rest l n i) m
+  pub context-here : getD l i d .number .0 ≡ m → Is (getD l i d) ≡ foundOf (rest l n i) m
   unfolding find
-  context-here e = rw (rest-next l n i d h k, eq-eqb (getD l i d .number) m e)
+  context-here e = rw (rest-next l n i d h k, eq-eqb (getD l i d .number .0) m e)
 
-  pub context-next : (getD l i d .number ≡ m → ⊥) → foundOf (rest l n i) m ≡ foundOf (rest l n (i + 1)) m
+  pub context-next : (getD l i d .number .0 ≡ m → ⊥) → foundOf (rest l n i) m ≡ foundOf (rest l n (i + 1)) m
   unfolding find
-  context-next e = rw (rest-next l n i d h k, ne-eqb (getD l i d .number) m e)
+  context-next e = rw (rest-next l n i d h k, ne-eqb (getD l i d .number .0) m e)

@@ -116,7 +116,7 @@ pub found-context : (d : List ℕ) (sc : Scope) (n : ℕ) → Names.contextOf (s
 unfolding Names.contextOf scopeOf
 found-context d sc n =
     find-map (contextOf d) (λ x. eqb (x .number) n) (contextsIn sc) ∙
-    found-answer d (find (λ x. eqb (x .number) n) (contextsIn sc))
+    found-answer d (find (λ x. eqb (x .number .0) n) (contextsIn sc))
 
 module _ (d : List ℕ) (sc : Scope) (n : ℕ) where
   module _ (x : Context) (e : foundOf (contextsIn sc) n ≡ Is x) where

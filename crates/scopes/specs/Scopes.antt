@@ -30,7 +30,7 @@ foundAnswer none = Nothing
 foundAnswer (some x) = Is x
 
 abbrev pub foundOf : List Context → ℕ → Found
-foundOf xs n = foundAnswer (find (λ x. eqb (x .number) n) xs)
+foundOf xs n = foundAnswer (find (λ x. eqb (x .number .0) n) xs)
 
 abbrev pub withContext : Scope → Context → Scope
 withContext sc x =
@@ -48,15 +48,15 @@ withContext sc x =
 -- ---- what a scope stands for, beside the bytes of a dictionary
 
 abbrev pub contextOf : List ℕ → Context → Names.Context
-contextOf d x = record { number = x .number; relation = some (relationAt d (x .relation)); fromFor = x .«from_for» }
+contextOf d x = record { number = x .number .0; relation = some (relationAt d (x .relation)); fromFor = x .«from_for» }
 
 unfoldable pub scopeOf : List ℕ → Scope → Names.Scope
 scopeOf d sc =
     record {
       contexts = map (contextOf d) (contextsIn sc);
-      target = cond (sc .updating) (some (sc .target)) none;
-      sends = numbersOf (sc .sends);
-      labels = numbersOf (sc .labels);
+      target = cond (sc .updating) (some (sc .target .0)) none;
+      sends = numbersOf (sc .sends .0);
+      labels = numbersOf (sc .labels .0);
     }
 
 -- ---- a number for each kind, and 3 for none

@@ -4,18 +4,26 @@ ghost use lib.ListN.{take};
 ghost use Rattle.wire.specs.Lists.{among};
 ghost use Rattle.scopes.specs.Scopes.{numbersOf, withNumber, withContext, foundOf, contextsIn};
 use wire::numbers::ContextNumber;
+use wire::numbers::LabelNumber;
+use wire::numbers::MessageNumber;
 
-// The numbers of the messages being sent, of the labels around, or of the messages that a select has.
+// A list of at most 32 bytes.
 pub struct Numbers {
     pub bytes: [u8; 32],
     pub count: usize,
 }
 
+// The messages being sent.
+pub struct Sends(pub Numbers);
+
+// The labels around.
+pub struct Labels(pub Numbers);
+
 // A context: the place of its relation's entry in the dictionary, its number, and whether a for opened it. A scope goes by value through every
 // level, so that a context is kept small.
 pub struct Context {
     pub relation: u16,
-    pub number: u8,
+    pub number: ContextNumber,
     pub from_for: bool,
 }
 
@@ -25,9 +33,9 @@ pub struct Scope {
     pub contexts: [Context; 32],
     pub count: usize,
     pub updating: bool,
-    pub target: u8,
-    pub sends: Numbers,
-    pub labels: Numbers,
+    pub target: ContextNumber,
+    pub sends: Sends,
+    pub labels: Labels,
 }
 
 // The context of a number, or that none is in scope.
@@ -37,7 +45,7 @@ pub enum Found {
 }
 
 impl Numbers {
-    pub fn has(self, n: u8) -> bool
+    fn has(self, n: u8) -> bool
         ensures { λ r. ⌜ r ≡ among n (numbersOf self) ⌝ }
     {
         let bytes = self.bytes;
@@ -56,7 +64,7 @@ impl Numbers {
     }
 
     // One number more; a full list stays as it is.
-    pub fn with(self, n: u8) -> Numbers
+    fn with(self, n: u8) -> Numbers
         ensures { λ r. ⌜ r ≡ withNumber self n ⌝ }
     {
         let at = self.count;
@@ -66,6 +74,40 @@ impl Numbers {
             next.count = at + 1;
         }
         next
+    }
+}
+
+impl Sends {
+    pub fn has(self, m: MessageNumber) -> bool
+        ensures { λ r. ⌜ r ≡ among (m .0) (numbersOf (self .0)) ⌝ }
+    {
+        let all = self.0;
+        all.has(m.0)
+    }
+
+    // One message more; a full list stays as it is.
+    pub fn with(self, m: MessageNumber) -> Sends
+        ensures { λ r. ⌜ r .0 ≡ withNumber (self .0) (m .0) ⌝ }
+    {
+        let all = self.0;
+        Sends(all.with(m.0))
+    }
+}
+
+impl Labels {
+    pub fn has(self, n: LabelNumber) -> bool
+        ensures { λ r. ⌜ r ≡ among (n .0) (numbersOf (self .0)) ⌝ }
+    {
+        let all = self.0;
+        all.has(n.0)
+    }
+
+    // One label more; a full list stays as it is.
+    pub fn with(self, n: LabelNumber) -> Labels
+        ensures { λ r. ⌜ r .0 ≡ withNumber (self .0) (n .0) ⌝ }
+    {
+        let all = self.0;
+        Labels(all.with(n.0))
     }
 }
 
@@ -81,7 +123,7 @@ impl Scope {
                 return Found::Nothing;
             }
             let x = contexts[i];
-            if x.number == n.0 {
+            if x.number.0 == n.0 {
                 return Found::Is(x);
             }
             i += 1;

@@ -34,7 +34,7 @@ returns c =
     let good′ = c .before .before .before .before .before .before .good in
     λ d ct. rw (labelled′ .ensures) (opens-label d (args′ .at) (args′ .scope) from ct (labelHeading s from) (n′ .given .0 .0)
     (n′ .given .0 .1 .0) (rw (labelHeading, byte-read (byte s from) (sym (n′ .given .1) ∙ next-byte′ .ensures))) (pre′)
-    (sym (length-map (args′ .scope .labels .bytes) _) ∙ good′ .1 .0 .1 .1 .1 .1 .1 .1 .1 .0 .1 .1 .0 .1 .0 .1))
+    (sym (length-map (args′ .scope .labels .0 .bytes) _) ∙ good′ .1 .0 .1 .1 .1 .1 .1 .1 .1 .0 .1 .1 .0 .1 .1 .0 .1 .0 .1))
 
 returns-2 : tie.Need-returns-2
 unfolding labelHeading

@@ -42,7 +42,7 @@ returns c =
       byte-read (exchanged (environmentOf d table (args′ .messages)) (scopeOf d sc) at s from)
           (sym (m′ .given .1) ∙ exchanged-message′ .ensures d table),
     )) (pre′)
-    (sym (length-map (args′ .scope .sends .bytes) _) ∙ good′ .1 .1 .0 .1 .1 .1 .1 .1 .1 .0 .1 .1 .0 .1 .0 .1))
+    (sym (length-map (args′ .scope .sends .0 .bytes) _) ∙ good′ .1 .1 .0 .1 .1 .1 .1 .1 .1 .0 .1 .1 .0 .1 .1 .0 .1 .0 .1))
 
 returns-2 : tie.Need-returns-2
 unfolding sendHeading

@@ -8,7 +8,6 @@ use Rattle.reader.proofs.parts.leave.Statement.{statement}
 use Rattle.reader.proofs.parts.leave.Tie as tie
 use Rattle.reader.proofs.parts.leave.Reads as reads
 use Rattle.reader.proofs.parts.leave.Lts as lts
-use Rattle.scopes.proofs.scope.Numbers.has.Reads as has-reads
 use Rattle.steps.proofs.next_byte.Reads as next-byte-reads
 
 -- src/parts.rt:80:11

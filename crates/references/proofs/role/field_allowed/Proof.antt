@@ -17,8 +17,8 @@ returns c = search needs
 returns-2 : tie.Need-returns-2
 unfolding fieldTarget scopeOf
 returns-2 c =
-    let enum-told2′ = c .before .before .enum-told2 in
-    let if1′ = c .before .if1 in
+    let enum-told2′ = c .before .before .before .enum-told2 in
+    let if1′ = c .before .before .if1 in
     rw (enum-told2′ .given .1, fieldTarget, scopeOf, if1′ .taken)
 
 returns-3 : tie.Need-returns-3
