@@ -97,9 +97,9 @@ module _ (s : List ℕ) (c : Cursor) (before : Messages) (table : List ℕ) wher
           told-by x j = rw (messageBeside, tested, e, fresh, tested, g, le-leb n 128 h, le-leb (before .rows + n) 256 i, j)
 
           -- the first parameter, and the descriptors from it on
-          module _ {x : Parameter} (w : x ≡ record { message = m; index = 0; row = before .rows; offset = 0 })
+          module _ {x : Parameter} (w : x ≡ record { message = record { 0 = m }; index = 0; row = before .rows; offset = 0 })
               {table′ : List ℕ} {r : Step} (j′ : Described (descriptors n (x .offset) s second) x table table′ r) where
-            described : Described (descriptors n 0 s second) (record { message = m; index = 0; row = before .rows; offset = 0 }) table
+            described : Described (descriptors n 0 s second) (record { message = record { 0 = m }; index = 0; row = before .rows; offset = 0 }) table
                 table′ r
             described = rw w at j′
 

@@ -47,7 +47,7 @@ after f other (refused r p) = other
 
 -- the row of a parameter; 01: "message, parameter, type, scale byte, offset, bytes held"
 abbrev pub rowOf : Parameter → ℕ → ℕ → ℕ → List ℕ
-rowOf x code scale held = x .message ∷ x .index ∷ code ∷ scale ∷ x .offset ∷ held ∷ []
+rowOf x code scale held = x .message .0 ∷ x .index ∷ code ∷ scale ∷ x .offset ∷ held ∷ []
 
 abbrev pub parameterAfter : Parameter → ℕ → Parameter
 parameterAfter x held = record { message = x .message; index = x .index + 1; row = x .row + 1; offset = x .offset + held }
@@ -55,7 +55,7 @@ parameterAfter x held = record { message = x .message; index = x .index + 1; row
 -- descriptors that were read from a parameter on, and their rows
 pub record Described (y : Read (List Tree.Descriptor)) (x : Parameter) (table table′ : List ℕ) (r : Step) : Type 0 where
   pub answer : r ≡ stepOf noKind y
-  pub filled : table′ ≡ after (λ ds. sets table (x .row * 6) (descriptorRows (x .message) (x .index) (x .offset) ds)) table′ y
+  pub filled : table′ ≡ after (λ ds. sets table (x .row * 6) (descriptorRows (x .message .0) (x .index) (x .offset) ds)) table′ y
 
 -- a message after its code, beside the numbers and the parameters of those before it
 unfoldable pub messageBeside : List Message → ℕ → Reader Tree.Message

@@ -26,7 +26,7 @@ use wire::numbers::MessageNumber;
 
 // The next parameter: its message, its index there, its row of the table, and the bytes of the message before it.
 pub struct Parameter {
-    pub message: u8,
+    pub message: MessageNumber,
     pub index: usize,
     pub row: usize,
     pub offset: usize,
@@ -59,7 +59,7 @@ fn put_row(table: &mut [u32], x: Parameter, code: u8, scale: u8, held: usize)
     ensures { λ _. ⌜ now (table .exit) ≡ sets (now (table .entry)) (x .row * 6) (rowOf x code scale held) ⌝ }
 {
     let at = x.row * 6;
-    put(table, at, x.message as u32);
+    put(table, at, x.message.0 as u32);
     put(table, at + 1, x.index as u32);
     put(table, at + 2, code as u32);
     put(table, at + 3, scale as u32);
@@ -97,7 +97,7 @@ fn read_descriptors(request: &[u8], table: &mut [u32], c: Cursor, x: Parameter, 
 }
 
 // The first parameter of a message.
-fn first_parameter(message: u8, row: usize) -> Parameter
+fn first_parameter(message: MessageNumber, row: usize) -> Parameter
     ensures { λ r. ⌜ r ≡ record { message = message; index = 0; row = row; offset = 0 } ⌝ }
 {
     Parameter {
@@ -143,7 +143,7 @@ fn read_message(request: &[u8], table: &mut [u32], c: Cursor, before: Messages) 
     if 256 < before.rows + parameters {
         return MessageStep::Refused(Refusal::TooGreat, first.at);
     }
-    let x = first_parameter(m, before.rows);
+    let x = first_parameter(MessageNumber(m), before.rows);
     match read_descriptors(request, table, second, x, parameters) {
         Step::Next(_, after) => MessageStep::Is(
             message_of(MessageNumber(m), before.rows, parameters),

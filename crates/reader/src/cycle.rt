@@ -54,6 +54,7 @@ use wire::codes::BooleanCode;
 use wire::codes::ClauseCode;
 use wire::codes::StatementCode;
 use wire::codes::ValueCode;
+use wire::numbers::MessageNumber;
 
 pub enum Part {
     Statement,
@@ -840,7 +841,7 @@ fn receives(
                     Step::Next(Fit::NoKind, after),
                     levels,
                     most - 1,
-                    before.with(m),
+                    before.with(MessageNumber(m)),
                     parent,
                 ),
                 Ending::Refused(r, p) => Step::Refused(r, p),

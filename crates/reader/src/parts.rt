@@ -40,19 +40,19 @@ pub struct Selected {
 }
 
 impl Selected {
-    pub fn has(self, m: u8) -> bool
-        ensures { λ r. ⌜ r ≡ getD (self .seen) m false ⌝ }
+    pub fn has(self, m: MessageNumber) -> bool
+        ensures { λ r. ⌜ r ≡ getD (self .seen) (m .0) false ⌝ }
     {
         let seen = self.seen;
-        seen[m as usize]
+        seen[m.0 as usize]
     }
 
     // One message more.
-    pub fn with(self, m: u8) -> Selected
-        ensures { λ r. ⌜ r .seen ≡ set (self .seen) m true ⌝ }
+    pub fn with(self, m: MessageNumber) -> Selected
+        ensures { λ r. ⌜ r .seen ≡ set (self .seen) (m .0) true ⌝ }
     {
         let mut next = self;
-        next.seen[m as usize] = true;
+        next.seen[m.0 as usize] = true;
         next
     }
 }
@@ -169,7 +169,7 @@ fn selected_message(
 {
     match next_byte(request, c) {
         ByteStep::Is(m, first) => {
-            if before.has(m) {
+            if before.has(MessageNumber(m)) {
                 return ByteStep::Refused(Refusal::BadMessage, c.at);
             }
             match messages.find(MessageNumber(m)) {

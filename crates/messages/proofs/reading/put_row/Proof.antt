@@ -46,7 +46,9 @@ put-requires-5 : tie.Need-put-requires-5
 put-requires-5 c κs = search needs
 
 add-put-5 : tie.Need-add-put-5
-add-put-5 c = search needs
+add-put-5 c =
+    let pre′ = c .before .before .before .before .before .before .before .before .before .before .before .before .before .before .before .before .before .before .before .before .before .before .before .before .before .before .pre in
+    omega (arith, pre′ .1 .0)
 
 cast-put-4 : tie.Need-cast-put-4
 cast-put-4 c =
