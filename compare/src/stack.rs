@@ -89,6 +89,11 @@ pub fn run() {
     let loops = |level, inner| {
         assemble::for_loop(&[&assemble::rid(1, level as u8)], &[], &Vec::<u8>::clone(&inner))
     };
+    let test = [&[wire::BOOLEAN, wire::MISSING], assemble::short(0, 1).as_slice()].concat();
+    let streams: Vec<Vec<u8>> = (0..8).map(|context| assemble::rid(1, context)).collect();
+    let streams: Vec<&[u8]> = streams.iter().map(Vec::as_slice).collect();
+    let eight_streams = assemble::for_loop(&streams, &test, &empty);
+    let store = [&[wire::STORE], assemble::rid(1, 0).as_slice(), &empty].concat();
     let cases = [
         (
             "begin",
@@ -118,6 +123,15 @@ pub fn run() {
             nested(1, operators(&[&[wire::NOT; 28][..], &[wire::MISSING]].concat()), |_, test| {
                 conditional(test)
             }),
+        ),
+        (
+            "loop, then for of 8 streams",
+            nested(28, eight_streams, |_, inner| headed(&[wire::LOOP], inner)),
+        ),
+        ("loop, then store", nested(29, store, |_, inner| headed(&[wire::LOOP], inner))),
+        (
+            "loop, then assignment",
+            nested(28, assign(assemble::parameter(0, 0)), |_, inner| headed(&[wire::LOOP], inner)),
         ),
     ];
     let own = used(None);
