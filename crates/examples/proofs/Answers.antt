@@ -6,7 +6,7 @@ use Rattle.grammar.specs.Tree.{Request}
 use Rattle.grammar.specs.Reader.{Read, read, refused}
 use Rattle.meaning.specs.declared.Truth.{Truth}
 use Rattle.meaning.specs.declared.Truth.the-variants as Truth
-use Rattle.meaning.specs.Data.{Result, is, stray}
+use Rattle.meaning.specs.Evaluation.{Outcome, answered, strayed}
 use Rattle.decimal.specs.Number
 use Rattle.dictionary.specs.Dictionary
 use Rattle.dictionary.specs.Format
@@ -28,6 +28,7 @@ use Rattle.grammar.specs.Values
 use Rattle.meaning.specs.Data
 use Rattle.meaning.specs.Decoding
 use Rattle.meaning.specs.Evaluation
+use Rattle.meaning.specs.House
 use Rattle.meaning.specs.Inputs
 use Rattle.meaning.specs.Meaning
 use Rattle.text.specs.Tests
@@ -47,12 +48,12 @@ readingAnswer d (read r c) =
     (Rows.requestContextRows (Reading.relationsOf (Dictionary.dictionary d)) r)
 readingAnswer d (refused x p) = refusal (number x) p
 
-abbrev pub truthAnswer : Result Truth → Answer
-truthAnswer (is Truth.True) = isTrue
-truthAnswer (is Truth.False) = isFalse
-truthAnswer (is Truth.Missing) = isMissing
-truthAnswer (Data.refused x p) = refusal (number x) p
-truthAnswer stray = isStray
+abbrev pub truthAnswer : Outcome → Answer
+truthAnswer (answered Truth.True) = isTrue
+truthAnswer (answered Truth.False) = isFalse
+truthAnswer (answered Truth.Missing) = isMissing
+truthAnswer (Evaluation.refusal x p) = refusal (number x) p
+truthAnswer strayed = isStray
 
 -- every definition of a file: to unfold one of these is to unfold them all, so that an answer computes
 unfoldable pub openNumber : Unit {0}
@@ -255,8 +256,12 @@ unfoldable pub openEvaluation : Unit {0}
 unfolding Evaluation.dueRelations Evaluation.evaluation
 openEvaluation = tt
 
+unfoldable pub openHouse : Unit {0}
+unfolding House.entrySaid House.entriesSaid House.house
+openHouse = tt
+
 unfoldable pub openInputs : Unit {0}
-unfolding Inputs.valueAt Inputs.literalValue Inputs.recordPlace Inputs.fieldIn Inputs.fieldValue Inputs.parameterAt
+unfolding Inputs.kindHeld Inputs.valueAt Inputs.literalValue Inputs.recordPlace Inputs.fieldIn Inputs.fieldValue Inputs.parameterAt
 openInputs = tt
 
 unfoldable pub openInputs2 : Unit {0}
@@ -316,11 +321,11 @@ unfolding openStatements4 openStatements5 openStatements6 openValues openValues2
 everything5 = tt
 
 unfoldable pub everything6 : Unit {0}
-unfolding openDecoding2 openDecoding3 openDecoding4 openDecoding5 openEvaluation openInputs openInputs2 openMeaning openTests
+unfolding openDecoding2 openDecoding3 openDecoding4 openDecoding5 openEvaluation openHouse openInputs openInputs2 openMeaning
 everything6 = tt
 
 unfoldable pub everything7 : Unit {0}
-unfolding openTests2 openValue openClasses openClasses2 openLists openWords
+unfolding openTests openTests2 openValue openClasses openClasses2 openLists openWords
 everything7 = tt
 
 unfoldable pub readAnswer : List ℕ → List ℕ → ℕ → ℕ → ℕ → Answer

@@ -8,8 +8,8 @@ use lib.Dec.{leb}
 use lib.ListN.{length}
 use native.Mathlib.Omega.{arith}
 use Rattle.wire.specs.Words.{byteAt}
-use Rattle.grammar.specs.declared.Kind.{Kind}
-use Rattle.grammar.specs.declared.Kind.the-variants as Kind
+use Rattle.grammar.specs.Kind.{Kind}
+use Rattle.grammar.specs.Kind as Kind
 use Rattle.grammar.specs.declared.Refusal.{Refusal}
 use Rattle.grammar.specs.declared.Refusal.the-variants.{EndsEarly}
 use Rattle.grammar.specs.declared.Cursor.{Cursor}

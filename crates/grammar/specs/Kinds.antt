@@ -1,4 +1,4 @@
--- 01: "Kinds are number, text, date."
+-- The kind of a value, and which kinds fit: 01, "Scope and kind".
 use Prim.Native.Nat.{ℕ}
 use mathlib.Core.Path.{_≡_}
 use mathlib.Core.Bool.{Bool, true, false, cond, _&&_}
@@ -13,8 +13,7 @@ use Rattle.wire.specs.declared.codes.DataType.the-variants as Data
 use Rattle.wire.specs.declared.codes.FieldType.{FieldType}
 use Rattle.wire.specs.declared.codes.FieldType.the-variants.{Plain, Reading}
 use Rattle.dictionary.specs.Format.{Format}
-use Rattle.grammar.specs.declared.Kind.{Kind}
-use Rattle.grammar.specs.declared.Kind.the-variants.{Number, Text, Date}
+use Rattle.grammar.specs.Kind.{Kind, Number, Text, Date}
 use Rattle.grammar.specs.Tree.{Literal, Reference, field, parameter, parameter2, Value, literal, reference, arithmetic, negate}
 use Rattle.grammar.specs.Names.{Environment, Scope, parameterFormat, fieldFormat}
 

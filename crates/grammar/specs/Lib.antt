@@ -4,6 +4,7 @@ pub mod Tree
 pub mod Bytes
 pub mod Names
 pub mod Scope
+pub mod Kind
 pub mod Kinds
 pub mod Sizes
 pub mod Rules

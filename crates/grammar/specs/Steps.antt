@@ -1,8 +1,8 @@
 -- What the code answers where a definition reads: the reading, and of what was read only the kind.
 use Prim.Native.Nat.{ℕ}
 use mathlib.Core.Option.{Option, none, some}
-use Rattle.grammar.specs.declared.Kind.{Kind}
-use Rattle.grammar.specs.declared.Kind.the-variants as Kind
+use Rattle.grammar.specs.Kind.{Kind}
+use Rattle.grammar.specs.Kind as Kind
 use Rattle.grammar.specs.declared.Fit.{Fit}
 use Rattle.grammar.specs.declared.Fit.the-variants as Fit
 use Rattle.grammar.specs.declared.Step.{Step}

@@ -1,4 +1,4 @@
-// What the reader and the evaluator share: refusals, kinds, and how far a reading has come.
+// What the reader and the evaluator share: refusals, and how far a reading has come.
 ghost use mathlib.Core.Path.{_≡_};
 ghost use Rattle.grammar.specs.Refusals.{number};
 
@@ -56,13 +56,6 @@ pub fn number_of(refusal: Refusal) -> u32
         Refusal::Overflow => 24,
         Refusal::ZeroDivisor => 25,
     }
-}
-
-// The kind of a value; a number with its scale.
-pub enum Kind {
-    Number(i8),
-    Text,
-    Date,
 }
 
 // How far a reading has come: the place of the next byte, and the statements, contexts and conditions met.

@@ -1,4 +1,5 @@
--- The tree whose bytes a list is, by the grammar alone: no rule of scope, kind or size is tested.
+-- The tree whose bytes a list is, by the grammar alone: no rule of scope, kind or size is tested. Of the code tables it uses the codes that are
+-- due alone: whether another code is left out or foreign makes no difference here.
 use Prim.Native.Nat.{ℕ, zero, suc, _+_, _*_}
 use mathlib.Core.Bool.{Bool, cond}
 use mathlib.Core.List.{List, [], _∷_}
@@ -192,8 +193,9 @@ unfoldable pub clauses : ℕ → Decoder Boolean → Decoder Value → Decoder C
 clauses zero booleans values = fail
 clauses (suc n) booleans values = coded clauseClass >>= λ c. clausesUnder (clauses n booleans values) booleans values c
 
-unfoldable pub rseOf : Decoder Boolean → Decoder Value → Decoder Rse
-rseOf booleans values = two rse (code blr.rse then byte >>= λ n. several n stream) (clauses 3 booleans values)
+-- n bounds the clauses
+unfoldable pub rseOf : ℕ → Decoder Boolean → Decoder Value → Decoder Rse
+rseOf n booleans values = two rse (code blr.rse then byte >>= λ k. several k stream) (clauses n booleans values)
 
 -- ---- statements
 
@@ -207,12 +209,12 @@ manyReceives zero each = fail
 manyReceives (suc n) each =
     code blr.receive then byte >>= λ m. each >>= λ s. atEnd (last m s) (manyReceives n each >>= λ rs. return (more m s rs))
 
--- what stands under a statement's code; n bounds the statements of a begin or a select
+-- what stands under a statement's code; n bounds the clauses of an rse and the statements of a begin or a select
 unfoldable pub statementUnder : ℕ → Decoder Statement → Decoder Boolean → Decoder Value → StatementCode → Decoder Statement
 statementUnder n inner booleans values Code.Assignment = two assignment values (coded targetClass >>= referenceUnder)
 statementUnder n inner booleans values Code.Begin = one begin (many n inner)
 statementUnder n inner booleans values Code.Erase = one erase byte
-statementUnder n inner booleans values Code.For = two for (rseOf booleans values) inner
+statementUnder n inner booleans values Code.For = two for (rseOf n booleans values) inner
 statementUnder n inner booleans values Code.Loop = one (headed loop) inner
 statementUnder n inner booleans values Code.Modify = two headed (two modify byte byte) inner
 statementUnder n inner booleans values Code.Handler = one (headed handler) inner

@@ -8,7 +8,8 @@ use lib.ListN.{length, getElem?}
 use Rattle.wire.specs.Lists.{sumOf}
 use Rattle.dictionary.specs.Dictionary.{Relation, dictionary}
 use Rattle.records.specs.Record.{Run, asDue, wrongAt, records}
-use Rattle.grammar.specs.declared.Refusal.the-variants.{NoBoolean, BadMessageBytes, BadRecords}
+use Rattle.grammar.specs.declared.Refusal.{Refusal}
+use Rattle.grammar.specs.declared.Refusal.the-variants as Refusal
 use Rattle.grammar.specs.Tree.{Message, Request}
 use Rattle.grammar.specs.Names.{Context}
 use Rattle.grammar.specs.Sizes.{messageSize}
@@ -16,8 +17,28 @@ use Rattle.grammar.specs.Conditions.{Condition, requestConditions}
 use Rattle.grammar.specs.Reader as Reader
 use Rattle.grammar.specs.Reading.{reading, relationsOf}
 use Rattle.meaning.specs.declared.Truth.{Truth}
-use Rattle.meaning.specs.Data.{Result, refused}
+use Rattle.meaning.specs.declared.Fault.{Fault}
+use Rattle.meaning.specs.declared.Fault.the-variants as Fault
+use Rattle.meaning.specs.Data.{Result, is, refused, stray}
 use Rattle.meaning.specs.Meaning.{meaning}
+
+-- what evaluation answers: a truth value, or a refusal and its place. Demand 3 shows that no evaluation strays.
+pub data Outcome : Type 0 where
+  answered : Truth → Outcome
+  refusal : Refusal → ℕ → Outcome
+  strayed : Outcome
+
+-- 23, 24 and 25 among the refusals
+abbrev pub refusalOf : Fault → Refusal
+refusalOf Fault.MalformedText = Refusal.MalformedText
+refusalOf Fault.Overflow = Refusal.Overflow
+refusalOf Fault.ZeroDivisor = Refusal.ZeroDivisor
+
+-- what the meaning gives, as an outcome
+abbrev pub outcome : Result Truth → Outcome
+outcome (is t) = answered t
+outcome (refused f p) = refusal (refusalOf f) p
+outcome stray = strayed
 
 -- the relations whose records are due; in an accepted request every context has one
 unfoldable pub dueRelations : List Context → List Relation
@@ -28,25 +49,27 @@ dueRelations (x ∷ xs) = dueAfter (x .relation) (dueRelations xs)
     dueAfter none rs = rs
     dueAfter (some r) rs = r ∷ rs
 
-abbrev pub afterRecords : Run → Result Truth → Result Truth
+-- 22: "records not as due"
+abbrev pub afterRecords : Run → Outcome → Outcome
 afterRecords asDue rest = rest
-afterRecords (wrongAt p) rest = refused BadRecords p
+afterRecords (wrongAt p) rest = refusal Refusal.BadRecords p
 
 -- 21: "message bytes not the exact total", at the length given
-abbrev pub afterMessages : Bool → ℕ → Result Truth → Result Truth
+abbrev pub afterMessages : Bool → ℕ → Outcome → Outcome
 afterMessages true n rest = rest
-afterMessages false n rest = refused BadMessageBytes n
+afterMessages false n rest = refusal Refusal.BadMessageBytes n
 
 -- 01: "Order: ..; 20, 21, 22, then 23–25 as met."
-abbrev pub onCondition : Option Condition → List Message → List ℕ → List ℕ → Result Truth → Result Truth
-onCondition none ms images rows rest = refused NoBoolean 0
+abbrev pub onCondition : Option Condition → List Message → List ℕ → List ℕ → Outcome → Outcome
+onCondition none ms images rows rest = refusal Refusal.NoBoolean 0
 onCondition (some x) ms images rows rest =
     afterMessages (eqb (length images) (sumOf messageSize ms)) (length images)
     (afterRecords (records (dueRelations (x .scope .contexts)) rows 0) rest)
 
-abbrev pub onReading : Reader.Read Request → List Relation → ℕ → List ℕ → List ℕ → Result Truth → Result Truth
-onReading (Reader.refused r p) d n images rows rest = refused r p
+abbrev pub onReading : Reader.Read Request → List Relation → ℕ → List ℕ → List ℕ → Outcome → Outcome
+onReading (Reader.refused r p) d n images rows rest = refusal r p
 onReading (Reader.read t c) d n images rows rest = onCondition (getElem? (requestConditions d t) n) (t .messages) images rows rest
 
-unfoldable pub evaluation : List ℕ → List ℕ → ℕ → List ℕ → List ℕ → Result Truth
-evaluation s d n images rows = onReading (reading s d) (relationsOf (dictionary d)) n images rows (meaning s d n images rows)
+-- request, dictionary, boolean number, message images, records
+unfoldable pub evaluation : List ℕ → List ℕ → ℕ → List ℕ → List ℕ → Outcome
+evaluation s d n images rows = onReading (reading s d) (relationsOf (dictionary d)) n images rows (outcome (meaning s d n images rows))

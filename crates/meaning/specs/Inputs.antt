@@ -23,8 +23,9 @@ use Rattle.dictionary.specs.Names.{Name, fieldOf, formatOf}
 use Rattle.records.specs.Record.{recordLength, fieldPlace, fieldMissing}
 use Rattle.grammar.specs.Tree.{Descriptor, Message, Literal, Reference, field, parameter, parameter2}
 use Rattle.grammar.specs.Names.{Context, Scope, descriptorFormat}
-use Rattle.grammar.specs.Kinds.{formatKind}
 use Rattle.grammar.specs.Sizes.{descriptorsSize, messageSize}
+use Rattle.meaning.specs.declared.Kind.{Kind}
+use Rattle.meaning.specs.declared.Kind.the-variants as Kind
 use Rattle.meaning.specs.Data.{Datum, number, text, date, absent}
 
 -- what a reference gives: a value, a malformed text, or that there is no such thing
@@ -60,9 +61,19 @@ typeValue Reading scale n s p = value (number (record { value = pos (wordAt s p)
 unfoldable pub valueAt : Format → List ℕ → ℕ → Fetched
 valueAt f s p = typeValue (f .type) (f .scale) (f .size) s p
 
+-- the kind of what a format holds
+abbrev pub typeKind : FieldType → Kind
+typeKind (Plain (Data.Number w)) = Kind.Number
+typeKind (Plain Data.Date) = Kind.Date
+typeKind (Plain (Data.Chars t)) = Kind.Text
+typeKind Reading = Kind.Number
+
+unfoldable pub kindHeld : Format → Kind
+kindHeld f = typeKind (f .type)
+
 -- 01: "The value of a missing field or parameter2 isn't read."
 abbrev pub unlessMissing : Bool → Format → List ℕ → ℕ → Fetched
-unlessMissing true f s p = value (absent (formatKind f))
+unlessMissing true f s p = value (absent (kindHeld f))
 unlessMissing false f s p = valueAt f s p
 
 abbrev pub numeral : Width → ℕ → ℤ
@@ -130,7 +141,7 @@ flagged nothing f = nothing
 
 abbrev pub unlessFlagged : Format → List ℕ → ℕ → Bool → Fetched
 unlessFlagged f s p true = valueAt f s p
-unlessFlagged f s p false = value (absent (formatKind f))
+unlessFlagged f s p false = value (absent (kindHeld f))
 
 -- ---- what a reference names
 

@@ -1,5 +1,6 @@
 -- The meaning of a condition, and the answer of evaluation.
 pub mod Decoding
+pub mod House
 pub mod Data
 pub mod Inputs
 pub mod Meaning

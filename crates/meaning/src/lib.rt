@@ -1,8 +1,22 @@
-// The meaning of a condition.
+// The meaning of a condition: the types that its definitions and the evaluator share.
 
 // What a condition comes out as.
 pub enum Truth {
     True,
     False,
     Missing,
+}
+
+// The kind of a value.
+pub enum Kind {
+    Number,
+    Text,
+    Date,
+}
+
+// What a condition can be refused for while it is worked out: document 01's 23, 24 and 25.
+pub enum Fault {
+    MalformedText,
+    Overflow,
+    ZeroDivisor,
 }

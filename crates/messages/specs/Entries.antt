@@ -13,7 +13,7 @@ use Rattle.wire.specs.declared.codes.TextType.the-variants.{Text, Varying, Cstr
 use Rattle.grammar.specs.Tree as Tree
 use Rattle.grammar.specs.Names.{descriptorFormat}
 use Rattle.grammar.specs.Kinds.{formatKind}
-use Rattle.grammar.specs.declared.Kind.{Kind}
+use Rattle.grammar.specs.Kind.{Kind}
 use Rattle.messages.specs.declared.declared.Message.{Message}
 use Rattle.messages.specs.declared.declared.Messages.{Messages}
 use Rattle.messages.specs.declared.declared.FoundMessage.{FoundMessage}

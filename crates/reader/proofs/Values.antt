@@ -17,7 +17,7 @@ use Rattle.wire.specs.declared.codes.ValueCode.{ValueCode}
 use Rattle.wire.specs.declared.codes.ValueCode.the-variants as Code
 use Rattle.wire.specs.declared.codes.BooleanCode.{BooleanCode}
 use Rattle.wire.specs.declared.codes.BooleanCode.the-variants.{Compare, Search, Between, Connect, Not, Missing}
-use Rattle.grammar.specs.declared.Kind.{Kind}
+use Rattle.grammar.specs.Kind.{Kind}
 use Rattle.grammar.specs.declared.Cursor.{Cursor}
 use Rattle.grammar.specs.declared.Refusal.{Refusal}
 use Rattle.grammar.specs.declared.Refusal.the-variants.{Unfit}

@@ -17,7 +17,7 @@ use Rattle.wire.specs.declared.codes.StatementCode.{StatementCode}
 use Rattle.wire.specs.declared.codes.ClauseCode.{ClauseCode}
 use Rattle.wire.specs.declared.codes.ClauseCode.the-variants as Clause
 use Rattle.dictionary.specs.Dictionary.{Relation}
-use Rattle.grammar.specs.declared.Kind.{Kind}
+use Rattle.grammar.specs.Kind.{Kind}
 use Rattle.grammar.specs.declared.Cursor.{Cursor}
 use Rattle.grammar.specs.declared.Refusal.{Refusal}
 use Rattle.grammar.specs.declared.Refusal.the-variants.{NotDue, TooGreat, BadMessage, Unfit, Misplaced}

@@ -19,8 +19,8 @@ use Rattle.dictionary.specs.declared.field.Index.{Index}
 use Rattle.dictionary.specs.declared.field.Index.the-variants as Index
 use Rattle.dictionary.specs.Answers.{placeAnswer}
 use Rattle.dictionary.specs.FieldAnswers.{indexAnswer}
-use Rattle.grammar.specs.declared.Kind.{Kind}
-use Rattle.grammar.specs.declared.Kind.the-variants as Kind
+use Rattle.grammar.specs.Kind.{Kind}
+use Rattle.grammar.specs.Kind as Kind
 use Rattle.grammar.specs.declared.Refusal.{Refusal}
 use Rattle.grammar.specs.declared.Refusal.the-variants.{EndsEarly, Unknown}
 use Rattle.grammar.specs.declared.Cursor.{Cursor}

@@ -9,8 +9,8 @@ use Rattle.wire.specs.Words.{byteAt}
 use Rattle.wire.specs.Lists.{isSome}
 use Rattle.dictionary.specs.Dictionary.{Relation}
 use Rattle.dictionary.specs.Names.{Name}
-use Rattle.grammar.specs.declared.Kind.{Kind}
-use Rattle.grammar.specs.declared.Kind.the-variants as Kind
+use Rattle.grammar.specs.Kind.{Kind}
+use Rattle.grammar.specs.Kind as Kind
 use Rattle.grammar.specs.declared.Refusal.{Refusal}
 use Rattle.grammar.specs.declared.Refusal.the-variants.{EndsEarly, BadContext, BadMessage, Misplaced, Unknown, NoParameter, Unfit}
 use Rattle.grammar.specs.declared.Cursor.{Cursor}

@@ -8,7 +8,7 @@ use Rattle.wire.specs.declared.codes.ReferenceCode.{ReferenceCode}
 use Rattle.wire.specs.declared.codes.ReferenceCode.the-variants as Code
 use Rattle.dictionary.specs.Dictionary.{Relation, dictionary}
 use Rattle.dictionary.specs.Names.{Name, fieldOf, formatOf}
-use Rattle.grammar.specs.declared.Kind.{Kind}
+use Rattle.grammar.specs.Kind.{Kind}
 use Rattle.grammar.specs.declared.Cursor.{Cursor}
 use Rattle.grammar.specs.declared.Fit.{Fit}
 use Rattle.grammar.specs.declared.Fit.the-variants as Fit

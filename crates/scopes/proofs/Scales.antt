@@ -12,7 +12,7 @@ use lib.Signed.{mag, ltZ}
 use mir.Syntax.{w8, w32}
 use mir.Val.{SFits, toZ, ofZ}
 use mir.Facts.{toZ-ofZ}
-use Rattle.grammar.specs.declared.Kind.the-variants.{Number}
+use Rattle.grammar.specs.Kind.{Number}
 use Rattle.grammar.specs.Kinds.{arithmeticRange}
 
 clash : {X : Type 0} → false ≡ true → X

@@ -12,8 +12,8 @@ use lib.ListN.{length, take, set, length-set}
 use lib.Seq.{take-suc-set}
 use Rattle.wire.specs.Lists.{find}
 use Rattle.dictionary.specs.Walk.{relationAt}
-use Rattle.grammar.specs.declared.Kind.{Kind}
-use Rattle.grammar.specs.declared.Kind.the-variants as Kind
+use Rattle.grammar.specs.Kind.{Kind}
+use Rattle.grammar.specs.Kind as Kind
 use Rattle.grammar.specs.declared.Fit.{Fit}
 use Rattle.grammar.specs.declared.Fit.the-variants as Fit
 use Rattle.grammar.specs.Steps.{fitOf, kindIn}

@@ -1,0 +1,2 @@
+-- Theorems about the meaning's definitions.
+pub mod House
