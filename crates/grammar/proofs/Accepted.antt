@@ -10,7 +10,7 @@ use Rattle.grammar.specs.Bytes.{requestBytes}
 use Rattle.grammar.specs.Rules.{Allowed}
 use Rattle.grammar.specs.Reader.{Read, read}
 use Rattle.grammar.specs.Reading.{reading, relationsOf}
-use Rattle.grammar.proofs.Went.{Octets}
+use Rattle.grammar.specs.Demands.{Octets}
 use Rattle.grammar.proofs.Sound.{reading-sound}
 use Rattle.grammar.proofs.Complete.{reading-complete}
 
