@@ -12,7 +12,7 @@ use Rattle.wire.specs.Codes as blr
 use Rattle.wire.specs.Words.{wordAt}
 use Rattle.dictionary.specs.Dictionary.{Relation, entry, Checked, proper, atFault, nextEntry, entries, dictionary}
 use Rattle.grammar.specs.declared.Refusal.{Refusal}
-use Rattle.grammar.specs.declared.Refusal.the-variants.{TablesTooShort, RequestTooLong, BadDictionary}
+use Rattle.grammar.specs.declared.Refusal.the-variants.{TablesTooShort, RequestTooLong}
 use Rattle.grammar.specs.Refusals.{number}
 use Rattle.grammar.specs.Tree.{Message, Request}
 use Rattle.grammar.specs.Names.{outermost}

@@ -1,5 +1,6 @@
--- Demands 1 and 2 of reading, a record each. A reading has a request s, a dictionary d, the tables st, pa and ct as they were lent (of
--- statements, parameters and contexts), the same tables st′, pa′ and ct′ as they were left, and an answer.
+-- Demands 1 and 2 of reading: the records `RefusedReading`, and `Soundness` with `Completeness`. A reading has a request s, a dictionary d,
+-- the tables st, pa and ct as they were lent (of statements, parameters and contexts), the same tables st′, pa′ and ct′ as they were left,
+-- and an answer.
 use Prim.Native.Nat.{ℕ, _*_, _≤_, _<_}
 use mathlib.Core.Path.{_≡_}
 use mathlib.Core.Bool.{cond}
@@ -30,7 +31,8 @@ Octets s = (p : ℕ) → byteAt s p < 256
 abbrev pub placedIn : Refusal → List ℕ → List ℕ → List ℕ
 placedIn x s d = cond (eqb (number x) (number BadDictionary)) d s
 
--- 01, "Numbers given back": 1 to 16 are the reader's. The place of 4 is "its length"; "Request and dictionary 65,535 bytes"
+-- 01, "Numbers given back": 1 to 16 are the reader's. A place is in those bytes or, as that of 4, "its length"; 01: "Request and
+-- dictionary 65,535 bytes."
 pub record RefusalWithin (s d : List ℕ) (x : Refusal) (p : ℕ) : Type 0 where
   pub least : 1 ≤ number x
   pub most : number x ≤ 16
@@ -57,8 +59,8 @@ pub record Room (st pa ct : List ℕ) : Type 0 where
   pub parameters : 1536 ≤ length pa
   pub contexts : 160 ≤ length ct
 
--- the tables have room, the dictionary breaks no rule and says the relations rs, and the request is the bytes of the tree t, which the
--- rules allow
+-- "the grammar and the rules of scope, kind and size of document 01 allow it": the tables have room, the dictionary is proper and says
+-- the relations rs, and the request is the bytes of the tree t, which the rules allow
 pub record Acceptable (s d st pa ct : List ℕ) (rs : List Relation) (t : Request) : Type 0 where
   pub room : Room st pa ct
   pub checked : dictionary d ≡ proper rs
@@ -75,7 +77,8 @@ pub record Filled (rs : List Relation) (t : Request) (st pa ct st′ pa′ ct′
   pub parameters : pa′ ≡ padded (parameterRows (t .messages)) (length pa)
   pub contexts : ct′ ≡ padded (requestContextRows rs t) (length ct)
 
--- demand 2, "only when", of a reading that is accepted with the counts n, m and k: nothing is assumed of tables, dictionary and request
+-- demand 2, accepted only if allowed: what acceptance with the counts n, m and k says of tables, dictionary and request. `only`: no other
+-- allowed tree has these bytes
 pub record Soundness (s d st pa ct st′ pa′ ct′ : List ℕ) (n m k : ℕ) : Type 0 where
   pub relations : List Relation
   pub tree : Request
@@ -83,7 +86,7 @@ pub record Soundness (s d st pa ct st′ pa′ ct′ : List ℕ) (n m k : ℕ) :
   pub only : (u : Request) → s ≡ requestBytes u → Allowed relations u → u ≡ tree
   pub filled : Filled relations tree st pa ct st′ pa′ ct′ n m k
 
--- demand 2, "when", of a reading with any answer
+-- demand 2, accepted if allowed: the answer r is acceptance with the counts of rows
 pub record Completeness (s d st pa ct st′ pa′ ct′ : List ℕ) (r : Reading) : Type 0 where
   pub accepted : (rs : List Relation) (t : Request) → Acceptable s d st pa ct rs t →
       (n : ℕ) × (m : ℕ) × (k : ℕ) × (r ≡ Accepted n m k) × Filled rs t st pa ct st′ pa′ ct′ n m k
