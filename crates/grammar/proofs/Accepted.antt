@@ -1,18 +1,18 @@
 -- Reading accepts exactly the bytes of the requests that the rules allow, and reads each as that request and no other.
-use mathlib.Core.Path.{_≡_, refl, sym, ap, subst, _∙_}
+use mathlib.Core.Path.{_≡_, sym, ap, subst, _∙_}
 use mathlib.Core.Logic.{_↔_}
 use mathlib.Core.List.{List}
 use Prim.Native.Nat.{ℕ}
-use Rattle.dictionary.specs.Dictionary.{Relation, Checked, proper, atFault, dictionary}
+use Rattle.dictionary.specs.Dictionary.{Relation, proper, dictionary}
 use Rattle.grammar.specs.declared.Cursor.{Cursor}
 use Rattle.grammar.specs.Tree.{Request}
 use Rattle.grammar.specs.Bytes.{requestBytes}
 use Rattle.grammar.specs.Rules.{Allowed}
-use Rattle.grammar.specs.Reader.{Read, read}
+use Rattle.grammar.specs.Reader.{read}
 use Rattle.grammar.specs.Reading.{reading, relationsOf}
-use Rattle.grammar.proofs.Went.{Octets}
-use Rattle.grammar.proofs.Sound.{reading-sound}
+use Rattle.grammar.specs.Demands.{Octets}
 use Rattle.grammar.proofs.Complete.{reading-complete}
+use Rattle.grammar.proofs.Sound.{reading-sound}
 
 -- 01, demand 2: "A request is accepted exactly when the grammar and the rules of scope, kind and size .. allow it."
 pub accepted-exactly : (s d : List ℕ) → Octets s → (rs : List Relation) → dictionary d ≡ proper rs → (r : Request) → ((c : Cursor) × (reading s d ≡ read r c)) ↔ ((s ≡ requestBytes r) × Allowed rs r)

@@ -12,12 +12,13 @@ use Rattle.wire.specs.Codes as blr
 use Rattle.wire.specs.Words.{wordAt}
 use Rattle.dictionary.specs.Dictionary.{Relation, entry, Checked, proper, atFault, nextEntry, entries, dictionary}
 use Rattle.grammar.specs.declared.Refusal.{Refusal}
-use Rattle.grammar.specs.declared.Refusal.the-variants.{TablesTooShort, RequestTooLong, BadDictionary}
+use Rattle.grammar.specs.declared.Refusal.the-variants.{TablesTooShort, RequestTooLong}
 use Rattle.grammar.specs.Refusals.{number}
 use Rattle.grammar.specs.Tree.{Message, Request}
 use Rattle.grammar.specs.Names.{outermost}
 use Rattle.grammar.specs.Reader.{Read, read, refused}
 use Rattle.grammar.specs.Reading.{nothingMore, outerStatements, request, start, beside, reading, room, answer}
+use Rattle.grammar.specs.Demands.{RefusalWithin}
 use Rattle.grammar.proofs.StepLaws.{absurd-eq}
 use Rattle.grammar.proofs.Went.{both}
 use Rattle.grammar.proofs.Bounded.{OfRequest, Bounded, went, stopped, Stays, _onward_, by-test, code-stays, counted-stays, messages-stays}
@@ -67,17 +68,6 @@ fault-within d q e = by (leb (length d) 65535) (leb-true (length d) 65535) e
     by false h e = let w : 0 ≡ q = cc in (omega arith, omega arith)
 
 -- ---- reading
-
--- the bytes that a refusal's place is in: the dictionary's where that is at fault, otherwise the request's
-abbrev pub placedIn : Refusal → List ℕ → List ℕ → List ℕ
-placedIn r s d = cond (eqb (number r) (number BadDictionary)) d s
-
--- a number of 01's list for the reader, and a place that these bytes have or end at
-pub record RefusalWithin (s d : List ℕ) (r : Refusal) (p : ℕ) : Type 0 where
-  pub least : 1 ≤ number r
-  pub most : number r ≤ 16
-  pub placed : p ≤ length (placedIn r s d)
-  pub short : p ≤ 65535
 
 -- what was refused is the refusal
 same-refusal : {A : Type 0} {x r : Refusal} {q p : ℕ} → _≡_ {A = Read A} (refused x q) (refused r p) →

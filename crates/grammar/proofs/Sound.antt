@@ -21,7 +21,8 @@ use Rattle.grammar.specs.Reader.{read, code, counted}
 use Rattle.grammar.specs.Messages.{messages}
 use Rattle.grammar.specs.Reading.{nothingMore, outerStatements, request, start, beside, reading}
 use Rattle.grammar.specs.Statements.{readStatement}
-use Rattle.grammar.proofs.Went.{Went, Passed, Octets, never, undo, same, passed, onward, went-by, all-of, code-went, counted-went}
+use Rattle.grammar.specs.Demands.{Octets}
+use Rattle.grammar.proofs.Went.{Went, Passed, never, undo, same, passed, onward, went-by, all-of, code-went, counted-went}
 use Rattle.grammar.proofs.SoundMessages.{MessagesSound, messages-sound}
 use Rattle.grammar.proofs.SoundSequences.{StatementsSound, many-sound}
 use Rattle.grammar.proofs.SoundStatements.{statement-sound}

@@ -21,7 +21,8 @@ use Rattle.grammar.specs.Scope.{Distinct}
 use Rattle.grammar.specs.Sizes.{descriptorsSize, messageSize, parameterCount, DescriptorInRange, DescriptorsInRange, MessagesSized}
 use Rattle.grammar.specs.Reader.{read, byte, word, peek, tested, coded}
 use Rattle.grammar.specs.Messages.{scaleByte, sizeWord, descriptorUnder, descriptor, descriptors, message, messages}
-use Rattle.grammar.proofs.Went.{Passed, Octets, undo, same, needed, either, both, tested-read, peek-read, stayed, onward, coded-onward, byte-went, word-went, peeked-went}
+use Rattle.grammar.specs.Demands.{Octets}
+use Rattle.grammar.proofs.Went.{Passed, undo, same, needed, either, both, tested-read, peek-read, stayed, onward, coded-onward, byte-went, word-went, peeked-went}
 use Rattle.grammar.proofs.Codes.{dataCode, descriptor-due, coded-went}
 
 -- neither of two tests

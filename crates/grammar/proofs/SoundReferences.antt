@@ -29,7 +29,8 @@ use Rattle.grammar.specs.Reader.{Read, read, onRead, byte, word, bytes, 
 use Rattle.grammar.specs.Messages.{scaleByte, sizeWord}
 use Rattle.grammar.specs.Values.{numberOf, literalUnder, readLiteral, contextByte, messageByte, parameterWord, fieldName, fieldAllowed, parameterAllowed, readField, readReference, readTarget}
 use Rattle.grammar.specs.Statements.{naming}
-use Rattle.grammar.proofs.Went.{Passed, Octets, undo, same, needed, tested-read, onward, coded-onward, byte-went, word-went, long-went, bytes-went, name-went}
+use Rattle.grammar.specs.Demands.{Octets}
+use Rattle.grammar.proofs.Went.{Passed, undo, same, needed, tested-read, onward, coded-onward, byte-went, word-went, long-went, bytes-went, name-went}
 use Rattle.grammar.proofs.Codes.{referenceCode, literalCode, literal-due, target-due, coded-went}
 use Rattle.grammar.proofs.SoundMessages.{scale-went, size-went}
 

@@ -27,7 +27,8 @@ use Rattle.grammar.specs.Conditions.{clausesConditions, rseConditions}
 use Rattle.grammar.specs.Reader.{read, Reader, byte, tested, code, coded, opened, noted}
 use Rattle.grammar.specs.Values.{contextByte}
 use Rattle.grammar.specs.Statements.{naming, stream, streams, countByte, rseHead, keys, sort, numberedBoolean, clausesUnder, clauses, exchanged, modifyHeading, receiveHeading, sendHeading, storeHeading, labelHeading}
-use Rattle.grammar.proofs.Went.{Went, Passed, Octets, never, undo, same, needed, tested-read, stayed, onward, went-as, coded-onward, byte-went, code-went, opened-went, noted-went}
+use Rattle.grammar.specs.Demands.{Octets}
+use Rattle.grammar.proofs.Went.{Went, Passed, never, undo, same, needed, tested-read, stayed, onward, went-as, coded-onward, byte-went, code-went, opened-went, noted-went}
 use Rattle.grammar.proofs.Codes.{statementCode, streamCode, clauseCode, stream-due, clause-due, direction-due, coded-went}
 use Rattle.grammar.proofs.SoundReferences.{nameBytes, nameCode, naming-went, context-went, message-went}
 use Rattle.grammar.proofs.SoundValues.{ReadsValues, ReadsBooleans}

@@ -25,7 +25,8 @@ use Rattle.grammar.specs.Conditions.{conditions, rseConditions}
 use Rattle.grammar.specs.Reader.{read, Reader, byte, peek, tested, code, coded, counted}
 use Rattle.grammar.specs.Values.{contextByte, readTarget}
 use Rattle.grammar.specs.Statements.{Inner, inner, rseHead, clauses, numberedBoolean, many, manyReceives, modifyHeading, receiveHeading, sendHeading, storeHeading, labelHeading, assignmentUnder, eraseUnder, forUnder, headedUnder, leaveUnder, ifUnder, selectUnder, beginUnder, statementUnder, receiveUnder, readStatement, readReceive}
-use Rattle.grammar.proofs.Went.{Went, Passed, Octets, Within, never, undo, same, needed, either, both, tested-read, peek-read, onward, went-as, went-by, within-onward, within-one, within-none, byte-went, code-went, peeked-went, counted-went}
+use Rattle.grammar.specs.Demands.{Octets}
+use Rattle.grammar.proofs.Went.{Went, Passed, Within, never, undo, same, needed, either, both, tested-read, peek-read, onward, went-as, went-by, within-onward, within-one, within-none, byte-went, code-went, peeked-went, counted-went}
 use Rattle.grammar.proofs.Codes.{statementCode, statement-due, coded-went}
 use Rattle.grammar.proofs.SoundReferences.{target-sound, context-went}
 use Rattle.grammar.proofs.SoundValues.{ReadsValues, ReadsBooleans, value-sound, boolean-sound}

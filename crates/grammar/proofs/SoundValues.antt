@@ -23,7 +23,8 @@ use Rattle.grammar.specs.Sizes.{valueDepth, booleanDepth}
 use Rattle.grammar.specs.Rules.{ValueAllowed, BooleanAllowed}
 use Rattle.grammar.specs.Reader.{read, onRead, Reader, need, coded}
 use Rattle.grammar.specs.Values.{readLiteral, readReference, valueUnder, readValue, booleanUnder, readBoolean}
-use Rattle.grammar.proofs.Went.{Passed, Octets, never, undo, same, needed, onward, coded-onward}
+use Rattle.grammar.specs.Demands.{Octets}
+use Rattle.grammar.proofs.Went.{Passed, never, undo, same, needed, onward, coded-onward}
 use Rattle.grammar.proofs.Codes.{valueCode, booleanCode, value-due, boolean-due, coded-went}
 use Rattle.grammar.proofs.SoundReferences.{literal-sound, reference-sound}
 

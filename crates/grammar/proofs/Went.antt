@@ -15,6 +15,7 @@ use Rattle.wire.specs.Classes.{Class}
 use Rattle.grammar.specs.declared.Refusal.{Refusal}
 use Rattle.grammar.specs.declared.Cursor.{Cursor}
 use Rattle.grammar.specs.Reader.{Read, read, refused, onRead, Reader, need, on, taken, byte, word, long, bytes, peek, name, tested, code, due, coded, withStatement, withContext, counted, opened, noted}
+use Rattle.grammar.specs.Demands.{Octets}
 
 -- ---- readings taken apart
 
@@ -163,10 +164,6 @@ pub coded-onward : {s : List ℕ} {c q c′ : Cursor} {x : ℕ} {bs : List ℕ} 
 coded-onward g e w = went-by (went-as (onward g w) (zero-add _) (zero-add _) (zero-add _)) (sym e)
 
 -- ---- of n bytes
-
--- the bytes of a request are bytes
-abbrev pub Octets : List ℕ → Type 0
-Octets s = (p : ℕ) → byteAt s p < 256
 
 took : (s : List ℕ) (c : Cursor) (n : ℕ) → c .at + n ≤ length s → Passed s c (take n (drop (c .at) s)) (on c n)
 took s c n h = record {

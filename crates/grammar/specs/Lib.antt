@@ -16,4 +16,5 @@ pub mod Values
 pub mod Statements
 pub mod Reading
 pub mod Steps
+pub mod Demands
 pub mod Answered

@@ -26,7 +26,8 @@ use Rattle.grammar.specs.Sizes.{parameterCount}
 use Rattle.grammar.specs.Rows.{descriptorRows, parameterRows}
 use Rattle.grammar.specs.Reader.{read, byte, word, peek, tested, coded}
 use Rattle.grammar.specs.Messages.{scaleByte, sizeWord, descriptorUnder, descriptor, descriptors, message, messages}
-use Rattle.grammar.proofs.Went.{Octets, undo, same, needed, either, taken-read, tested-read}
+use Rattle.grammar.specs.Demands.{Octets}
+use Rattle.grammar.proofs.Went.{undo, same, needed, either, taken-read, tested-read}
 use Rattle.messages.specs.declared.declared.Messages.{Messages}
 use Rattle.messages.specs.Entries.{declaredIn, descriptorOf, descriptorAt, descriptorsAt, messageIn, messagesOf, entriesFrom}
 use Rattle.grammar.proofs.RowCounts.{parameter-rows}

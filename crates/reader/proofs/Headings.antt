@@ -27,7 +27,8 @@ use Rattle.grammar.specs.Reader.{read}
 use Rattle.grammar.specs.Values.{readValue, readBoolean}
 use Rattle.grammar.specs.Statements.{rseHead, clauses, forUnder, headedUnder, statementUnder, readStatement}
 use Rattle.grammar.specs.Steps.{noKind}
-use Rattle.grammar.proofs.Went.{Octets, never}
+use Rattle.grammar.specs.Demands.{Octets}
+use Rattle.grammar.proofs.Went.{never}
 use Rattle.grammar.proofs.SoundRses.{HeadingSound, head-sound, clauses-sound, plain-heading-sound, receive-heading-sound, send-heading-sound, label-heading-sound, modify-heading-sound, store-heading-sound}
 use Rattle.grammar.proofs.SoundValues.{value-sound, boolean-sound}
 use Rattle.grammar.proofs.SoundStatements.{statement-sound}

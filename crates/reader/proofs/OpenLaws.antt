@@ -23,7 +23,8 @@ use Rattle.grammar.specs.Names.{streamContext, withContexts, underStreams}
 use Rattle.grammar.specs.Rows.{contextRow, streamRows}
 use Rattle.grammar.specs.Reader.{Read, read, refused, onRead, code}
 use Rattle.grammar.specs.Statements.{stream, streams, countByte, rseHead}
-use Rattle.grammar.proofs.Went.{Octets, Passed, inside, onward, code-went}
+use Rattle.grammar.specs.Demands.{Octets}
+use Rattle.grammar.proofs.Went.{Passed, inside, onward, code-went}
 use Rattle.grammar.proofs.SoundRses.{stream-sound, count-went}
 use Rattle.scopes.specs.declared.scope.Context.{Context}
 use Rattle.scopes.specs.declared.scope.Scope.{Scope}

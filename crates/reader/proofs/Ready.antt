@@ -15,8 +15,9 @@ use Rattle.wire.specs.Classes.{directionClass}
 use Rattle.grammar.specs.Reader.{Read, read, coded}
 use Rattle.grammar.specs.Values.{readValue, readBoolean}
 use Rattle.grammar.specs.Statements.{keys, clauses, readStatement}
+use Rattle.grammar.specs.Demands.{Octets}
 use Rattle.grammar.proofs.StepLaws.{step-read}
-use Rattle.grammar.proofs.Went.{Passed, Octets, inside}
+use Rattle.grammar.proofs.Went.{Passed, inside}
 use Rattle.grammar.proofs.SoundValues.{value-sound, boolean-sound}
 use Rattle.grammar.proofs.SoundRses.{keys-sound, clauses-sound}
 use Rattle.grammar.proofs.SoundStatements.{statement-sound}

@@ -26,6 +26,7 @@ use Rattle.grammar.specs.Conditions.{requestConditions}
 use Rattle.grammar.specs.Reader.{Read, read, refused}
 use Rattle.grammar.specs.Reading.{request, start, room, reading, answer, relationsOf, statementTable, parameterTable, contextTable}
 use Rattle.grammar.specs.Steps.{noKind}
+use Rattle.grammar.specs.Demands.{Octets}
 use Rattle.grammar.specs.Answered.{Answered, readingOf}
 use Rattle.grammar.proofs.StepLaws.{absurd-eq, step-read, step-refused}
 use Rattle.grammar.proofs.Sound.{request-sound}
@@ -109,13 +110,20 @@ module _ (s d : List ℕ) (n m k : ℕ) where
 
 module _ (s d st pa ct nd : List ℕ) where
   -- a refusal, with zeros in the tables
-  pub refuses : (st′ pa′ ct′ nd′ : List ℕ) (x : Refusal) (p : ℕ) → answer s d (length st) (length pa) (length ct) ≡ refused x p →
+  pub refuses : Octets s → Octets d → (st′ pa′ ct′ nd′ : List ℕ) (x : Refusal) (p : ℕ) → answer s d (length st) (length pa) (length ct) ≡ refused x p →
       st′ ≡ replicate (length st) 0 → pa′ ≡ replicate (length pa) 0 → ct′ ≡ replicate (length ct) 0 → nd′ ≡ replicate (length nd) 0 →
       AnsweredNoting s d st pa ct nd st′ pa′ ct′ nd′ (Refused x p)
   unfolding statementTable parameterTable contextTable conditionTable
-  refuses st′ pa′ ct′ nd′ x p e a b c f =
+  refuses o o′ st′ pa′ ct′ nd′ x p e a b c f =
       record {
-        answered = record { answered = rw e; statements-filled = rw e a; parameters-filled = rw e b; contexts-filled = rw e c };
+        answered = record {
+          request-octets = o;
+          dictionary-octets = o′;
+          answered = rw e;
+          statements-filled = rw e a;
+          parameters-filled = rw e b;
+          contexts-filled = rw e c;
+        };
         conditions-filled = rw e f;
       }
 
@@ -125,7 +133,7 @@ module _ (s d st pa ct nd : List ℕ) where
 
     pub beside-cleared : Beside s d pa
     beside-cleared =
-        record { short = was .short; is-proper = was .is-proper; octets = h .octets; room = was .parameters-room }
+        record { short = was .short; is-proper = was .is-proper; octets = h .request-octets; room = was .parameters-room }
 
     module _ (st′ pa′ ct′ nd′ : List ℕ) (w : Whole)
         (g : Requested (request (relations d) s start) d pa pa′ (tables st ct nd) (tables st′ ct′ nd′) w) where
@@ -139,11 +147,13 @@ module _ (s d st pa ct nd : List ℕ) where
       unfolding statementTable parameterTable contextTable conditionTable
       accepted-as r c i =
           let a = answer-goes s d (length st) (length pa) (length ct) was ∙ i in
-          let v = request-sound s (h .octets) (was .short) (relations d) r c i in
+          let v = request-sound s (h .request-octets) (was .short) (relations d) r c i in
           let filled = rw i at (g .filled) in
           let counts : w .parameters ≡ parameterCount (r .messages) = rw i at (g .rows-are) in
           record {
             answered = record {
+              request-octets = h .request-octets;
+              dictionary-octets = h .dictionary-octets;
               answered = rw (a, counts, v .counted, v .declared);
               statements-filled =
                   rw a (ap (λ t. t .statements) filled ∙ ap (λ l. sets l 0 (requestStatementRows r)) (h .no-statements) ∙
@@ -185,6 +195,8 @@ module _ (s d st pa ct nd st₀ pa₀ ct₀ nd₀ : List ℕ) (a : st ≡ replic
       let l = cleared-length nd nd₀ f in
       record {
         answered = record {
+          request-octets = h .answered .request-octets;
+          dictionary-octets = h .answered .dictionary-octets;
           answered = rw (i, j, k) at (h .answered .answered);
           statements-filled = rw (i, j, k) at (h .answered .statements-filled);
           parameters-filled = rw (i, j, k) at (h .answered .parameters-filled);
@@ -193,10 +205,10 @@ module _ (s d st pa ct nd st₀ pa₀ ct₀ nd₀ : List ℕ) (a : st ≡ replic
         conditions-filled = rw (i, j, k, l) at (h .conditions-filled);
       }
 
-  pub stops : (x : Refusal) (p : ℕ) → beforeOf s d (length st) (length pa) (length ct) ≡ Before.Stop x p →
+  pub stops : Octets s → Octets d → (x : Refusal) (p : ℕ) → beforeOf s d (length st) (length pa) (length ct) ≡ Before.Stop x p →
       AnsweredNoting s d st₀ pa₀ ct₀ nd₀ st pa ct nd (Refused x p)
-  stops x p h =
+  stops o o′ x p h =
       let i = cleared-length st st₀ a in
       let j = cleared-length pa pa₀ b in
       let k = cleared-length ct ct₀ c in
-      refuses s d st₀ pa₀ ct₀ nd₀ st pa ct nd x p (rw (i, j, k) at (answer-stops s d (length st) (length pa) (length ct) x p h)) a b c f
+      refuses s d st₀ pa₀ ct₀ nd₀ o o′ st pa ct nd x p (rw (i, j, k) at (answer-stops s d (length st) (length pa) (length ct) x p h)) a b c f

@@ -20,7 +20,7 @@ use Rattle.grammar.specs.Reader.{Read, read, withCondition}
 use Rattle.grammar.specs.Statements.{countByte}
 use Rattle.grammar.specs.Steps.{byteStep}
 use Rattle.grammar.proofs.StepLaws.{byte-read, step-read}
-use Rattle.grammar.proofs.Went.{Went, Octets, inside, both}
+use Rattle.grammar.proofs.Went.{Went, inside, both}
 use Rattle.grammar.proofs.SoundRses.{count-went}
 use Rattle.scopes.specs.declared.scope.Scope.{Scope}
 use Rattle.reader.specs.declared.heads.ClauseHead.{ClauseHead}
@@ -32,6 +32,7 @@ use Rattle.grammar.specs.Names as Names
 use Rattle.grammar.specs.Names.{Environment}
 use Rattle.grammar.specs.Statements.{rseHead}
 use Rattle.grammar.specs.Steps.{stepOf, noKind}
+use Rattle.grammar.specs.Demands.{Octets}
 use Rattle.grammar.proofs.SoundRses.{head-sound}
 use Rattle.reader.specs.declared.opening.Opened.{Opened}
 use Rattle.reader.specs.Promises.{Opens, headingReader}

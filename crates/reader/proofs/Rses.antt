@@ -27,8 +27,9 @@ use Rattle.grammar.specs.Reader.{Read, read, refused, onRead, Reader, coded, wi
 use Rattle.grammar.specs.Values.{readValue, readBoolean}
 use Rattle.grammar.specs.Statements.{keys, sort, numberedBoolean, clausesUnder, clauses, countByte}
 use Rattle.grammar.specs.Steps.{stepOf, noKind, byteStep}
+use Rattle.grammar.specs.Demands.{Octets}
 use Rattle.grammar.proofs.StepLaws.{absurd-eq, byte-read, byte-refused}
-use Rattle.grammar.proofs.Went.{Passed, Octets, undo, same, needed, coded-read, byte-went}
+use Rattle.grammar.proofs.Went.{Passed, undo, same, needed, coded-read, byte-went}
 use Rattle.grammar.proofs.SoundValues.{value-sound, boolean-sound}
 use Rattle.grammar.proofs.SoundRses.{sort-sound, numbered-sound, count-went}
 use Rattle.reader.specs.declared.heads.ClauseHead.{ClauseHead}

@@ -32,6 +32,7 @@ use Rattle.grammar.specs.Statements.{manyReceives, receiveUnder, selectUnder, s
 use Rattle.grammar.specs.Steps.{noKind, byteStep}
 use Rattle.grammar.specs.declared.ByteStep.{ByteStep}
 use Rattle.grammar.specs.declared.ByteStep.the-variants as ByteStep
+use Rattle.grammar.specs.Demands.{Octets}
 use Rattle.grammar.proofs.StepLaws.{absurd-eq, byte-read, byte-refused}
 use Rattle.scopes.specs.declared.scope.Scope as Scopes
 use Rattle.reader.specs.declared.parts.Selected.{Selected}
@@ -39,7 +40,7 @@ use Rattle.reader.specs.declared.cycle.Part.the-variants as Part
 use Rattle.reader.proofs.Ready.{given-at}
 use Rattle.reader.proofs.Values.{level}
 use Rattle.reader.proofs.Messages.{one-selected}
-use Rattle.grammar.proofs.Went.{Went, Octets, inside, taken-read, never, onward, undo, same, needed, tested-read, byte-went, code-went, counted-went}
+use Rattle.grammar.proofs.Went.{Went, inside, taken-read, never, onward, undo, same, needed, tested-read, byte-went, code-went, counted-went}
 use Rattle.grammar.proofs.SoundStatements.{statement-sound}
 use Rattle.reader.specs.declared.heads.Ending.{Ending}
 use Rattle.reader.specs.declared.heads.Ending.the-variants as Ending

@@ -34,8 +34,9 @@ use Rattle.grammar.specs.Reader.{Read, read, refused, onRead, Reader, on, need,
 use Rattle.grammar.specs.Values.{contextByte, readValue, readBoolean, readTarget}
 use Rattle.grammar.specs.Statements.{numberedBoolean, many, assignmentUnder, eraseUnder, leaveUnder, beginUnder, forUnder, ifUnder, statementUnder, readStatement}
 use Rattle.grammar.specs.Steps.{kindIn, stepOf, noKind}
+use Rattle.grammar.specs.Demands.{Octets}
 use Rattle.grammar.proofs.StepLaws.{absurd-eq, step-read, taken-cut, peek-here, peek-past}
-use Rattle.grammar.proofs.Went.{inside, Octets, never, undo, same, needed, peek-read}
+use Rattle.grammar.proofs.Went.{inside, never, undo, same, needed, peek-read}
 use Rattle.grammar.proofs.SoundRses.{numbered-sound}
 use Rattle.grammar.proofs.SoundValues.{boolean-sound}
 use Rattle.grammar.proofs.SoundStatements.{statement-sound}

@@ -29,8 +29,9 @@ use Rattle.grammar.specs.Messages.{messages}
 use Rattle.grammar.specs.Statements.{many}
 use Rattle.grammar.specs.Reading.{outerStatements, nothingMore, request, start}
 use Rattle.grammar.specs.Steps.{stepOf, noKind}
+use Rattle.grammar.specs.Demands.{Octets}
 use Rattle.grammar.proofs.StepLaws.{absurd-eq, step-read}
-use Rattle.grammar.proofs.Went.{Octets, Went, inside, undo, code-went, counted-went, onward}
+use Rattle.grammar.proofs.Went.{Went, inside, undo, code-went, counted-went, onward}
 use Rattle.grammar.proofs.SoundMessages.{messages-sound}
 use Rattle.grammar.proofs.Sound.{outer-sound}
 use Rattle.scopes.specs.declared.scope.Scope.{Scope}

@@ -9,7 +9,6 @@ use lib.ListN.{length, getD, set}
 use lib.Seq.{sets}
 use Rattle.wire.specs.Codes as blr
 use Rattle.wire.specs.Lists.{among}
-use Rattle.wire.specs.Words.{byteAt}
 use Rattle.wire.specs.Classes.{Class, valueClass, booleanClass, statementClass, clauseClass}
 use Rattle.wire.specs.declared.codes.ValueCode.{ValueCode}
 use Rattle.wire.specs.declared.codes.BooleanCode.{BooleanCode}
@@ -40,6 +39,7 @@ use Rattle.grammar.specs.Reader.{Read, read, refused, Reader, _>>=_, _>>_, retu
 use Rattle.grammar.specs.Values.{readValue, readBoolean}
 use Rattle.grammar.specs.Statements.{Inner, inner, readStatement, readReceive}
 use Rattle.grammar.specs.Steps.{fitOf, stepOf, noKind, byteStep}
+use Rattle.grammar.specs.Demands.{Octets}
 use Rattle.scopes.specs.declared.scope.Scope.{Scope}
 use Rattle.reader.specs.declared.heads.ValueHead.{ValueHead}
 use Rattle.reader.specs.declared.heads.ValueHead.the-variants as ValueHead
@@ -207,10 +207,10 @@ pub record From {A : Type 0} (from : Step) (reader : Cursor → Read A) (k : A �
 
 pub record Given (s d : List ℕ) (sc : Scope) (c : Cursor) (levels : ℕ) : Type 0 where
   pub ready : Ready s d sc c levels
-  pub octets : (p : ℕ) → byteAt s p < 256
+  pub octets : Octets s
 
 pub record GivenAfter (s d : List ℕ) (sc : Scope) (from : Step) (levels : ℕ) : Type 0 where
-  pub octets : (p : ℕ) → byteAt s p < 256
+  pub octets : Octets s
   pub given : (f : Fit) (c : Cursor) → from ≡ Step.Next f c → Given s d sc c levels
 
 -- what the reader under a code at a place is given

@@ -1,12 +1,11 @@
 -- What the reader of a whole request promises.
-use Prim.Native.Nat.{ℕ, _≤_, _<_}
+use Prim.Native.Nat.{ℕ, _≤_}
 use mathlib.Core.Path.{_≡_}
 use mathlib.Core.Bool.{false, cond}
 use mathlib.Core.List.{List, []}
 use lib.Dec.{leb}
 use lib.ListN.{length, replicate}
 use lib.Seq.{sets}
-use Rattle.wire.specs.Words.{byteAt}
 use Rattle.dictionary.specs.Dictionary.{Relation, Checked, proper, atFault, dictionary}
 use Rattle.grammar.specs.declared.Cursor.{Cursor}
 use Rattle.grammar.specs.Tree.{Request}
@@ -20,6 +19,7 @@ use Rattle.grammar.specs.Reading.{answer, room, nothingMore, outerStatements}
 use Rattle.grammar.specs.Messages.{messages}
 use Rattle.grammar.specs.Steps.{stepOf, noKind}
 use Rattle.grammar.specs.declared.Reading.{Reading}
+use Rattle.grammar.specs.Demands.{Octets}
 use Rattle.grammar.specs.Answered.{Answered}
 use Rattle.scopes.specs.declared.scope.Scope.{Scope}
 use Rattle.reader.specs.declared.request.Whole.{Whole}
@@ -81,7 +81,7 @@ bodyOf d = do
 pub record Beside (s d pt : List ℕ) : Type 0 where
   pub short : length s ≤ 65535
   pub is-proper : dictionary d ≡ proper (relations d)
-  pub octets : (p : ℕ) → byteAt s p < 256
+  pub octets : Octets s
   pub room : 1536 ≤ length pt
 
 -- the cursor after the head
@@ -115,7 +115,8 @@ beforeOf s d n m k =
 -- what a reading after that is given: tables of zeros
 pub record Cleared (s d st pa ct nd : List ℕ) : Type 0 where
   pub before-goes : beforeOf s d (length st) (length pa) (length ct) ≡ Before.Go
-  pub octets : (p : ℕ) → byteAt s p < 256
+  pub request-octets : Octets s
+  pub dictionary-octets : Octets d
   pub no-statements : st ≡ replicate (length st) 0
   pub no-parameters : pa ≡ replicate (length pa) 0
   pub no-contexts : ct ≡ replicate (length ct) 0

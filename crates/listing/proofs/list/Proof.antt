@@ -15,8 +15,7 @@ use Rattle.reader.proofs.read.Reads as read-reads
 few-rows : (c : tie.After-n) → let counts = c .n .given .0 in Few (counts .0) (counts .1 .0) (counts .1 .1 .0)
 few-rows c =
     let read′ = c .before .before .before .before .before .read in
-    let body = c .before .before .before .before .before .before .before .before .before .shared-slice-known2 in
-    accepted-few (read′ .ensures) (λ p. omega (arith, body .given p)) _ _ _ (c .n .given .1)
+    accepted-few (read′ .ensures) _ _ _ (c .n .given .1)
 
 -- src/main.rt:20:9
 slice-aggregate-read : tie.Need-slice-aggregate-read

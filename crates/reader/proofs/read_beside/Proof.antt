@@ -90,7 +90,7 @@ returns-2 c =
     let clear2′ = c .before .before .before .before .before .before .before .before .before .before .clear2 in
     let clear3′ = c .before .before .before .before .before .before .clear3 in
     let clear4′ = c .before .before .clear4 in
-    refuses _ _ _ _ _ _ _ _ _ _ _ _ (refuses-whole _ _ _ _ _ _ (pre′) _ _ _ _ (read-whole′ .result) (read-whole′ .ensures) _ _ (step2′ .given .1))
+    refuses _ _ _ _ _ _ (pre′ .request-octets) (pre′ .dictionary-octets) _ _ _ _ _ _ (refuses-whole _ _ _ _ _ _ (pre′) _ _ _ _ (read-whole′ .result) (read-whole′ .ensures) _ _ (step2′ .given .1))
     (clear′ .ensures ∙ ap (λ n. replicate n 0) (read-whole′ .kept .1 .1 .0))
     (clear2′ .ensures ∙ ap (λ n. replicate n 0) (read-whole′ .kept .1 .1 .1 .0))
     (clear3′ .ensures ∙ ap (λ n. replicate n 0) (read-whole′ .kept .1 .1 .1 .1 .0))

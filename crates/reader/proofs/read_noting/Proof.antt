@@ -40,6 +40,7 @@ read-beside-requires c κs =
     let judge′ = c .before .before .before .before .before .before .judge in
     let enum-told′ = c .before .before .before .before .enum-told in
     let shared-slice-known′ = c .before .before .before .before .before .before .before .before .before .before .before .before .before .before .before .before .before .before .before .before .before .before .before .before .before .before .before .before .shared-slice-known in
+    let shared-slice-known2′ = c .before .before .before .before .before .before .before .before .before .before .before .before .before .before .before .before .before .before .before .before .before .before .before .before .before .before .before .shared-slice-known2 in
     let args′ = c .before .before .before .before .before .before .before .before .before .before .before .before .before .before .before .before .before .before .before .before .before .before .before .before .before .before .before .before .before .args in
     let clear′ = c .before .before .before .before .before .before .before .before .before .before .before .before .before .before .before .before .before .before .before .before .before .clear in
     let clear2′ = c .before .before .before .before .before .before .before .before .before .before .before .before .before .before .before .before .before .clear2 in
@@ -47,7 +48,8 @@ read-beside-requires c κs =
     let clear4′ = c .before .before .before .before .before .before .before .before .before .clear4 in
     record {
       before-goes = sym (judge′ .ensures) ∙ enum-told′ .given .1;
-      octets = λ p. omega (arith, shared-slice-known′ .given p);
+      request-octets = λ p. omega (arith, shared-slice-known′ .given p);
+      dictionary-octets = λ p. omega (arith, shared-slice-known2′ .given p);
       no-statements = zeros-own _ (args′ .statements .now) (clear′ .ensures);
       no-parameters = zeros-own _ (args′ .parameters .now) (clear2′ .ensures);
       no-contexts = zeros-own _ (args′ .contexts .now) (clear3′ .ensures);
@@ -103,13 +105,16 @@ same-length-8 c = search needs
 -- src/lib.rt:42:1
 returns-2 : tie.Need-returns-2
 returns-2 c =
+    let shared-slice-known′ = c .before .before .before .before .before .before .before .before .before .before .before .before .before .before .before .before .before .before .before .before .before .before .before .before .before .shared-slice-known in
+    let shared-slice-known2′ = c .before .before .before .before .before .before .before .before .before .before .before .before .before .before .before .before .before .before .before .before .before .before .before .before .shared-slice-known2 in
     let clear′ = c .before .before .before .before .before .before .before .before .before .before .before .before .before .before .before .before .before .before .clear in
     let clear2′ = c .before .before .before .before .before .before .before .before .before .before .before .before .before .before .clear2 in
     let clear3′ = c .before .before .before .before .before .before .before .before .before .before .clear3 in
     let clear4′ = c .before .before .before .before .before .before .clear4 in
     let judge′ = c .before .before .before .judge in
     let r′ = c .before .r in
-    stops _ _ _ _ _ _ _ _ _ _ (clear′ .ensures) (clear2′ .ensures) (clear3′ .ensures) (clear4′ .ensures) _ _ (sym (judge′ .ensures) ∙ r′ .given .1)
+    stops _ _ _ _ _ _ _ _ _ _ (clear′ .ensures) (clear2′ .ensures) (clear3′ .ensures) (clear4′ .ensures)
+    (λ p. omega (arith, shared-slice-known′ .given p)) (λ p. omega (arith, shared-slice-known2′ .given p)) _ _ (sym (judge′ .ensures) ∙ r′ .given .1)
 
 pub read-noting-spec : {M : Type 1} → statement M
 read-noting-spec =

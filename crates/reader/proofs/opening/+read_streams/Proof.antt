@@ -3,7 +3,7 @@ use mathlib.Core.Path.{_≡_, sym, _∙_}
 use native.Mathlib.Omega.{arith}
 use lib.ListN.{length, length-map}
 use Rattle.grammar.specs.Statements.{stream}
-use Rattle.grammar.proofs.Went.{Octets}
+use Rattle.grammar.specs.Demands.{Octets}
 use Rattle.scopes.specs.Scopes.{scopeOf}
 use Rattle.scopes.proofs.scope.Context.{the-type}
 use Rattle.reader.specs.Promises.{relations}

@@ -4,7 +4,7 @@ use mathlib.Core.Path.{_≡_, refl, sym, ap, _∙_}
 use native.Mathlib.Omega.{arith}
 use lib.ListN.{length, length-map}
 use Rattle.grammar.specs.Statements.{stream, storeHeading}
-use Rattle.grammar.proofs.Went.{Octets}
+use Rattle.grammar.specs.Demands.{Octets}
 use Rattle.scopes.specs.Scopes.{scopeOf}
 use Rattle.scopes.proofs.scope.Context.{the-type}
 use Rattle.reader.specs.Promises.{relations}
