@@ -4,7 +4,7 @@ use mathlib.Core.Path.{_≡_, ap₂, _∙_}
 use native.Mathlib.Omega.{arith}
 use borrow.Author.Tests.{lt-ltb, le-ltb}
 use lib.Dec.{lit<}
-use lib.IntN.{ℤ, pos, negsuc, negℤ}
+use lib.IntN.{ℤ, pos, negsuc, negℤ, _*ℤ_, one, *ℤ-one}
 use lib.Signed.{mag}
 use mir.Syntax.{w64}
 use mir.Val.{SFits, ofZ}
@@ -31,6 +31,11 @@ negative-in (suc k) b l h = l
 pub negative-out : (m b : ℕ) → b < m → b ≤ mag (negℤ (pos m))
 negative-out zero b l = omega arith
 negative-out (suc k) b l = omega arith
+
+-- a value at its own places
+pub raised-by-none : (z : ℤ) → z *ℤ pos (10 ^ 0) ≡ z
+unfolding one
+raised-by-none z = *ℤ-one z
 
 -- every value but the smallest has an opposite
 pub opposite-in : (x : ℤ) → SFits w64 x → (ofZ w64 x ≡ 9223372036854775808 → ⊥) → mag (negℤ x) < 2 ^ 63

@@ -11,3 +11,12 @@ signed false m = pos m
 abbrev pub isNegative : ℤ → Bool
 isNegative (pos n) = false
 isNegative (negsuc n) = true
+
+-- -z - 1, which has the bits of z inverted
+abbrev pub complementOf : ℤ → ℤ
+complementOf (pos n) = negsuc n
+complementOf (negsuc n) = pos n
+
+abbrev pub complementIf : Bool → ℤ → ℤ
+complementIf true z = complementOf z
+complementIf false z = z
