@@ -1,9 +1,12 @@
 -- Products of values by their signs and magnitudes. Assumes nothing.
 use Prim.Native.Nat.{ℕ, zero, suc, _*_, _/_, _^_, _≤_, _<_}
-use mathlib.Core.Path.{_≡_, refl, ap, ap₂, _∙_}
+use mathlib.Core.Path.{_≡_, refl, sym, ap, ap₂, _∙_}
 use mathlib.Core.Bool.{Bool, true, false, not, Bool·beq}
 use native.Mathlib.Omega.{arith}
 use native.Mathlib.Nat.{zero-mul, mul-zero, mul-comm, le-div-iff-mul-le, div-lt-iff-lt-mul}
+use native.Mathlib.Decide.{decLt}
+use borrow.Author.Tests.{lt-ltb, le-ltb, le-leb, lt-leb}
+use lib.Dec.{ltb, leb}
 use lib.IntN.{ℤ, pos, negsuc, natAbs, _*ℤ_}
 use lib.Signed.{mag}
 use mir.Syntax.{w64}
@@ -22,11 +25,6 @@ pub parts : (a : ℤ) {s : Bool} {m : ℕ} → mag a < 2 ^ 63
     → s ≡ isNegative (toZ w64 (ofZ w64 a)) → m ≡ natAbs (toZ w64 (ofZ w64 a)) → signed s m ≡ a
 parts a h p q = ap₂ signed (p ∙ ap isNegative (read-back w64 a h)) (q ∙ ap natAbs (read-back w64 a h)) ∙ signed-of a
 
-signed-zero : (s : Bool) → signed s 0 ≡ pos 0
-unfolding signed
-signed-zero true = refl
-signed-zero false = refl
-
 -- products
 pub product-signed : (s t : Bool) (a b : ℕ) → signed s a *ℤ signed t b ≡ signed (not (Bool·beq s t)) (a * b)
 unfolding signed
@@ -40,9 +38,6 @@ product-signed false true a zero = rw mul-zero
 product-signed false true a (suc b) = refl
 product-signed false false a b = refl
 
-pub zero-product : (s t : Bool) (b : ℕ) → signed s 0 *ℤ signed t b ≡ pos 0
-zero-product s t b = product-signed s t 0 b ∙ rw zero-mul (signed-zero (not (Bool·beq s t)))
-
 -- a magnitude past 64 bits
 pub past : (s : Bool) (m : ℕ) → 2 ^ 64 ≤ m → 2 ^ 63 ≤ mag (signed s m)
 unfolding signed
@@ -53,8 +48,15 @@ past false m h = omega arith
 nonzero : (a : ℕ) → (a ≡ 0 → ⊥) → 0 < a
 nonzero a h = omega arith
 
-pub product-in : (a b : ℕ) → (a ≡ 0 → ⊥) → b ≤ 18446744073709551615 / a → a * b < 2 ^ 64
+product-in : (a b : ℕ) → (a ≡ 0 → ⊥) → b ≤ 18446744073709551615 / a → a * b < 2 ^ 64
 product-in a b h l = let p : b * a ≤ 18446744073709551615 = le-div-iff-mul-le (nonzero a h) .0 l in omega (arith, mul-comm a b)
 
-pub product-out : (a b : ℕ) → (a ≡ 0 → ⊥) → 18446744073709551615 / a < b → 2 ^ 64 ≤ a * b
+product-out : (a b : ℕ) → (a ≡ 0 → ⊥) → 18446744073709551615 / a < b → 2 ^ 64 ≤ a * b
 product-out a b h l = let p : 18446744073709551615 < b * a = div-lt-iff-lt-mul (nonzero a h) .0 l in omega (arith, mul-comm a b)
+
+pub product-test : (a b : ℕ) → (a ≡ 0 → ⊥) → leb b (18446744073709551615 / a) ≡ ltb (a * b) (2 ^ 64)
+product-test a b h = go (decLt (18446744073709551615 / a) b)
+  where
+    go : Dec (18446744073709551615 / a < b) → leb b (18446744073709551615 / a) ≡ ltb (a * b) (2 ^ 64)
+    go (yes l) = lt-leb b _ l ∙ sym (le-ltb (a * b) (2 ^ 64) (product-out a b h l))
+    go (no l) = let k : b ≤ 18446744073709551615 / a = omega arith in le-leb b _ k ∙ sym (lt-ltb (a * b) (2 ^ 64) (product-in a b h k))

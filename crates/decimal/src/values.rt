@@ -1,5 +1,7 @@
 // Sum, product, quotient and opposite of values, each given a scale.
 ghost use mathlib.Core.Path.{_≡_};
+ghost use Prim.Native.Nat.{_*_, _^_};
+ghost use lib.Dec.{ltb};
 ghost use lib.IntN.{negℤ, _+ℤ_, _*ℤ_};
 ghost use Rattle.decimal.specs.Number.{fits, fitted, divided};
 ghost use Rattle.decimal.specs.Signs.{signed, complementIf};
@@ -40,14 +42,21 @@ pub(crate) fn sum(x: i64, y: i64, minus: bool, scale: i8) -> Computed
     }
 }
 
+fn product_fits(m: u64, n: u64) -> bool
+    ensures { λ r. ⌜ r ≡ ltb (m * n) (2 ^ 64) ⌝ }
+{
+    if m == 0 {
+        true
+    } else {
+        n <= 18446744073709551615 / m
+    }
+}
+
 // The product of two values by their signs and magnitudes.
 pub(crate) fn product(s: bool, m: u64, t: bool, n: u64, scale: i8) -> Computed
     ensures { λ r. ⌜ r ≡ fitted (signed s m *ℤ signed t n) scale ⌝ }
 {
-    if m == 0 {
-        return Computed::Value(Number { value: 0, scale });
-    }
-    if n <= 18446744073709551615 / m {
+    if product_fits(m, n) {
         make(s != t, m * n, scale)
     } else {
         Computed::Overflow
