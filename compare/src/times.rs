@@ -1,11 +1,12 @@
 //! Times of the proved leaves as ratios to the second program's, in one run: below 1 the proved code is faster.
 
-use crate::proved::{self, Number};
+use crate::proved::{self, Computed, Number};
+use second::decimal::{self, Fault};
 use second::dictionary::{Dictionary, Relation};
 use second::generate::rng::Rng;
 use second::generate::{assemble, dictionaries};
 use second::reader::{self, TABLE_LENGTHS};
-use second::{decimal, text, wire};
+use second::{text, wire};
 use std::hint::black_box;
 use std::time::Instant;
 
@@ -41,9 +42,59 @@ fn texts(rng: &mut Rng, length: usize) -> Vec<Vec<u8>> {
     (0..256).map(|_| (0..length).map(|_| rng.pick(b"abcAB ")).collect()).collect()
 }
 
+/// The second program's result by the number of the operation, as the exports take it.
+fn operate(operation: u8, a: Number, b: Number) -> Result<(i64, i8), Fault> {
+    match operation {
+        proved::ADD => decimal::add(a.value, a.scale, b.value, b.scale),
+        proved::SUBTRACT => decimal::subtract(a.value, a.scale, b.value, b.scale),
+        proved::MULTIPLY => decimal::multiply(a.value, a.scale, b.value, b.scale),
+        proved::DIVIDE => decimal::divide(a.value, a.scale, b.value, b.scale),
+        proved::NEGATE => decimal::negate(a.value).map(|value| (value, a.scale)),
+        _ => {
+            let least = a.scale.min(b.scale);
+            decimal::rescale(a.value, a.scale, least).map(|value| (value, least))
+        }
+    }
+}
+
+/// The second program behind the same three functions as the exports, so that both pay for the same calls: the refusal,
+/// the value and the scale, each by the number of the operation.
+#[inline(never)]
+fn refusal(operation: u8, a: i64, a_scale: i8, b: i64, b_scale: i8) -> u32 {
+    let (a, b) = (Number { value: a, scale: a_scale }, Number { value: b, scale: b_scale });
+    match operate(operation, a, b) {
+        Ok(_) => 0,
+        Err(Fault::Overflow) => 24,
+        Err(Fault::ZeroDivisor) => 25,
+    }
+}
+
+#[inline(never)]
+fn value(operation: u8, a: i64, a_scale: i8, b: i64, b_scale: i8) -> i64 {
+    let (a, b) = (Number { value: a, scale: a_scale }, Number { value: b, scale: b_scale });
+    operate(operation, a, b).map_or(0, |(value, _)| value)
+}
+
+#[inline(never)]
+fn scale(operation: u8, a: i64, a_scale: i8, b: i64, b_scale: i8) -> i8 {
+    let (a, b) = (Number { value: a, scale: a_scale }, Number { value: b, scale: b_scale });
+    operate(operation, a, b).map_or(0, |(_, scale)| scale)
+}
+
+fn compute(operation: u8, a: Number, b: Number) -> Computed {
+    let refused = refusal(operation, a.value, a.scale, b.value, b.scale);
+    if refused != 0 {
+        return Computed::Refused(refused);
+    }
+    Computed::Value(Number {
+        value: value(operation, a.value, a.scale, b.value, b.scale),
+        scale: scale(operation, a.value, a.scale, b.value, b.scale),
+    })
+}
+
 fn decimals(rng: &mut Rng) {
     let pairs = numbers(rng);
-    type Plain = fn(i64, i8, i64, i8) -> Result<(i64, i8), decimal::Fault>;
+    type Plain = fn(i64, i8, i64, i8) -> Result<(i64, i8), Fault>;
     let operations: [(&str, u8, Plain); 4] = [
         ("add", proved::ADD, decimal::add),
         ("subtract", proved::SUBTRACT, decimal::subtract),
@@ -65,6 +116,18 @@ fn decimals(rng: &mut Rng) {
                     black_box(plain(a.value, a.scale, b.value, b.scale).ok());
                     black_box(plain(a.value, a.scale, b.value, b.scale).ok());
                 }
+            },
+        );
+        line(
+            &format!("{name}, same calls"),
+            200_000,
+            |i| {
+                let (a, b) = pairs[i % 1024];
+                black_box(proved::compute(operation, a, b));
+            },
+            |i| {
+                let (a, b) = pairs[i % 1024];
+                black_box(compute(operation, a, b));
             },
         );
     }

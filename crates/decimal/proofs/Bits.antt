@@ -11,7 +11,7 @@ use lib.Signed.{mag, ltZ}
 use mir.Syntax.{Width, w64}
 use mir.Val.{SFits, toZ, ofZ, hbits}
 use mir.Facts.{toZ-pos, toZ-neg, toZ-ofZ}
-use Rattle.decimal.specs.Signs.{isNegative}
+use Rattle.decimal.specs.Signs.{isNegative, complementOf}
 
 pub clash : {X : Type 0} → false ≡ true → X
 clash e = absurd (subst (λ (b : Bool). T (not b)) e tt)
@@ -39,13 +39,20 @@ ltZ-zero (negsuc n) = refl
 pub negative-test : {x : ℤ} → SFits w64 x → ltZ (toZ w64 (ofZ w64 x)) (pos 0) ≡ isNegative x
 negative-test {x} f = ap (λ (z : ℤ). ltZ z (pos 0)) (toZ-ofZ f) ∙ ltZ-zero x
 
--- `!x` of a negative x
-pub complement : (x : ℤ) → SFits w64 x → isNegative x ≡ true → toZ w64 (18446744073709551615 - ofZ w64 x) ≡ pos (mag x)
-complement (pos n) f t = clash t
-complement (negsuc n) f t =
+-- `!x`
+pub complement-of : (x : ℤ) → SFits w64 x → toZ w64 (18446744073709551615 - ofZ w64 x) ≡ complementOf x
+complement-of (pos n) f =
+    let h : n < 9223372036854775808 = f .sfits in
+    let e : 18446744073709551615 - n ≡ 18446744073709551616 - suc n = omega arith in
+    ap (toZ w64) e ∙ toZ-neg w64 n h
+complement-of (negsuc n) f =
     let h : n < 9223372036854775808 = f .sfits in
     let e : 18446744073709551615 - (18446744073709551616 - suc n) ≡ n = omega arith in
     ap (toZ w64) e ∙ toZ-pos w64 h
+
+pub complement : (x : ℤ) → SFits w64 x → isNegative x ≡ true → toZ w64 (18446744073709551615 - ofZ w64 x) ≡ pos (mag x)
+complement (pos n) f t = clash t
+complement (negsuc n) f t = complement-of (negsuc n) f
 
 pub mag-suc : (x : ℤ) → isNegative x ≡ true → mag x + 1 ≡ natAbs x
 mag-suc (pos n) t = clash t

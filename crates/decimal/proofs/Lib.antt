@@ -5,5 +5,6 @@ pub mod Fitted
 pub mod Signed
 pub mod Scales
 pub mod Quotient
+pub mod Ranges
 pub mod Differences
 pub mod Ordered

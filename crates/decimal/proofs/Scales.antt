@@ -44,17 +44,18 @@ places-found z h e = e ∙ ap places (read-back w8 z h)
 pub scale-found : {z : ℤ} (k : ℕ) {n : ℕ} → mag z < 2 ^ 7 → z ≡ scaleOf k → k ≡ n → toZ w8 (ofZ w8 z) ≡ scaleOf n
 scale-found {z} k h e f = read-back w8 z h ∙ e ∙ ap scaleOf f
 
--- the difference of two scales
-mag-subℕ : (a b n : ℕ) → a < n → b < n → mag (subℕ a b) < n
+-- the difference of two magnitudes in range
+pub mag-subℕ : (a b n : ℕ) → a < n → b ≤ n → mag (subℕ a b) < n
 mag-subℕ a b n h k = go (decLt a b)
   where
     go : Dec (a < b) → mag (subℕ a b) < n
     go (yes l) = rw (lt-ltb a b l) (omega arith)
     go (no l) = let m : b ≤ a = omega arith in rw (le-ltb a b m) (omega arith)
 
+-- the difference of two scales
 mag-mixed : (a b n : ℕ) → a < n → b < n → mag (negℤ (pos a) +ℤ pos b) < n
 mag-mixed zero b n h k = omega arith
-mag-mixed (suc a) b n h k = mag-subℕ b (suc a) n k h
+mag-mixed (suc a) b n h k = let l : suc a ≤ n = omega arith in mag-subℕ b (suc a) n k l
 
 mag-difference : (a b n : ℕ) → a < n → b < n → mag (scaleOf a -ℤ scaleOf b) < n
 mag-difference a b n h k = rw (negℤ-negℤ (pos b)) (mag-mixed a b n h k)

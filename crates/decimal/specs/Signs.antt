@@ -8,6 +8,20 @@ unfoldable pub signed : Bool → ℕ → ℤ
 signed true m = negℤ (pos m)
 signed false m = pos m
 
+-- the largest magnitude of a signed 64-bit value with that sign
+abbrev pub limitOf : Bool → ℕ
+limitOf true = 9223372036854775808
+limitOf false = 9223372036854775807
+
 abbrev pub isNegative : ℤ → Bool
 isNegative (pos n) = false
 isNegative (negsuc n) = true
+
+-- -z - 1, which has the bits of z inverted
+abbrev pub complementOf : ℤ → ℤ
+complementOf (pos n) = negsuc n
+complementOf (negsuc n) = pos n
+
+abbrev pub complementIf : Bool → ℤ → ℤ
+complementIf true z = complementOf z
+complementIf false z = z

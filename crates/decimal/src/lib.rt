@@ -34,13 +34,17 @@ pub fn rescale(a: Number, scale: i8) -> Computed
 pub fn add(a: Number, b: Number) -> Computed
     ensures { λ r. ⌜ r ≡ added a b ⌝ }
 {
-    sums::sum_or_difference(a, b, false)
+    let x = a.value;
+    let y = b.value;
+    sums::sum_or_difference(x, places::places_in(a), y, places::places_in(b), false)
 }
 
 pub fn subtract(a: Number, b: Number) -> Computed
     ensures { λ r. ⌜ r ≡ subtracted a b ⌝ }
 {
-    sums::sum_or_difference(a, b, true)
+    let x = a.value;
+    let y = b.value;
+    sums::sum_or_difference(x, places::places_in(a), y, places::places_in(b), true)
 }
 
 pub fn multiply(a: Number, b: Number) -> Computed

@@ -1,6 +1,6 @@
 // Scales and decimal places.
 ghost use mathlib.Core.Path.{_≡_};
-ghost use Prim.Native.Nat.{_≤_, max};
+ghost use Prim.Native.Nat.{_+_, _-_, _≤_, max};
 ghost use Rattle.decimal.specs.Number.{places, scaleOf};
 use super::Number;
 
@@ -37,4 +37,11 @@ pub(crate) fn larger(a: usize, b: usize) -> usize
     ensures { λ r. ⌜ r ≡ max a b ⌝ }
 {
     if a <= b { b } else { a }
+}
+
+pub(crate) fn apart(a: usize, b: usize) -> usize
+    requires { ⌜ (a ≤ 18) × (b ≤ 18) ⌝ }
+    ensures { λ r. ⌜ r ≡ (a - b) + (b - a) ⌝ }
+{
+    if a < b { b - a } else { a - b }
 }

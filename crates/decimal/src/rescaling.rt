@@ -13,11 +13,14 @@ use super::sign::is_negative;
 use super::sign::magnitude;
 use super::values::product;
 
-// The value times a power of ten.
-fn raise(x: i64, k: usize, scale: i8) -> Computed
+// The value times a power of ten. By no places it is the value, and the table of powers is not read.
+pub(crate) fn raise(x: i64, k: usize, scale: i8) -> Computed
     requires { ⌜ k ≤ 18 ⌝ }
     ensures { λ r. ⌜ r ≡ fitted (x *ℤ pos (10 ^ k)) scale ⌝ }
 {
+    if k == 0 {
+        return Computed::Value(Number { value: x, scale });
+    }
     product(is_negative(x), magnitude(x), false, power(k), scale)
 }
 

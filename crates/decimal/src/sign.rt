@@ -1,8 +1,9 @@
 // A signed 64-bit value by its sign and its magnitude.
 ghost use mathlib.Core.Path.{_≡_};
+ghost use Prim.Native.Nat.{_≤_};
 ghost use lib.IntN.{natAbs};
 ghost use Rattle.decimal.specs.Number.{fitted};
-ghost use Rattle.decimal.specs.Signs.{isNegative, signed};
+ghost use Rattle.decimal.specs.Signs.{isNegative, signed, limitOf};
 use super::Computed;
 use super::Number;
 
@@ -19,24 +20,36 @@ pub(crate) fn magnitude(x: i64) -> u64
     if x < 0 { (!x) as u64 + 1 } else { x as u64 }
 }
 
+// The largest magnitude of a sign.
+fn limit(negative: bool) -> u64
+    ensures { λ r. ⌜ r ≡ limitOf negative ⌝ }
+{
+    if negative {
+        9223372036854775808
+    } else {
+        9223372036854775807
+    }
+}
+
+// `!(m - 1)` is -m.
+fn value_of(negative: bool, m: u64) -> i64
+    requires { ⌜ m ≤ limitOf negative ⌝ }
+    ensures { λ r. ⌜ r ≡ signed negative m ⌝ }
+{
+    if negative {
+        if m == 0 { 0 } else { !((m - 1) as i64) }
+    } else {
+        m as i64
+    }
+}
+
 // The number of a sign, a magnitude and a scale, where it fits.
 pub(crate) fn make(negative: bool, m: u64, scale: i8) -> Computed
     ensures { λ r. ⌜ r ≡ fitted (signed negative m) scale ⌝ }
 {
-    if negative {
-        if m == 0 {
-            Computed::Value(Number { value: 0, scale })
-        } else if m <= 9223372036854775808 {
-            Computed::Value(Number {
-                value: !((m - 1) as i64),
-                scale,
-            })
-        } else {
-            Computed::Overflow
-        }
-    } else if m < 9223372036854775808 {
+    if m <= limit(negative) {
         Computed::Value(Number {
-            value: m as i64,
+            value: value_of(negative, m),
             scale,
         })
     } else {

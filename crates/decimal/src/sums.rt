@@ -1,52 +1,48 @@
 // Sums and differences of numbers.
 ghost use mathlib.Core.Path.{_≡_};
-ghost use Rattle.decimal.specs.Number.{fitted};
-ghost use Rattle.decimal.specs.Sums.{negatedIf, combined, sumOrDifference};
-ghost use lib.IntN.{_+ℤ_};
+ghost use mathlib.Core.Bool.{cond};
+ghost use Prim.Native.Nat.{_≤_};
+ghost use Rattle.decimal.specs.Sums.{sumAt, sumBeside, sumJoined};
 use super::Computed;
 use super::Number;
+use super::places::apart;
 use super::places::larger;
-use super::places::places_in;
 use super::places::scale_of;
-use super::rescaling::at_places;
-use super::sign::is_negative;
-use super::sign::magnitude;
+use super::rescaling::raise;
 use super::values::sum;
 
-// The sum of two values, or their difference.
-fn sum_of(a: Number, b: Number, minus: bool, scale: i8) -> Computed
-    ensures { λ r. ⌜ r ≡ fitted (a .value +ℤ negatedIf minus (b .value)) scale ⌝ }
+fn chosen(first: bool, x: i64, y: i64) -> i64
+    ensures { λ r. ⌜ r ≡ cond first x y ⌝ }
 {
-    let x = a.value;
-    let y = b.value;
-    sum(
-        is_negative(x),
-        magnitude(x),
-        is_negative(y) != minus,
-        magnitude(y),
-        scale,
-    )
+    if first { x } else { y }
 }
 
-// The same of two operands, each of which may be overflow.
-fn combine(a: Computed, b: Computed, minus: bool, scale: i8) -> Computed
-    ensures { λ r. ⌜ r ≡ combined minus scale a b ⌝ }
+// The sum or the difference with the raised operand in the place of its own value.
+fn beside(n: Number, first: bool, x: i64, y: i64, minus: bool, scale: i8) -> Computed
+    ensures { λ r. ⌜ r ≡ sumBeside first x y minus scale n ⌝ }
+{
+    let z = n.value;
+    sum(chosen(first, z, x), chosen(first, y, z), minus, scale)
+}
+
+// The same, where the raised operand may be overflow.
+fn joined(a: Computed, first: bool, x: i64, y: i64, minus: bool, scale: i8) -> Computed
+    ensures { λ r. ⌜ r ≡ sumJoined first x y minus scale a ⌝ }
 {
     match a {
-        Computed::Value(x) => match b {
-            Computed::Value(y) => sum_of(x, y, minus, scale),
-            Computed::Overflow => Computed::Overflow,
-            Computed::ZeroDivisor => Computed::ZeroDivisor,
-        },
+        Computed::Value(n) => beside(n, first, x, y, minus, scale),
         Computed::Overflow => Computed::Overflow,
         Computed::ZeroDivisor => Computed::ZeroDivisor,
     }
 }
 
-// The sum of two numbers, or their difference, at their common places.
-pub(crate) fn sum_or_difference(a: Number, b: Number, minus: bool) -> Computed
-    ensures { λ r. ⌜ r ≡ sumOrDifference minus a b ⌝ }
+// The sum of two values with p and q places, or their difference, at the larger count. The one with fewer places is raised.
+pub(crate) fn sum_or_difference(x: i64, p: usize, y: i64, q: usize, minus: bool) -> Computed
+    requires { ⌜ (p ≤ 18) × (q ≤ 18) ⌝ }
+    ensures { λ r. ⌜ r ≡ sumAt minus x p y q ⌝ }
 {
-    let k = larger(places_in(a), places_in(b));
-    combine(at_places(a, k), at_places(b, k), minus, scale_of(k))
+    let first = p < q;
+    let scale = scale_of(larger(p, q));
+    let a = raise(chosen(first, x, y), apart(p, q), scale);
+    joined(a, first, x, y, minus, scale)
 }

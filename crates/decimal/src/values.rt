@@ -1,26 +1,54 @@
 // Sum, product, quotient and opposite of values, each given a scale.
 ghost use mathlib.Core.Path.{_≡_};
+ghost use Prim.Native.Nat.{_*_, _^_};
+ghost use lib.Dec.{ltb};
 ghost use lib.IntN.{negℤ, _+ℤ_, _*ℤ_};
-ghost use Rattle.decimal.specs.Number.{fitted, divided};
-ghost use Rattle.decimal.specs.Signs.{signed};
+ghost use Rattle.decimal.specs.Number.{fits, fitted, divided};
+ghost use Rattle.decimal.specs.Signs.{signed, complementIf};
+ghost use Rattle.decimal.specs.Sums.{negatedIf};
 use super::Computed;
 use super::Number;
 use super::sign::make;
 
-// The sum of two values by their signs and magnitudes.
-pub(crate) fn sum(s: bool, m: u64, t: bool, n: u64, scale: i8) -> Computed
-    ensures { λ r. ⌜ r ≡ fitted (signed s m +ℤ signed t n) scale ⌝ }
+// Whether the sum fits. With y below 0 the complements are tested: !y is not below 0.
+fn sum_fits(x: i64, y: i64) -> bool
+    ensures { λ r. ⌜ r ≡ fits (x +ℤ y) ⌝ }
 {
-    if s == t {
-        if n <= 18446744073709551615 - m {
-            make(s, m + n, scale)
-        } else {
-            Computed::Overflow
-        }
-    } else if n <= m {
-        make(s, m - n, scale)
+    if y < 0 {
+        !x < 9223372036854775807 - !y
     } else {
-        make(t, n - m, scale)
+        x <= 9223372036854775807 - y
+    }
+}
+
+fn complement_if(minus: bool, x: i64) -> i64
+    ensures { λ r. ⌜ r ≡ complementIf minus x ⌝ }
+{
+    if minus { !x } else { x }
+}
+
+// The sum of two values, or their difference: x - y is !(!x + y).
+pub(crate) fn sum(x: i64, y: i64, minus: bool, scale: i8) -> Computed
+    ensures { λ r. ⌜ r ≡ fitted (x +ℤ negatedIf minus y) scale ⌝ }
+{
+    let z = complement_if(minus, x);
+    if sum_fits(z, y) {
+        Computed::Value(Number {
+            value: complement_if(minus, z + y),
+            scale,
+        })
+    } else {
+        Computed::Overflow
+    }
+}
+
+fn product_fits(m: u64, n: u64) -> bool
+    ensures { λ r. ⌜ r ≡ ltb (m * n) (2 ^ 64) ⌝ }
+{
+    if m == 0 {
+        true
+    } else {
+        n <= 18446744073709551615 / m
     }
 }
 
@@ -28,10 +56,7 @@ pub(crate) fn sum(s: bool, m: u64, t: bool, n: u64, scale: i8) -> Computed
 pub(crate) fn product(s: bool, m: u64, t: bool, n: u64, scale: i8) -> Computed
     ensures { λ r. ⌜ r ≡ fitted (signed s m *ℤ signed t n) scale ⌝ }
 {
-    if m == 0 {
-        return Computed::Value(Number { value: 0, scale });
-    }
-    if n <= 18446744073709551615 / m {
+    if product_fits(m, n) {
         make(s != t, m * n, scale)
     } else {
         Computed::Overflow

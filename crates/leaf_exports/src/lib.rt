@@ -29,17 +29,25 @@ fn operator_of(o: u8) -> Operator
 }
 
 // Add, subtract, multiply and divide are 0 to 3; 4 is negate; any other brings the first to the scale of the second.
-fn operate(o: u8, a: Number, b: Number) -> Computed
-    ensures { λ r. ⌜ r ≡ operation o a b ⌝ }
+// The numbers come by their parts, as the exports have them: a struct would go through memory.
+fn operate(o: u8, a: i64, a_scale: i8, b: i64, b_scale: i8) -> Computed
+    ensures { λ r. ⌜ r ≡ operation o (record { value = a; scale = «a_scale» }) (record { value = b; scale = «b_scale» }) ⌝ }
 {
+    let first = Number {
+        value: a,
+        scale: a_scale,
+    };
+    let second = Number {
+        value: b,
+        scale: b_scale,
+    };
     if o < 4 {
-        return decimal::compute(operator_of(o), a, b);
+        return decimal::compute(operator_of(o), first, second);
     }
     if o == 4 {
-        return decimal::negate(a);
+        return decimal::negate(first);
     }
-    let scale = b.scale;
-    decimal::rescale(a, scale)
+    decimal::rescale(first, b_scale)
 }
 
 // The value of a result, 0 where there is none.
@@ -47,17 +55,7 @@ fn operate(o: u8, a: Number, b: Number) -> Computed
 pub extern "C" fn leaf_value(o: u8, a: i64, a_scale: i8, b: i64, b_scale: i8) -> i64
     ensures { λ r. ⌜ r ≡ valueOf (operation o (record { value = a; scale = «a_scale» }) (record { value = b; scale = «b_scale» })) ⌝ }
 {
-    let c = operate(
-        o,
-        Number {
-            value: a,
-            scale: a_scale,
-        },
-        Number {
-            value: b,
-            scale: b_scale,
-        },
-    );
+    let c = operate(o, a, a_scale, b, b_scale);
     match c {
         Computed::Value(n) => n.value,
         Computed::Overflow => 0,
@@ -70,17 +68,7 @@ pub extern "C" fn leaf_value(o: u8, a: i64, a_scale: i8, b: i64, b_scale: i8) ->
 pub extern "C" fn leaf_scale(o: u8, a: i64, a_scale: i8, b: i64, b_scale: i8) -> i8
     ensures { λ r. ⌜ r ≡ scaleOf (operation o (record { value = a; scale = «a_scale» }) (record { value = b; scale = «b_scale» })) ⌝ }
 {
-    let c = operate(
-        o,
-        Number {
-            value: a,
-            scale: a_scale,
-        },
-        Number {
-            value: b,
-            scale: b_scale,
-        },
-    );
+    let c = operate(o, a, a_scale, b, b_scale);
     match c {
         Computed::Value(n) => n.scale,
         Computed::Overflow => 0,
@@ -93,17 +81,7 @@ pub extern "C" fn leaf_scale(o: u8, a: i64, a_scale: i8, b: i64, b_scale: i8) ->
 pub extern "C" fn leaf_refusal(o: u8, a: i64, a_scale: i8, b: i64, b_scale: i8) -> u32
     ensures { λ r. ⌜ r ≡ refusalOf (operation o (record { value = a; scale = «a_scale» }) (record { value = b; scale = «b_scale» })) ⌝ }
 {
-    let c = operate(
-        o,
-        Number {
-            value: a,
-            scale: a_scale,
-        },
-        Number {
-            value: b,
-            scale: b_scale,
-        },
-    );
+    let c = operate(o, a, a_scale, b, b_scale);
     match c {
         Computed::Value(n) => 0,
         Computed::Overflow => 24,

@@ -1,81 +1,62 @@
--- `decimal::values::sum` meets its contract. By the signs, then the larger magnitude. Assumes nothing.
-use Prim.Native.Nat.{_+_, _^_, _≤_}
-use mathlib.Core.Path.{sym, ap₂, _∙_}
-use native.Mathlib.Omega.{arith}
+-- `decimal::values::sum` meets its contract. By complements, where the sum is to be a difference. Assumes nothing.
+use mathlib.Core.Path.{_≡_, sym, ap, _∙_}
 use borrow.Author.Needs.{needs}
+use borrow.Author.Tests.{ltb-true, ltb-false}
+use mir.Syntax.{w64}
+use mir.Val.{toZ, ofZ}
 use mir.Facts.{toZ-ofZ}
-use Rattle.decimal.specs.Number.{fitted}
-use Rattle.decimal.proofs.Fitted.{fits-out}
-use Rattle.decimal.proofs.Signed.{sum-same, sum-less, sum-more, past}
+use Rattle.decimal.specs.Signs.{complementIf}
+use Rattle.decimal.proofs.Bits.{read-back}
+use Rattle.decimal.proofs.Fitted.{made, fits-out}
+use Rattle.decimal.proofs.Ranges.{sum-is, sum-mag}
 use Rattle.decimal.proofs.values.sum.Statement.{statement}
 use Rattle.decimal.proofs.values.sum.Tie as tie
 
-sub-if2 : tie.Need-sub-if2
-sub-if2 c = search needs
+complement-if-requires : tie.Need-complement-if-requires
+complement-if-requires c κs = search needs
 
-add-make : tie.Need-add-make
-add-make c = search needs
+sum-fits-requires : tie.Need-sum-fits-requires
+sum-fits-requires c κs = search needs
 
-make-requires : tie.Need-make-requires
-make-requires c κs = search needs
+-- the first value as the sum takes it
+first : (c : tie.After-complement-if)
+    → toZ w64 (ofZ w64 (c .complement-if .result)) ≡ complementIf (c .before .args .minus) (c .before .args .x)
+first c =
+    read-back w64 (c .complement-if .result) (c .complement-if .ok) ∙ c .complement-if .ensures
+    ∙ ap (complementIf (c .before .args .minus)) (toZ-ofZ (c .before .fits .x))
 
-make-requires-2 : tie.Need-make-requires-2
-make-requires-2 c κs = search needs
+add-complement-if : tie.Need-add-complement-if
+add-complement-if c = record { sfits = ltb-true _ _ (sym (c .before .sum-fits .ensures) ∙ c .if1 .taken) }
 
-sub-make : tie.Need-sub-make
-sub-make c = search needs
-
-make-requires-3 : tie.Need-make-requires-3
-make-requires-3 c κs = search needs
+complement-if-requires-2 : tie.Need-complement-if-requires-2
+complement-if-requires-2 c κs = search needs
 
 returns : tie.Need-returns
 returns c =
-    let make′ = c .make in
-    let args′ = c .before .before .before .args in
-    let if1′ = c .before .before .if1 in
-    let fits′ = c .before .before .before .fits in
-    let z = sum-same (args′ .s) (args′ .t) (args′ .m) (args′ .n) (if1′ .taken) in
-    make′ .ensures ∙ ap₂ fitted (sym z) (toZ-ofZ (fits′ .scale))
+    let s = c .before .before .before in
+    let args′ = s .before .args in
+    let fits′ = s .before .fits in
+    let sum′ = add-complement-if (c .before) in
+    let y = toZ-ofZ (fits′ .y) in
+    let value = read-back w64 _ (c .complement-if2 .ok) ∙ c .complement-if2 .ensures ∙ ap (complementIf (args′ .minus)) (toZ-ofZ sum′)
+    ∙ sum-is (args′ .minus) (args′ .x) (args′ .y) (first s) y in
+    made value (toZ-ofZ (fits′ .scale)) (rw (sum-mag (args′ .minus) (args′ .x) (args′ .y) (first s) y) (sum′ .sfits))
 
 returns-2 : tie.Need-returns-2
 returns-2 c =
-    let args′ = c .before .before .args in
-    let if1′ = c .before .if1 in
-    let h : 2 ^ 64 ≤ args′ .m + args′ .n = omega arith in
-    let z = sum-same (args′ .s) (args′ .t) (args′ .m) (args′ .n) (if1′ .taken) in
-    rw z (fits-out _ _ (past (args′ .s) (args′ .m + args′ .n) h))
-
-returns-3 : tie.Need-returns-3
-returns-3 c =
-    let make2′ = c .make2 in
-    let args′ = c .before .before .before .args in
-    let if1′ = c .before .before .if1 in
-    let if3′ = c .before .if3 in
-    let fits′ = c .before .before .before .fits in
-    let z = sum-less (args′ .s) (args′ .t) (args′ .m) (args′ .n) (if1′ .left) (if3′ .taken) in
-    make2′ .ensures ∙ ap₂ fitted (sym z) (toZ-ofZ (fits′ .scale))
-
-returns-4 : tie.Need-returns-4
-returns-4 c =
-    let make3′ = c .make3 in
-    let args′ = c .before .before .before .args in
-    let if1′ = c .before .before .if1 in
-    let if3′ = c .before .if3 in
-    let fits′ = c .before .before .before .fits in
-    let z = sum-more (args′ .s) (args′ .t) (args′ .m) (args′ .n) (if1′ .left) (if3′ .left) in
-    make3′ .ensures ∙ ap₂ fitted (sym z) (toZ-ofZ (fits′ .scale))
+    let s = c .before .before in
+    let args′ = s .before .args in
+    let fits′ = s .before .fits in
+    let h = ltb-false _ _ (sym (c .before .sum-fits .ensures) ∙ c .if1 .left) in
+    fits-out _ _ (rw (sum-mag (args′ .minus) (args′ .x) (args′ .y) (first s) (toZ-ofZ (fits′ .y))) h)
 
 pub sum-spec : {M : Type 1} → statement M
 sum-spec =
     tie.close
     (tie.spec
-    sub-if2
-    add-make
-    make-requires
-    make-requires-2
-    sub-make
-    make-requires-3
+    complement-if-requires
+    sum-fits-requires
+    add-complement-if
+    complement-if-requires-2
     returns
-    returns-2
-    returns-3
-    returns-4)
+    returns-2)
