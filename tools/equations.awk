@@ -1,4 +1,5 @@
-# Turns cases of the second program, one a line, into equations of the definitions: files of fifty below `dir`, and the root that names them.
+# Turns cases of the second program, one a line, into equations of the definitions, each in the next of so many `crates`, in files of fifty. `dir` is the
+# path of the crates without their number.
 
 # a byte string of hex digits, with runs written (bb*count), as a list
 function list(h,    s, close_, run, k) {
@@ -38,25 +39,29 @@ function answer(t,    a, p) {
     return "rows " numbers(p[2]) " " numbers(p[3]) " " numbers(p[4])
 }
 
-function open_file() {
-    files++
-    file = dir "/Batch" files ".antt"
-    print "pub mod Batch" files > (dir "/Lib.antt")
-    print "use Prim.Native.Nat.{ℕ}" > file
-    print "use mathlib.Core.Path.{_≡_, refl}" > file
-    print "use mathlib.Core.List.{List, [], _∷_, _++_}" > file
-    print "use lib.ListN.{replicate}" > file
-    print "use Rattle.examples.proofs.Answers.{Answer, rows, isTrue, isFalse, isMissing, refusal, readAnswer, evaluateAnswer}" > file
+# the next file of a crate
+function open_file(crate,    proofs, name) {
+    proofs = dir crate "/proofs"
+    name = "Batch" (++files[crate])
+    if (crate in file) close(file[crate])
+    file[crate] = proofs "/" name ".antt"
+    print "pub mod " name >> (proofs "/Lib.antt")
+    print "use Prim.Native.Nat.{ℕ}" > file[crate]
+    print "use mathlib.Core.Path.{_≡_, refl}" > file[crate]
+    print "use mathlib.Core.List.{List, [], _∷_, _++_}" > file[crate]
+    print "use lib.ListN.{replicate}" > file[crate]
+    print "use Rattle.examples.proofs.Answers.{Answer, rows, isTrue, isFalse, isMissing, refusal, readAnswer, evaluateAnswer}" > file[crate]
 }
 
 {
-    if ((NR - 1) % 50 == 0) open_file()
+    crate = (NR - 1) % crates + 1
+    if (cases[crate]++ % 50 == 0) open_file(crate)
     k = index($0, " = ")
     right = substr($0, k + 3)
     if ($1 == "read") left = "readAnswer " list($3) " " list($2) " " $4 " " $5 " " $6
     else left = "evaluateAnswer " list($3) " " list($2) " " $4 " " list($5) " " list($6)
-    print "" > file
-    print "case" NR " : " left " ≡ " answer(right) > file
-    print "unfolding readAnswer evaluateAnswer" > file
-    print "case" NR " = refl" > file
+    print "" > file[crate]
+    print "case" NR " : " left " ≡ " answer(right) > file[crate]
+    print "unfolding readAnswer evaluateAnswer" > file[crate]
+    print "case" NR " = refl" > file[crate]
 }

@@ -3,7 +3,7 @@
 use second::cases;
 use second::count::Tally;
 use second::evaluator::evaluate;
-use second::generate::{self, inputs::inputs, Size};
+use second::generate::{self, conditions, inputs::inputs, readings, Case, Size};
 use second::hex;
 use second::listing::listing;
 use std::fs;
@@ -14,8 +14,8 @@ use std::process::ExitCode;
 const USAGE: &str = "usage:
   second listing < INPUT
   second evaluate DICTIONARYHEX REQUESTHEX CONDITION MESSAGESHEX RECORDSHEX
-  second cases small|mixed SEED COUNT
-  second count small|mixed SEED COUNT
+  second cases small|mixed|readings|conditions SEED COUNT
+  second count small|mixed|readings|conditions SEED COUNT
   second inputs SEED COUNT FOLDER
 ";
 
@@ -66,10 +66,14 @@ fn evaluate_hex(strings: [&str; 4], condition: &str) -> Option<io::Result<()>> {
     Some(writeln!(io::stdout(), "{outcome}"))
 }
 
-/// The size, seed and count of a run; nothing if an argument cannot be read.
-fn run(size: &str, seed: &str, count: &str) -> Option<impl Iterator<Item = generate::Case>> {
-    let size = Size::named(size)?;
-    Some(generate::cases(size, seed.parse().ok()?, count.parse().ok()?))
+/// The cases of a size, readings, or conditions, of a seed; nothing if an argument cannot be read.
+fn run(kind: &str, seed: &str, count: &str) -> Option<Box<dyn Iterator<Item = Case>>> {
+    let (seed, count) = (seed.parse().ok()?, count.parse().ok()?);
+    Some(match kind {
+        "readings" => Box::new(readings::cases(seed, count)),
+        "conditions" => Box::new(conditions::cases(seed, count)),
+        size => Box::new(generate::cases(Size::named(size)?, seed, count)),
+    })
 }
 
 fn print_cases(size: &str, seed: &str, count: &str) -> Option<io::Result<()>> {

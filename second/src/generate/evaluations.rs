@@ -24,7 +24,7 @@ use crate::wire::{
 pub type Outcome = Result<Answer, u32>;
 
 /// The outcome of an evaluation.
-fn outcome(case: &Case) -> Option<Outcome> {
+pub fn outcome(case: &Case) -> Option<Outcome> {
     match case {
         Case::Evaluate { dictionary, request, condition, messages, records } => {
             let result = evaluate(request, dictionary, *condition, messages, records);
@@ -134,26 +134,40 @@ fn malformed_text(rng: &mut Rng) -> Case {
     with_data(rng, &house(), assemble::request(&[&messages, &condition(&test)]), 2)
 }
 
-/// 20: a condition number that is not there.
+/// 20: a condition number that is not there; messages and records may be wrong too.
 fn no_boolean(rng: &mut Rng, size: Size, turn: usize) -> Case {
     let mut case = proper(rng, size, focus(turn), 12);
-    if let Case::Evaluate { condition, .. } = &mut case {
+    if let Case::Evaluate { condition, messages, records, .. } = &mut case {
         *condition += rng.pick(&[1, 2, 9, 513]);
+        if rng.one_in(2) {
+            damage_length(rng, messages);
+        }
+        if rng.one_in(2) {
+            damage_length(rng, records);
+        }
     }
     case
 }
 
-/// 21: messages of another length.
+/// 21: messages of another length; records may be wrong too.
 fn wrong_messages(rng: &mut Rng, size: Size, turn: usize) -> Case {
     let mut case = proper(rng, size, focus(turn), 12);
-    if let Case::Evaluate { messages, .. } = &mut case {
-        match rng.below(3) {
-            0 => messages.push(0),
-            1 => messages.extend([0; 5]),
-            _ => drop(messages.pop()),
+    if let Case::Evaluate { messages, records, .. } = &mut case {
+        damage_length(rng, messages);
+        if rng.one_in(2) {
+            damage_length(rng, records);
         }
     }
     case
+}
+
+/// Some bytes more, or one less.
+fn damage_length(rng: &mut Rng, bytes: &mut Vec<u8>) {
+    match rng.below(3) {
+        0 => bytes.push(0),
+        1 => bytes.extend([0; 5]),
+        _ => drop(bytes.pop()),
+    }
 }
 
 /// 22: the record entry of 4,097 bytes, and that of 4,096 beside it.

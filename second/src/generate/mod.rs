@@ -10,6 +10,8 @@ pub mod assemble;
 pub mod boundaries;
 /// The constructive generator of requests: its state, messages and focus.
 pub mod builder;
+/// Evaluations of small conditions.
+pub mod conditions;
 /// Damaged requests.
 pub mod damage;
 /// Numbers, texts, dates, message images and records.
@@ -22,6 +24,8 @@ pub mod draft;
 pub mod evaluations;
 /// Inputs of the listing program.
 pub mod inputs;
+/// Small readings, and evaluations refused before their condition.
+pub mod readings;
 /// The generator of pseudo-random numbers.
 pub mod rng;
 /// Statements and record selection expressions of generated requests.

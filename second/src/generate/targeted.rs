@@ -16,14 +16,17 @@ use crate::reader::parsed::Role;
 use crate::wire::{
     ADD, ASCENDING, BEGIN, BETWEEN, BOOLEAN, CONTAINING, DATE, DIVIDE, END, EQL, ERASE, FOR, GEQ,
     LABEL, LEAVE, LEFT_OUT_BOOLEANS, LEFT_OUT_CLAUSES, LEFT_OUT_DESCRIPTORS, LEFT_OUT_LITERALS,
-    LEFT_OUT_STATEMENTS, LEFT_OUT_STREAMS, LEFT_OUT_VALUES, LOOP, MATCHING, MODIFY, MULTIPLY,
-    NEGATE, PARAMETER2, RECEIVE, RELATION, SELECT, SEND, SHORT, SORT, STARTING, STORE, TEXT,
-    VERSION4,
+    LEFT_OUT_STATEMENTS, LEFT_OUT_STREAMS, LEFT_OUT_VALUES, LITERAL, LOOP, MATCHING, MODIFY,
+    MULTIPLY, NEGATE, PARAMETER2, RECEIVE, RELATION, RSE, SELECT, SEND, SHORT, SORT, STARTING,
+    STORE, TEXT, VERSION4,
 };
 
 /// The refusals of a reading; those that have many causes come more than once.
 pub const NUMBERS: [u32; 22] =
     [1, 6, 9, 14, 2, 7, 11, 13, 3, 8, 12, 14, 4, 6, 16, 13, 5, 7, 10, 14, 15, 11];
+
+/// Message declarations, and statements of which each is refused behind them.
+type Faults = (Vec<u8>, Vec<Vec<u8>>);
 
 /// A reading that is refused with a number from 1 to 16.
 pub fn refused(rng: &mut Rng, size: Size, number: u32, turn: usize) -> Case {
@@ -153,19 +156,22 @@ fn change_range(rng: &mut Rng, draft: &Draft, request: &mut [u8]) {
     }
 }
 
+/// The parts that a code may have.
+const ROLES: [Role; 9] = [
+    Role::Statement,
+    Role::Descriptor,
+    Role::Value,
+    Role::Literal,
+    Role::Target,
+    Role::Boolean,
+    Role::Stream,
+    Role::Clause,
+    Role::Order,
+];
+
 /// Sets a code to one of several, which may hang on its part.
 fn change_code(rng: &mut Rng, draft: &Draft, request: &mut [u8], codes: fn(Role) -> &'static [u8]) {
-    let role = rng.pick(&[
-        Role::Statement,
-        Role::Descriptor,
-        Role::Value,
-        Role::Literal,
-        Role::Target,
-        Role::Boolean,
-        Role::Stream,
-        Role::Clause,
-        Role::Order,
-    ]);
+    let role = rng.pick(&ROLES);
     change(rng, draft, request, Mark::Code(role), codes(role));
 }
 
@@ -241,8 +247,16 @@ fn left_out_clause(rng: &mut Rng) -> Vec<u8> {
 
 /// 9: a message declared twice, selected twice, undeclared.
 fn wrong_messages(rng: &mut Rng) -> Vec<u8> {
+    let (declared, statements) = message_faults();
+    if rng.one_in(4) {
+        return assemble::request(&[&declared, &message(3, &[])]);
+    }
+    one_of(rng, &declared, statements)
+}
+
+/// Statements that name a message which is not declared, or one twice, behind a message.
+fn message_faults() -> Faults {
     let declared = message(3, &[&[SHORT, 0]]);
-    let twice = assemble::request(&[&declared, &message(3, &[])]);
     let select = [&[SELECT, RECEIVE, 3][..], &NOTHING, &[RECEIVE, 3], &NOTHING, &[END]].concat();
     let statements = vec![
         select,
@@ -252,15 +266,17 @@ fn wrong_messages(rng: &mut Rng) -> Vec<u8> {
         condition(&operator(EQL, &[&parameter(3, 0), &parameter(0, 0)])),
         [&[SEND, 3][..], &assignment(&short(0, 1), &parameter(2, 0))].concat(),
     ];
-    if rng.one_in(4) {
-        return twice;
-    }
-    one_of(rng, &declared, statements)
+    (declared, statements)
 }
 
 /// 11: a context declared again, out of scope, or not yet in scope.
 fn wrong_contexts(rng: &mut Rng) -> Vec<u8> {
-    let statements = vec![
+    one_of(rng, &[], context_faults())
+}
+
+/// Statements that name a context which is not in scope, or declare one that is.
+fn context_faults() -> Vec<Vec<u8>> {
+    vec![
         for_loop(&[&rid(1, 0), &rid(1, 0)], &[], &NOTHING),
         for_house(&for_house(&NOTHING)),
         for_house(&[&[STORE][..], &rid(1, 0), &NOTHING].concat()),
@@ -271,16 +287,21 @@ fn wrong_contexts(rng: &mut Rng) -> Vec<u8> {
         for_house(&assignment(&fid(2, 0), &fid(0, 0))),
         condition(&operator(EQL, &[&fid(0, 1), &fid(1, 1)])),
         vec![ERASE, 7],
-    ];
-    one_of(rng, &[], statements)
+    ]
 }
 
 /// 13: kinds and scales that don't fit.
 fn no_fit(rng: &mut Rng) -> Vec<u8> {
-    let number = short(-1, 3);
-    let letters = text(b"ab");
     let field = rng.pick(&[0, 1, 2]);
     let words = rng.pick(&[3, 4, 5]);
+    let (messages, statements) = fit_faults(field, words);
+    one_of(rng, &messages, statements)
+}
+
+/// Statements whose kinds or scales don't fit, with a number field and a text field of `house`.
+fn fit_faults(field: u8, words: u8) -> Faults {
+    let number = short(-1, 3);
+    let letters = text(b"ab");
     let scale = assemble::scale_18(1);
     let messages = message(0, &[&[SHORT, 0], &[TEXT, 2, 0], &[DATE]]);
     let value = |value: Vec<u8>| condition(&operator(EQL, &[&value, &number]));
@@ -308,11 +329,17 @@ fn no_fit(rng: &mut Rng) -> Vec<u8> {
         send(&number, &[PARAMETER2, 0, 0, 0, 2, 0]),
         for_house(&[&[MODIFY, 0, 1], &assignment(&letters, &fid(1, field))[..]].concat()),
     ];
-    one_of(rng, &messages, statements)
+    (messages, statements)
 }
 
 /// 14: contexts not of a for, wrong targets, conversations in updates, leaves outside labels.
 fn wrong_statements(rng: &mut Rng) -> Vec<u8> {
+    let (messages, statements) = statement_faults(rng.pick(&[0, 1, 7]));
+    one_of(rng, &messages, statements)
+}
+
+/// Statements that may not stand where they do; `leave` is the number of a label that is not around.
+fn statement_faults(leave: u8) -> Faults {
     let messages = [message(0, &[&[SHORT, 0]]), message(1, &[&[SHORT, 0]])].concat();
     let number = short(0, 1);
     let store =
@@ -320,7 +347,6 @@ fn wrong_statements(rng: &mut Rng) -> Vec<u8> {
     let modify = |statement: &[u8]| for_house(&[&[MODIFY, 0, 1], statement].concat());
     let send = |message: u8, statement: &[u8]| [&[SEND, message], statement].concat();
     let to = |target: &[u8]| assignment(&number, target);
-    let leave = rng.pick(&[0, 1, 7]);
     let statements = vec![
         store(0, &[ERASE, 0]),
         store(0, &[&[MODIFY, 0, 1], &NOTHING[..]].concat()),
@@ -341,5 +367,46 @@ fn wrong_statements(rng: &mut Rng) -> Vec<u8> {
         [&[RECEIVE, 0][..], &to(&parameter(0, 5))].concat(),
         [&[BEGIN][..], &send(0, &NOTHING), &to(&[PARAMETER2, 0, 0, 0, 0, 0]), &[END]].concat(),
     ];
-    one_of(rng, &messages, statements)
+    (messages, statements)
+}
+
+/// Every fault of messages, contexts, fits and statements once, and every left-out code in its place.
+pub fn written() -> Vec<Case> {
+    let faults = [
+        message_faults(),
+        (Vec::new(), context_faults()),
+        fit_faults(1, 4),
+        fit_faults(2, 3),
+        statement_faults(7),
+    ];
+    let mut cases = Vec::new();
+    for (messages, statements) in &faults {
+        let request = |statement: &Vec<u8>| assemble::request(&[messages, statement]);
+        cases.extend(statements.iter().map(|statement| read(&house(), request(statement))));
+    }
+    cases.extend(left_out_codes().iter().map(|part| read(&house(), assemble::request(&[part]))));
+    cases
+}
+
+/// Parts of a request with a left-out code, each in its place, and in those of a target, a receive, a direction.
+fn left_out_codes() -> Vec<Vec<u8>> {
+    let value = |code: u8| condition(&operator(EQL, &[&[code]]));
+    let literal = |code: u8| condition(&operator(EQL, &[&[LITERAL, code]]));
+    let clause = |code: u8| for_loop(&[&rid(1, 0)], &[code], &NOTHING);
+    let part = |role: Role, code: u8| match role {
+        Role::Statement => vec![code],
+        Role::Descriptor => message(0, &[&[code]]),
+        Role::Value => value(code),
+        Role::Literal => literal(code),
+        Role::Boolean => condition(&[code]),
+        Role::Stream => vec![FOR, RSE, 1, code],
+        Role::Clause => clause(code),
+        Role::Target => assignment(&short(0, 1), &[code]),
+        Role::Order => for_loop(&[&rid(1, 0)], &[SORT, 1, code], &NOTHING),
+    };
+    let mut parts = Vec::new();
+    for role in ROLES {
+        parts.extend(left_out(role).iter().map(|code| part(role, *code)));
+    }
+    parts
 }

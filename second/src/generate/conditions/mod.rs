@@ -1,0 +1,118 @@
+//! Evaluations of small conditions that each come out as true, false, missing or one of 23 to 25.
+//!
+//! First come those written by hand, one of each family in turn and the same for every seed; the
+//! rest are made at random. Each has a dictionary and messages of what it names and nothing else.
+
+/// Missing operands, refusals beside them, and flags.
+mod absent;
+/// Between.
+mod between;
+/// Dates.
+mod dates;
+/// Records, messages, missing bits, numbers of conditions, statements.
+mod layout;
+/// And, or, not.
+mod logic;
+/// Conditions at random.
+mod mixed;
+/// Numbers.
+mod numbers;
+/// One condition with what it names.
+mod sheet;
+/// Texts.
+mod texts;
+
+use super::evaluations::{outcome, Outcome};
+use super::rng::Rng;
+use super::Case;
+use crate::evaluator::Answer;
+use crate::refusal::{MALFORMED_TEXT, OVERFLOW, ZERO_DIVISOR};
+use crate::wire::{EQL, GEQ, GTR, LEQ, LSS, NEQ};
+
+/// The comparisons 47 to 52.
+const COMPARISONS: [u8; 6] = [EQL, NEQ, GTR, GEQ, LSS, LEQ];
+
+/// The outcomes that conditions at random are made for, in turn.
+const WANTED: [Outcome; 9] = [
+    Ok(Answer::True),
+    Ok(Answer::False),
+    Ok(Answer::Missing),
+    Ok(Answer::True),
+    Ok(Answer::False),
+    Ok(Answer::Missing),
+    Err(MALFORMED_TEXT),
+    Err(OVERFLOW),
+    Err(ZERO_DIVISOR),
+];
+
+/// The first conditions of a seed.
+pub fn cases(seed: u64, count: usize) -> impl Iterator<Item = Case> {
+    let written = written();
+    let random = (0..).map(move |index| random(seed, index));
+    written.into_iter().chain(random).take(count)
+}
+
+/// Whether a case is an evaluation that comes to its condition: an answer, or one of 23 to 25.
+pub fn is_reached(case: &Case) -> bool {
+    matches!(outcome(case), Some(Ok(_) | Err(MALFORMED_TEXT..=ZERO_DIVISOR)))
+}
+
+/// The conditions written by hand, one of each family in turn.
+pub fn written() -> Vec<Case> {
+    let mut families: Vec<_> = families().into_iter().map(Vec::into_iter).collect();
+    let longest = families.iter().map(|family| family.len()).max().unwrap_or_default();
+    let mut cases = Vec::new();
+    for _ in 0..longest {
+        cases.extend(families.iter_mut().filter_map(Iterator::next));
+    }
+    cases
+}
+
+/// The families of conditions written by hand.
+fn families() -> Vec<Vec<Case>> {
+    vec![
+        logic::tables(),
+        logic::refusals(),
+        between::missing(),
+        between::ends(),
+        dates::comparisons(),
+        numbers::signs(),
+        numbers::readings(),
+        numbers::comparisons(),
+        numbers::scales(),
+        numbers::arithmetic(),
+        numbers::sums(),
+        numbers::negations(),
+        numbers::edges(),
+        texts::stored(),
+        texts::order(),
+        texts::searches(),
+        absent::tests(),
+        absent::arithmetic(),
+        absent::missing_tests(),
+        absent::refusals(),
+        absent::malformed(),
+        absent::flags(),
+        layout::streams(),
+        layout::contexts(),
+        layout::names(),
+        layout::bits(),
+        layout::messages(),
+        layout::numbers(),
+        layout::inside(),
+        layout::places(),
+    ]
+}
+
+/// The condition at random of a seed with an index, of the outcome whose turn it is.
+fn random(seed: u64, index: usize) -> Case {
+    let mut seeds = Rng::new(seed);
+    let mut rng = Rng::new(seeds.bits() ^ (index as u64).wrapping_mul(0xD134_2543_DE82_EF95));
+    let wanted = WANTED[index % WANTED.len()];
+    loop {
+        let case = mixed::condition(&mut rng);
+        if outcome(&case) == Some(wanted) {
+            return case;
+        }
+    }
+}

@@ -1,0 +1,34 @@
+//! Evaluations that independent programs agreed on (`tests/agreed/README.md`): all must agree.
+
+use second::cases;
+use second::generate::Case;
+use second::hex;
+
+const EVALUATIONS: &str = include_str!("agreed/evaluations.txt");
+
+/// The case of a line, whose outcome stands behind ` = `.
+fn case(line: &str) -> Option<Case> {
+    let (input, _) = line.split_once(" = ")?;
+    let words: Vec<&str> = input.split(' ').collect();
+    let ["evaluate", dictionary, request, condition, messages, records] = words[..] else {
+        return None;
+    };
+    Some(Case::Evaluate {
+        dictionary: hex::read(dictionary)?,
+        request: hex::read(request)?,
+        condition: condition.parse().ok()?,
+        messages: hex::read(messages)?,
+        records: hex::read(records)?,
+    })
+}
+
+#[test]
+fn evaluations_agree() {
+    let mut count = 0;
+    for line in EVALUATIONS.lines() {
+        let case = case(line).expect("an evaluation");
+        assert_eq!(cases::line(&case), line);
+        count += 1;
+    }
+    assert_eq!(count, 166);
+}
