@@ -23,7 +23,7 @@ pub enum Length {
 }
 
 // "short 7 and long 8 .. (2 and 4 bytes)"
-fn width_bytes(w: Width) -> usize
+pub fn width_bytes(w: Width) -> usize
     ensures { λ r. ⌜ r ≡ widthBytes w ⌝ }
 {
     match w {
@@ -33,20 +33,19 @@ fn width_bytes(w: Width) -> usize
 }
 
 // "text 14, varying 37, cstring 40, each with a word n (n, n+2, n bytes)"
-fn text_bytes(t: TextType, n: usize) -> usize
-    requires { ⌜ n < 65536 ⌝ }
+pub fn text_bytes(t: TextType, n: u32) -> usize
     ensures { λ r. ⌜ r ≡ textBytes t n ⌝ }
 {
+    let size = n as usize;
     match t {
-        TextType::Text => n,
-        TextType::Varying => n + 2,
-        TextType::Cstring => n,
+        TextType::Text => size,
+        TextType::Varying => size + 2,
+        TextType::Cstring => size,
     }
 }
 
 // "date 35 (8 bytes)"
-fn plain_bytes(t: DataType, n: usize) -> usize
-    requires { ⌜ n < 65536 ⌝ }
+fn plain_bytes(t: DataType, n: u32) -> usize
     ensures { λ r. ⌜ r ≡ typeBytes (Plain t) n ⌝ }
 {
     match t {
@@ -57,8 +56,7 @@ fn plain_bytes(t: DataType, n: usize) -> usize
 }
 
 // "a house reading: 2 bytes, unsigned, with scale"
-fn type_bytes(t: FieldType, n: usize) -> usize
-    requires { ⌜ n < 65536 ⌝ }
+fn type_bytes(t: FieldType, n: u32) -> usize
     ensures { λ r. ⌜ r ≡ typeBytes t n ⌝ }
 {
     match t {
@@ -71,7 +69,7 @@ fn type_bytes(t: FieldType, n: usize) -> usize
 pub fn held_bytes(d: &[u8], q: usize) -> usize
     ensures { λ r. ⌜ r ≡ held (formatAt (now (d .entry)) q) ⌝ }
 {
-    type_bytes(type_at(d, q), word_on(d, q, 8) as usize)
+    type_bytes(type_at(d, q), word_on(d, q, 8))
 }
 
 // How many fields a relation has.
@@ -118,7 +116,7 @@ fn packed_within(d: &[u8], from: usize, i: usize, start: usize, limit: usize) ->
 }
 
 // "relation id word, one missing bit a field .., then the fields packed"
-pub(crate) fn offset_within(d: &[u8], relation: usize, i: usize, limit: usize) -> Length
+pub fn offset_within(d: &[u8], relation: usize, i: usize, limit: usize) -> Length
     ensures { λ r. ⌜ r ≡ within limit (offsetOf (relationAt (now (d .entry)) relation) i) ⌝ }
 {
     let start = 6 + missing_bytes(field_count(d, relation));
