@@ -5,3 +5,5 @@ pub mod Data
 pub mod Inputs
 pub mod Meaning
 pub mod Evaluation
+pub mod Evaluated
+pub mod Demand

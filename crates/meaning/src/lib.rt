@@ -1,4 +1,5 @@
 // The meaning of a condition: the types that its definitions and the evaluator share.
+use grammar::Refusal;
 
 // What a condition comes out as.
 pub enum Truth {
@@ -19,4 +20,10 @@ pub enum Fault {
     MalformedText,
     Overflow,
     ZeroDivisor,
+}
+
+// The answer of evaluation: what the condition comes out as; or the refusal and its place.
+pub enum Evaluation {
+    Is(Truth),
+    Refused(Refusal, usize),
 }

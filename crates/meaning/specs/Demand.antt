@@ -1,0 +1,123 @@
+-- Demand 3: for any condition of any accepted request, messages of its sizes and proper records, the evaluator's answer is the meaning's.
+use Prim.Native.Nat.{ℕ, _+_, _<_, _≤_}
+use mathlib.Core.Path.{_≡_}
+use mathlib.Core.Logic.{_⊎_}
+use mathlib.Core.Bool.{true, cond}
+use mathlib.Core.List.{List, [], _∷_, _++_}
+use mathlib.Core.Option.{Option, none, some}
+use lib.Dec.{eqb}
+use lib.ListN.{length, getElem?}
+use Rattle.wire.specs.Words.{byteAt, wordAt}
+use Rattle.dictionary.specs.Format.{Format, held}
+use Rattle.dictionary.specs.Dictionary.{Relation, proper, dictionary}
+use Rattle.dictionary.specs.Names.{formatOf}
+use Rattle.records.specs.Record.{recordLength, spareClear, fieldPlace, fieldMissing}
+use Rattle.grammar.specs.declared.Refusal.{Refusal}
+use Rattle.grammar.specs.Refusals.{number}
+use Rattle.grammar.specs.Tree.{Message, Request}
+use Rattle.grammar.specs.Bytes.{requestBytes}
+use Rattle.grammar.specs.Names.{Context}
+use Rattle.grammar.specs.Sizes.{messageSize}
+use Rattle.grammar.specs.Rules.{Allowed}
+use Rattle.grammar.specs.Conditions.{Condition, requestConditions}
+use Rattle.meaning.specs.Data.{Result, is, refused, stray}
+use Rattle.meaning.specs.declared.Evaluation.{Evaluation}
+use Rattle.meaning.specs.Inputs.{lengthOf}
+use Rattle.meaning.specs.Meaning.{meaning}
+use Rattle.meaning.specs.Evaluation.{outcome}
+use Rattle.meaning.specs.Evaluated.{outcomeOf}
+
+-- ---- what is given
+
+-- 01: "There, accepted is by demand 2's rules, room in the tables aside."
+pub record Accepted (s d : List ℕ) (rs : List Relation) (t : Request) : Type 0 where
+  pub house : dictionary d ≡ proper rs
+  pub bytes : s ≡ requestBytes t
+  pub allowed : Allowed rs t
+
+-- 01: "a condition, that is a boolean with a number"
+abbrev pub Asked : List Relation → Request → ℕ → Condition → Type 0
+Asked rs t n x = getElem? (requestConditions rs t) n ≡ some x
+
+-- 01: "Messages of the request's sizes are one image of the declared bytes for each message."
+pub data Images : List Message → List ℕ → Type 0 where
+  noImage : Images [] []
+  image : {m : Message} {ms : List Message} (e images : List ℕ) → length e ≡ messageSize m → Images ms images → Images (m ∷ ms) (e ++ images)
+
+-- 01: "A proper record is a kind 3 entry of the relation due, here its context's, of at most 4,096 bytes and otherwise as stated above, with any
+-- bytes in its fields."
+pub record ProperRecord (r : Relation) (e : List ℕ) : Type 0 where
+  pub sized : length e ≡ recordLength r
+  pub small : recordLength r ≤ 4096
+  pub length-word : wordAt e 0 ≡ recordLength r
+  pub kind-word : wordAt e 2 ≡ 3
+  pub id-word : wordAt e 4 ≡ r .id
+  pub spare : spareClear r e 0 ≡ true
+
+-- 01: "one record for each context in scope in declaration order"
+pub data Records : List Context → List ℕ → Type 0 where
+  noRecord : Records [] []
+  entry : {x : Context} {xs : List Context} (r : Relation) (e rows : List ℕ) → x .relation ≡ some r → ProperRecord r e → Records xs rows →
+      Records (x ∷ xs) (e ++ rows)
+
+-- ---- two sets of records
+
+-- a relation, and where its record stands
+pub record Placed : Type 0 where
+  pub relation : Relation
+  pub place : ℕ
+
+-- the records of contexts, one after another from p on
+abbrev pub placedBy : Option Relation → ℕ → List Placed → List Placed
+placedBy none p rest = rest
+placedBy (some r) p rest = record { relation = r; place = p } ∷ rest
+
+unfoldable pub placedFrom : List Context → ℕ → List Placed
+placedFrom [] p = []
+placedFrom (x ∷ xs) p = placedBy (x .relation) p (placedFrom xs (p + lengthOf (x .relation)))
+
+-- 01: "A field's inside is its packed bytes, its missing bit no part of them." Place j lies inside a field that is missing in both sets
+pub record InsideMissing (ys : List Placed) (rows rows′ : List ℕ) (j : ℕ) : Type 0 where
+  pub k : ℕ
+  pub i : ℕ
+  pub y : Placed
+  pub f : Format
+  pub placed-is : getElem? ys k ≡ some y
+  pub format-is : formatOf (y .relation) i ≡ some f
+  pub from : fieldPlace (y .relation) (y .place) i ≤ j
+  pub before : j < fieldPlace (y .relation) (y .place) i + held f
+  pub missing : fieldMissing (y .relation) f rows (y .place) i ≡ true
+  pub missing′ : fieldMissing (y .relation) f rows′ (y .place) i ≡ true
+
+-- "Two sets of records that differ only inside fields missing in both": of one length, and every byte is the same or inside such a field
+pub record Alike (ys : List Placed) (rows rows′ : List ℕ) : Type 0 where
+  pub sized : length rows ≡ length rows′
+  pub differ-only : (j : ℕ) → (byteAt rows j ≡ byteAt rows′ j) ⊎ InsideMissing ys rows rows′ j
+
+-- ---- what is demanded
+
+-- 01: "and that stray never occurs"
+abbrev pub NotStray : {A : Type 0} → Result A → Type 0
+NotStray (is x) = Unit {0}
+NotStray (refused f p) = Unit {0}
+NotStray stray = ⊥
+
+-- 01: "Demand 3 shows that the evaluator's outcome, place included, equals the meaning's, and that stray never occurs."
+pub record AsMeant (s d : List ℕ) (n : ℕ) (images rows : List ℕ) (r : Evaluation) : Type 0 where
+  pub meant : outcomeOf r ≡ outcome (meaning s d n images rows)
+  pub not-stray : NotStray (meaning s d n images rows)
+
+-- "Two sets of records that differ only inside fields missing in both get the same answer."
+pub record SameAnswer (s d : List ℕ) (n : ℕ) (images rows rows′ : List ℕ) (r r′ : Evaluation) : Type 0 where
+  pub same-meaning : meaning s d n images rows ≡ meaning s d n images rows′
+  pub same-answer : r ≡ r′
+
+-- the bytes that the place of a refusal of evaluation lies in: 3 is in the dictionary, 21 in the images, 22 in the records
+abbrev pub placedIn : Refusal → List ℕ → List ℕ → List ℕ → List ℕ → List ℕ
+placedIn x s d images rows =
+    cond (eqb (number x) 3) d (cond (eqb (number x) 21) images (cond (eqb (number x) 22) rows s))
+
+-- demand 1 for evaluation: "A refusal gives a number and a place"; 01: "Evaluation refuses as reading does, but never gives 1."
+pub record RefusedEvaluation (s d images rows : List ℕ) (x : Refusal) (p : ℕ) : Type 0 where
+  pub numbered : ((2 ≤ number x) × (number x ≤ 16)) ⊎ ((20 ≤ number x) × (number x ≤ 25))
+  pub placed : p ≤ length (placedIn x s d images rows)
