@@ -1,0 +1,496 @@
+-- Each condition of a request stands in its bytes, the rules allow it, it is no deeper than the request, and the contexts in scope there are
+-- those whose row's scope holds its place.
+use Prim.Native.Nat.{ℕ, zero, suc, _+_, _<_, _≤_, max}
+use mathlib.Core.Path.{_≡_, refl, sym, ap, ap₂, _∙_}
+use mathlib.Core.Bool.{Bool, true, false, _&&_}
+use mathlib.Core.List.{List, [], _∷_, _++_, map, append-assoc, append-nil}
+use native.Mathlib.Omega.{arith}
+use lib.Dec.{leb, ltb}
+use lib.ListN.{length, drop, length-append}
+use borrow.Author.Tests.{lt-ltb, le-leb, lt-leb, le-ltb}
+use Rattle.dictionary.specs.Dictionary.{Relation}
+use Rattle.grammar.specs.Tree.{Boolean, Keys, Clauses, noClauses, such, sorted, Stream, Heading, loop, modify, handler, receive, send, store, label, Rse, rse, Statement, assignment, begin, erase, for, headed, leave, if, ifElse, select, Statements, none as nothing, _then_, Receives, last, more, Request}
+use Rattle.grammar.specs.Bytes.{streamBytes, streamsBytes, headBytes, rseBytes, keysBytes, clausesBytes, headingBytes, booleanBytes, statementBytes, statementsBytes, receivesBytes}
+use Rattle.grammar.specs.Names.{Environment, Context, Scope, streamContext, modifyContext, underStreams, underRse, underHeading}
+use Rattle.grammar.specs.Sizes.{booleanDepth, clausesDepth, rseDepth, statementDepth, statementsDepth, receivesDepth}
+use Rattle.grammar.specs.Rules.{BooleanAllowed, ClausesAllowed, RseAllowed, StatementAllowed, StatementsAllowed, ReceivesAllowed}
+use Rattle.grammar.specs.Rows.{size, contextRow, streamRows, rseRows, headingRows, contextRows, contextsRows, receivesContextRows}
+use Rattle.grammar.specs.Conditions.{Condition, clausesConditions, rseConditions, conditions, statementsConditions, receivesConditions}
+use Rattle.walking.specs.Declared.{Declared, declaration, streamsDeclared, rseDeclared, headingDeclared, declared, declaredAll, receivesDeclared, rowsOf, keptIf, holdsAt, contextsAt}
+use Rattle.walking.proofs.Link.{past}
+
+-- ---- the rows are those of the declarations
+
+rows-append : (a b : List Declared) → rowsOf (a ++ b) ≡ rowsOf a ++ rowsOf b
+unfolding rowsOf
+rows-append [] b = refl
+rows-append (x ∷ a) b = ap (λ z. contextRow (x .context) (x .place) (x .start) (x .end) ++ z) (rows-append a b)
+
+module _ (d : List Relation) where
+  stream-rows : (ss : List Stream) (p start end : ℕ) → streamRows d ss p start end ≡ rowsOf (streamsDeclared d ss p start end)
+  unfolding streamRows streamsDeclared rowsOf
+  stream-rows [] p start end = refl
+  stream-rows (s ∷ ss) p start end = ap (λ z. contextRow (streamContext d true s) p start end ++ z) (stream-rows ss (p + length (streamBytes s)) start end)
+
+  rse-rows : (r : Rse) (p end : ℕ) → rseRows d r p end ≡ rowsOf (rseDeclared d r p end)
+  unfolding rseRows rseDeclared
+  rse-rows (rse ss cs) p end = stream-rows ss (p + 2) (p + length (headBytes ss)) end
+
+  heading-rows : (sc : Scope) (h : Heading) (p end : ℕ) → headingRows d sc h p end ≡ rowsOf (headingDeclared d sc h p end)
+  unfolding headingRows headingDeclared rowsOf
+  heading-rows sc loop p end = refl
+  heading-rows sc (modify from to) p end = refl
+  heading-rows sc handler p end = refl
+  heading-rows sc (receive m) p end = refl
+  heading-rows sc (send m) p end = refl
+  heading-rows sc (store s) p end = refl
+  heading-rows sc (label n) p end = refl
+
+  mutual
+    unfolding contextRows declared rowsOf
+
+    pub context-rows : (t : Statement) (sc : Scope) (p : ℕ) → contextRows d sc t p ≡ rowsOf (declared d sc t p)
+    context-rows (assignment v t) sc p = refl
+    context-rows (begin ss) sc p = contexts-rows ss sc (p + 1)
+    context-rows (erase c) sc p = refl
+    context-rows (for r s) sc p =
+        ap₂ (λ x y. x ++ y) (rse-rows r (p + 1) (p + size (for r s))) (context-rows s (underRse d sc r) (p + 1 + length (rseBytes r)))
+        ∙ sym (rows-append (rseDeclared d r (p + 1) (p + size (for r s))) _)
+    context-rows (headed h s) sc p =
+        ap₂ (λ x y. x ++ y) (heading-rows sc h p (p + size (headed h s))) (context-rows s (underHeading d sc h) (p + length (headingBytes h)))
+        ∙ sym (rows-append (headingDeclared d sc h p (p + size (headed h s))) _)
+    context-rows (leave n) sc p = refl
+    context-rows (if b s) sc p = context-rows s sc (p + 1 + length (booleanBytes b))
+    context-rows (ifElse b s t) sc p =
+        ap₂ (λ x y. x ++ y) (context-rows s sc (p + 1 + length (booleanBytes b))) (context-rows t sc (p + 1 + length (booleanBytes b) + size s))
+        ∙ sym (rows-append (declared d sc s (p + 1 + length (booleanBytes b))) _)
+    context-rows (select rs) sc p = receives-rows rs sc (p + 1)
+
+    pub contexts-rows : (ts : Statements) (sc : Scope) (p : ℕ) → contextsRows d sc ts p ≡ rowsOf (declaredAll d sc ts p)
+    contexts-rows nothing sc p = refl
+    contexts-rows (s then ss) sc p =
+        ap₂ (λ x y. x ++ y) (context-rows s sc p) (contexts-rows ss sc (p + size s)) ∙ sym (rows-append (declared d sc s p) _)
+
+    pub receives-rows : (rs : Receives) (sc : Scope) (p : ℕ) → receivesContextRows d sc rs p ≡ rowsOf (receivesDeclared d sc rs p)
+    receives-rows (last m s) sc p = context-rows s sc (p + 2)
+    receives-rows (more m s rs) sc p =
+        ap₂ (λ x y. x ++ y) (context-rows s sc (p + 2)) (receives-rows rs sc (p + 2 + size s)) ∙ sym (rows-append (declared d sc s (p + 2)) _)
+
+-- ---- which declarations hold a place
+
+contexts-append : (q : ℕ) (a b : List Declared) → contextsAt q (a ++ b) ≡ contextsAt q a ++ contextsAt q b
+unfolding contextsAt
+contexts-append q [] b = refl
+contexts-append q (x ∷ a) b = ap (keptIf (holdsAt q x) (x .context)) (contexts-append q a b) ∙ kept (holdsAt q x) (x .context) (contextsAt q a) (contextsAt q b)
+  where
+    kept : (t : Bool) (x : Context) (a b : List Context) → keptIf t x (a ++ b) ≡ keptIf t x a ++ b
+    kept true x a b = refl
+    kept false x a b = refl
+
+-- scopes that lie in a range
+abbrev pub Between : ℕ → ℕ → List Declared → Type 0
+Between lo hi [] = Unit {0}
+Between lo hi (x ∷ xs) = (lo ≤ x .start) × (x .end ≤ hi) × Between lo hi xs
+
+between-append : (lo hi : ℕ) (a b : List Declared) → Between lo hi a → Between lo hi b → Between lo hi (a ++ b)
+between-append lo hi [] b h k = k
+between-append lo hi (x ∷ a) b h k = (h .0, h .1, between-append lo hi a b (h .2) k)
+
+between-widen : (lo hi lo′ hi′ : ℕ) (a : List Declared) → lo′ ≤ lo → hi ≤ hi′ → Between lo hi a → Between lo′ hi′ a
+between-widen lo hi lo′ hi′ [] h k b = tt
+between-widen lo hi lo′ hi′ (x ∷ a) h k b =
+    let i = b .0 in let j = b .1 in (omega (arith, i), omega (arith, j), between-widen lo hi lo′ hi′ a h k (b .2))
+
+none-before : (q lo hi : ℕ) (a : List Declared) → Between lo hi a → q < lo → contextsAt q a ≡ []
+unfolding contextsAt
+none-before q lo hi [] b h = refl
+none-before q lo hi (x ∷ a) b h =
+    let i = b .0 in let k : q < x .start = omega (arith, i) in rw (lt-leb (x .start) q k) (none-before q lo hi a (b .2) h)
+
+none-after : (q lo hi : ℕ) (a : List Declared) → Between lo hi a → hi ≤ q → contextsAt q a ≡ []
+unfolding contextsAt
+none-after q lo hi [] b h = refl
+none-after q lo hi (x ∷ a) b h =
+    let i = b .1 in let k : x .end ≤ q = omega (arith, i) in
+    rw (le-ltb q (x .end) k) (drops (leb (x .start) q) (none-after q lo hi a (b .2) h))
+  where
+    drops : (t : Bool) → contextsAt q a ≡ [] → keptIf (t && false) (x .context) (contextsAt q a) ≡ []
+    drops true e = e
+    drops false e = e
+
+module _ (d : List Relation) where
+  streams-hold : (q start end : ℕ) → start ≤ q → q < end → (ss : List Stream) (p : ℕ) →
+      contextsAt q (streamsDeclared d ss p start end) ≡ map (streamContext d true) ss
+  unfolding contextsAt streamsDeclared
+  streams-hold q start end h k [] p = refl
+  streams-hold q start end h k (s ∷ ss) p =
+      rw (le-leb start q h, lt-ltb q end k) (ap (λ z. streamContext d true s ∷ z) (streams-hold q start end h k ss (p + length (streamBytes s))))
+
+  streams-between : (lo start end : ℕ) → lo ≤ start → (ss : List Stream) (p : ℕ) → Between lo end (streamsDeclared d ss p start end)
+  unfolding streamsDeclared
+  streams-between lo start end h [] p = tt
+  streams-between lo start end h (s ∷ ss) p = (h, omega arith, streams-between lo start end h ss (p + length (streamBytes s)))
+
+  rse-between : (r : Rse) (p end : ℕ) → Between p end (rseDeclared d r p end)
+  unfolding rseDeclared
+  rse-between (rse ss cs) p end = streams-between p (p + length (headBytes ss)) end (omega arith) ss (p + 2)
+
+  heading-between : (sc : Scope) (h : Heading) (p end : ℕ) → Between (p + 1) end (headingDeclared d sc h p end)
+  unfolding headingDeclared
+  heading-between sc loop p end = tt
+  heading-between sc (modify from to) p end = (omega arith, omega arith, tt)
+  heading-between sc handler p end = tt
+  heading-between sc (receive m) p end = tt
+  heading-between sc (send m) p end = tt
+  heading-between sc (store s) p end = (omega arith, omega arith, tt)
+  heading-between sc (label n) p end = tt
+
+  -- a statement's declarations have their scopes inside it
+  heading-size : (h : Heading) → 1 ≤ length (headingBytes h)
+  unfolding headingBytes
+  heading-size loop = omega arith
+  heading-size (modify from to) = omega arith
+  heading-size handler = omega arith
+  heading-size (receive m) = omega arith
+  heading-size (send m) = omega arith
+  heading-size (store s) = omega arith
+  heading-size (label n) = omega arith
+
+  mutual
+    unfolding declared statementBytes
+
+    pub declared-between : (t : Statement) (sc : Scope) (p : ℕ) → Between (p + 1) (p + size t) (declared d sc t p)
+    declared-between (assignment v t) sc p = tt
+    declared-between (begin ss) sc p =
+        between-widen (p + 1) (p + 1 + length (statementsBytes ss)) (p + 1) (p + size (begin ss)) (declaredAll d sc ss (p + 1)) (omega arith)
+        (omega (arith, length-append (statementsBytes ss) (255 ∷ []))) (all-between ss sc (p + 1))
+    declared-between (erase c) sc p = tt
+    declared-between (for r s) sc p =
+        let z : size (for r s) ≡ 1 + length (rseBytes r) + size s = omega (arith, length-append (rseBytes r) (statementBytes s)) in
+        between-append (p + 1) (p + size (for r s)) (rseDeclared d r (p + 1) (p + size (for r s))) _ (rse-between r (p + 1) (p + size (for r s)))
+        (between-widen (p + 1 + length (rseBytes r) + 1) (p + 1 + length (rseBytes r) + size s) (p + 1) (p + size (for r s))
+        (declared d (underRse d sc r) s (p + 1 + length (rseBytes r))) (omega arith) (omega (arith, z))
+        (declared-between s (underRse d sc r) (p + 1 + length (rseBytes r))))
+    declared-between (headed h s) sc p =
+        let z : size (headed h s) ≡ length (headingBytes h) + size s = omega (arith, length-append (headingBytes h) (statementBytes s)) in
+        between-append (p + 1) (p + size (headed h s)) (headingDeclared d sc h p (p + size (headed h s))) _ (heading-between sc h p (p + size (headed h s)))
+        (between-widen (p + length (headingBytes h) + 1) (p + length (headingBytes h) + size s) (p + 1) (p + size (headed h s))
+        (declared d (underHeading d sc h) s (p + length (headingBytes h))) (omega arith) (omega (arith, z))
+        (declared-between s (underHeading d sc h) (p + length (headingBytes h))))
+    declared-between (leave n) sc p = tt
+    declared-between (if b s) sc p =
+        let q = p + 1 + length (booleanBytes b) in
+        between-widen (q + 1) (q + size s) (p + 1) (p + size (if b s)) (declared d sc s q) (omega arith)
+        (omega (arith, length-append (booleanBytes b ++ statementBytes s) (255 ∷ []), length-append (booleanBytes b) (statementBytes s)))
+        (declared-between s sc q)
+    declared-between (ifElse b s t) sc p =
+        let q = p + 1 + length (booleanBytes b) in
+        let z = length-append (booleanBytes b ++ statementBytes s) (statementBytes t) in
+        let y = length-append (booleanBytes b) (statementBytes s) in
+        between-append (p + 1) (p + size (ifElse b s t)) (declared d sc s q) _
+        (between-widen (q + 1) (q + size s) (p + 1) (p + size (ifElse b s t)) (declared d sc s q) (omega arith) (omega (arith, z, y)) (declared-between s sc q))
+        (between-widen (q + size s + 1) (q + size s + size t) (p + 1) (p + size (ifElse b s t)) (declared d sc t (q + size s)) (omega arith)
+        (omega (arith, z, y)) (declared-between t sc (q + size s)))
+    declared-between (select rs) sc p =
+        between-widen (p + 1) (p + 1 + length (receivesBytes rs)) (p + 1) (p + size (select rs)) (receivesDeclared d sc rs (p + 1)) (omega arith)
+        (omega (arith, length-append (receivesBytes rs) (255 ∷ []))) (receives-between rs sc (p + 1))
+
+    all-between : (ts : Statements) (sc : Scope) (p : ℕ) → Between p (p + length (statementsBytes ts)) (declaredAll d sc ts p)
+    all-between nothing sc p = tt
+    all-between (s then ss) sc p =
+        let z = length-append (statementBytes s) (statementsBytes ss) in
+        between-append p (p + length (statementsBytes (s then ss))) (declared d sc s p) _
+        (between-widen (p + 1) (p + size s) p (p + length (statementsBytes (s then ss))) (declared d sc s p) (omega arith) (omega (arith, z))
+        (declared-between s sc p))
+        (between-widen (p + size s) (p + size s + length (statementsBytes ss)) p (p + length (statementsBytes (s then ss)))
+        (declaredAll d sc ss (p + size s)) (omega arith) (omega (arith, z)) (all-between ss sc (p + size s)))
+
+    receives-between : (rs : Receives) (sc : Scope) (p : ℕ) → Between p (p + length (receivesBytes rs)) (receivesDeclared d sc rs p)
+    receives-between (last m s) sc p =
+        between-widen (p + 2 + 1) (p + 2 + size s) p (p + length (receivesBytes (last m s))) (declared d sc s (p + 2)) (omega arith) (omega arith)
+        (declared-between s sc (p + 2))
+    receives-between (more m s rs) sc p =
+        let z = length-append (statementBytes s) (receivesBytes rs) in
+        between-append p (p + length (receivesBytes (more m s rs))) (declared d sc s (p + 2)) _
+        (between-widen (p + 2 + 1) (p + 2 + size s) p (p + length (receivesBytes (more m s rs))) (declared d sc s (p + 2)) (omega arith) (omega (arith, z))
+        (declared-between s sc (p + 2)))
+        (between-widen (p + 2 + size s) (p + 2 + size s + length (receivesBytes rs)) p (p + length (receivesBytes (more m s rs)))
+        (receivesDeclared d sc rs (p + 2 + size s)) (omega arith) (omega (arith, z)) (receives-between rs sc (p + 2 + size s)))
+
+-- ---- conditions
+
+abbrev pub All : {A : Type 0} → (A → Type 0) → List A → Type 0
+All P [] = Unit {0}
+All P (x ∷ l) = P x × All P l
+
+pub all-append : {A : Type 0} (P : A → Type 0) (l m : List A) → All P l → All P m → All P (l ++ m)
+all-append P [] m h k = k
+all-append P (x ∷ l) m h k = (h .0, all-append P l m (h .1) k)
+
+all-map : {A : Type 0} (P Q : A → Type 0) (l : List A) → ((x : A) → P x → Q x) → All P l → All Q l
+all-map P Q [] f h = tt
+all-map P Q (x ∷ l) f h = (f x (h .0), all-map P Q l f (h .1))
+
+boolean-size : (b : Boolean) → 1 ≤ length (booleanBytes b)
+unfolding booleanBytes
+boolean-size (Boolean.compare c v w) = omega arith
+boolean-size (Boolean.search t v w) = omega arith
+boolean-size (Boolean.between v w x) = omega arith
+boolean-size (Boolean.connect c a b) = omega arith
+boolean-size (Boolean.not a) = omega arith
+boolean-size (Boolean.missing v) = omega arith
+
+module _ (s : List ℕ) (e : Environment) where
+  abbrev d : List Relation
+  d = e .relations
+
+  -- a condition from lo on, below hi, at most n deep, among declarations inside a scope
+  pub record Holds (lo hi n : ℕ) (outer : List Context) (own : List Declared) (x : Condition) : Type 0 where
+    pub after : lo ≤ x .place
+    pub before : x .place < hi
+    pub shallow : booleanDepth (x .boolean) ≤ n
+    pub rest : List ℕ
+    pub stands : drop (x .place) s ≡ booleanBytes (x .boolean) ++ rest
+    pub allowed : BooleanAllowed e (x .scope) (x .boolean)
+    pub scoped : x .scope .contexts ≡ outer ++ contextsAt (x .place) own
+
+  widen : (lo hi n lo′ hi′ n′ : ℕ) (outer outer′ : List Context) (own own′ : List Declared) → lo′ ≤ lo → hi ≤ hi′ → n ≤ n′ →
+      ((q : ℕ) → lo ≤ q → q < hi → outer ++ contextsAt q own ≡ outer′ ++ contextsAt q own′) → (x : Condition) → Holds lo hi n outer own x →
+      Holds lo′ hi′ n′ outer′ own′ x
+  widen lo hi n lo′ hi′ n′ outer outer′ own own′ h k j f x w =
+      let a = w .after in let b = w .before in let c = w .shallow in
+      record {
+        after = omega (arith, a);
+        before = omega (arith, b);
+        shallow = omega (arith, c);
+        rest = w .rest;
+        stands = w .stands;
+        allowed = w .allowed;
+        scoped = w .scoped ∙ f (x .place) (w .after) (w .before);
+      }
+
+  clauses-sites : (cs : Clauses) (sc : Scope) (b k : Bool) (p n : ℕ) (post : List ℕ) → clausesDepth cs ≤ n → ClausesAllowed e sc b k cs →
+      drop p s ≡ clausesBytes cs ++ post → All (Holds (p + 1) (p + length (clausesBytes cs)) n (sc .contexts) []) (clausesConditions sc cs p)
+  unfolding clausesDepth clausesBytes clausesConditions contextsAt
+  clauses-sites noClauses sc b k p n post h a f = tt
+  clauses-sites (such x cs) sc b k p n post h a f =
+      let z = length-append (booleanBytes x) (clausesBytes cs) in
+      let y = boolean-size x in
+      let f1 : drop (p + 1) s ≡ booleanBytes x ++ (clausesBytes cs ++ post) = past s p (71 ∷ []) _ f ∙ append-assoc (booleanBytes x) (clausesBytes cs) post in
+      let q = p + 1 + length (booleanBytes x) in (
+        record {
+          after = omega arith;
+          before = omega (arith, z, y);
+          shallow = omega arith;
+          rest = clausesBytes cs ++ post;
+          stands = f1;
+          allowed = a .1;
+          scoped = sym (append-nil (sc .contexts));
+        },
+        all-map (Holds (q + 1) (q + length (clausesBytes cs)) n (sc .contexts) []) _ (clausesConditions sc cs q)
+            (widen (q + 1) (q + length (clausesBytes cs)) n (p + 1) (p + length (clausesBytes (such x cs))) n (sc .contexts) (sc .contexts) [] []
+            (omega arith) (omega (arith, z)) (omega arith) (λ q i j. refl))
+            (clauses-sites cs sc true k q n post (omega arith) (a .2) (past s (p + 1) (booleanBytes x) _ f1)),
+      )
+  clauses-sites (sorted ks cs) sc b k p n post h a f =
+      let z = length-append (keysBytes ks) (clausesBytes cs) in
+      let f1 : drop (p + 2) s ≡ keysBytes ks ++ (clausesBytes cs ++ post) = past s p (70 ∷ _ ∷ []) _ f ∙ append-assoc (keysBytes ks) (clausesBytes cs) post in
+      let q = p + 2 + length (keysBytes ks) in
+      all-map (Holds (q + 1) (q + length (clausesBytes cs)) n (sc .contexts) []) _ (clausesConditions sc cs q)
+      (widen (q + 1) (q + length (clausesBytes cs)) n (p + 1) (p + length (clausesBytes (sorted ks cs))) n (sc .contexts) (sc .contexts) [] []
+      (omega arith) (omega (arith, z)) (omega arith) (λ q i j. refl))
+      (clauses-sites cs sc b true q n post (omega arith) (a .3) (past s (p + 2) (keysBytes ks) _ f1))
+
+  heading-hold : (sc : Scope) (h : Heading) (p end q : ℕ) → p + length (headingBytes h) ≤ q → q < end →
+      (underHeading d sc h) .contexts ≡ sc .contexts ++ contextsAt q (headingDeclared d sc h p end)
+  unfolding underHeading headingBytes headingDeclared contextsAt
+  heading-hold sc loop p end q i j = sym (append-nil (sc .contexts))
+  heading-hold sc (modify from to) p end q i j = rw (le-leb (p + 3) q i, lt-ltb q end j)
+  heading-hold sc handler p end q i j = sym (append-nil (sc .contexts))
+  heading-hold sc (receive m) p end q i j = sym (append-nil (sc .contexts))
+  heading-hold sc (send m) p end q i j = sym (append-nil (sc .contexts))
+  heading-hold sc (store t) p end q i j =
+      let k : p + 1 + length (streamBytes t) ≤ q = omega (arith, i) in rw (le-leb (p + 1 + length (streamBytes t)) q k, lt-ltb q end j)
+  heading-hold sc (label n) p end q i j = sym (append-nil (sc .contexts))
+
+  -- the first of two parts in a row, and the second
+  first-part : (q lo hi : ℕ) (outer : List Context) (a b : List Declared) → Between lo hi b → q < lo →
+      outer ++ contextsAt q a ≡ outer ++ contextsAt q (a ++ b)
+  first-part q lo hi outer a b w h =
+      ap (λ z. outer ++ z) (sym (contexts-append q a b ∙ ap (λ z. contextsAt q a ++ z) (none-before q lo hi b w h) ∙ append-nil (contextsAt q a)))
+
+  second-part : (q lo hi : ℕ) (outer : List Context) (a b : List Declared) → Between lo hi a → hi ≤ q →
+      outer ++ contextsAt q b ≡ outer ++ contextsAt q (a ++ b)
+  second-part q lo hi outer a b w h =
+      ap (λ z. outer ++ z) (sym (contexts-append q a b ∙ ap (λ z. z ++ contextsAt q b) (none-after q lo hi a w h)))
+
+  -- a part under contexts that were just declared
+  under : (q : ℕ) (outer inner : List Context) (a b : List Declared) → inner ≡ outer ++ contextsAt q a →
+      inner ++ contextsAt q b ≡ outer ++ contextsAt q (a ++ b)
+  under q outer inner a b h =
+      ap (λ z. z ++ contextsAt q b) h ∙ append-assoc outer (contextsAt q a) (contextsAt q b) ∙ ap (λ z. outer ++ z) (sym (contexts-append q a b))
+
+  mutual
+    unfolding statementDepth statementBytes conditions declared rseDepth rseBytes rseConditions rseDeclared underRse underStreams contextsAt
+
+    pub sites : (t : Statement) (sc : Scope) (p n : ℕ) (post : List ℕ) → statementDepth t ≤ n → StatementAllowed e sc t →
+        drop p s ≡ statementBytes t ++ post → All (Holds (p + 1) (p + size t) n (sc .contexts) (declared d sc t p)) (conditions d sc t p)
+    sites (assignment v t) sc p n post h a f = tt
+    sites (begin ss) sc p n post h a f =
+        let z = length-append (statementsBytes ss) (255 ∷ []) in
+        all-map (Holds (p + 1) (p + 1 + length (statementsBytes ss)) n (sc .contexts) (declaredAll d sc ss (p + 1))) _ (statementsConditions d sc ss (p + 1))
+        (widen (p + 1) (p + 1 + length (statementsBytes ss)) n (p + 1) (p + size (begin ss)) n (sc .contexts) (sc .contexts)
+        (declaredAll d sc ss (p + 1)) (declaredAll d sc ss (p + 1)) (omega arith) (omega (arith, z)) (omega arith) (λ q i j. refl))
+        (all-sites ss sc (p + 1) n _ (omega arith) a (past s p (2 ∷ []) _ f ∙ append-assoc (statementsBytes ss) (255 ∷ []) post))
+    sites (erase c) sc p n post h a f = tt
+    sites (for (rse ss cs) t) sc p n post h a f =
+        let r = rse ss cs in
+        let end = p + size (for r t) in
+        let y = length-append (headBytes ss) (clausesBytes cs) in
+        let z = length-append (rseBytes r) (statementBytes t) in
+        let m = p + 1 + length (headBytes ss) in
+        let o = p + 1 + length (rseBytes r) in
+        let inner = declared d (underRse d sc r) t o in
+        let streams = rseDeclared d r (p + 1) end in
+        let f0 : drop (p + 1) s ≡ rseBytes r ++ (statementBytes t ++ post) = past s p (7 ∷ []) _ f ∙ append-assoc (rseBytes r) (statementBytes t) post in
+        let f1 : drop (p + 1) s ≡ headBytes ss ++ (clausesBytes cs ++ (statementBytes t ++ post)) = f0 ∙ append-assoc (headBytes ss) (clausesBytes cs) (statementBytes t ++ post) in
+        let in-clauses : (q : ℕ) → m + 1 ≤ q → q < m + length (clausesBytes cs) →
+        (underStreams d sc ss) .contexts ++ contextsAt q [] ≡ sc .contexts ++ contextsAt q (streams ++ inner) =
+        λ q i j. under q (sc .contexts) ((underStreams d sc ss) .contexts) streams []
+        (ap (λ z. sc .contexts ++ z) (sym (streams-hold d q m end (omega (arith, i)) (omega (arith, j, y, z)) ss (p + 1 + 2))))
+        ∙ ap (λ z. sc .contexts ++ z) (contexts-append q streams [] ∙ ap (λ z. contextsAt q streams ++ z) (sym (none-before q (o + 1) (o + size t) inner (declared-between d t (underRse d sc r) o) (omega (arith, j, y)))) ∙ sym (contexts-append q streams inner)) in
+        let in-body : (q : ℕ) → o + 1 ≤ q → q < o + size t →
+        (underRse d sc r) .contexts ++ contextsAt q inner ≡ sc .contexts ++ contextsAt q (streams ++ inner) =
+        λ q i j. under q (sc .contexts) ((underRse d sc r) .contexts) streams inner
+        (ap (λ z. sc .contexts ++ z) (sym (streams-hold d q m end (omega (arith, i, y)) (omega (arith, j, z)) ss (p + 1 + 2)))) in
+        all-append _ (rseConditions d sc r (p + 1)) _
+        (all-map (Holds (m + 1) (m + length (clausesBytes cs)) n ((underStreams d sc ss) .contexts) []) _ (rseConditions d sc r (p + 1))
+        (widen (m + 1) (m + length (clausesBytes cs)) n (p + 1) end n ((underStreams d sc ss) .contexts) (sc .contexts) [] (streams ++ inner)
+        (omega arith) (omega (arith, y, z)) (omega arith) in-clauses)
+        (clauses-sites cs (underStreams d sc ss) false false m n _ (omega arith) (a .0 .2) (past s (p + 1) (headBytes ss) _ f1)))
+        (all-map (Holds (o + 1) (o + size t) n ((underRse d sc r) .contexts) inner) _ (conditions d (underRse d sc r) t o)
+        (widen (o + 1) (o + size t) n (p + 1) end n ((underRse d sc r) .contexts) (sc .contexts) inner (streams ++ inner)
+        (omega arith) (omega (arith, z)) (omega arith) in-body)
+        (sites t (underRse d sc r) o n post (omega arith) (a .1) (past s (p + 1) (rseBytes r) _ f0)))
+    sites (headed x t) sc p n post h a f =
+        let end = p + size (headed x t) in
+        let z = length-append (headingBytes x) (statementBytes t) in
+        let o = p + length (headingBytes x) in
+        let inner = declared d (underHeading d sc x) t o in
+        let own = headingDeclared d sc x p end in
+        let f1 : drop p s ≡ headingBytes x ++ (statementBytes t ++ post) = f ∙ append-assoc (headingBytes x) (statementBytes t) post in
+        all-map (Holds (o + 1) (o + size t) n ((underHeading d sc x) .contexts) inner) _ (conditions d (underHeading d sc x) t o)
+        (widen (o + 1) (o + size t) n (p + 1) end n ((underHeading d sc x) .contexts) (sc .contexts) inner (own ++ inner)
+        (omega arith) (omega (arith, z)) (omega arith)
+        (λ q i j. under q (sc .contexts) ((underHeading d sc x) .contexts) own inner (heading-hold sc x p end q (omega (arith, i)) (omega (arith, j, z)))))
+        (sites t (underHeading d sc x) o n post (omega arith) (a .1) (past s p (headingBytes x) _ f1))
+    sites (leave m) sc p n post h a f = tt
+    sites (if b t) sc p n post h a f =
+        let y = boolean-size b in
+        let o = p + 1 + length (booleanBytes b) in
+        let own = declared d sc t o in
+        let z = length-append (booleanBytes b ++ statementBytes t) (255 ∷ []) in
+        let x = length-append (booleanBytes b) (statementBytes t) in
+        let f1 : drop (p + 1) s ≡ booleanBytes b ++ (statementBytes t ++ (255 ∷ post)) =
+        past s p (8 ∷ []) _ f ∙ append-assoc (booleanBytes b ++ statementBytes t) (255 ∷ []) post ∙ append-assoc (booleanBytes b) (statementBytes t) (255 ∷ post) in (
+          record {
+            after = omega arith;
+            before = omega (arith, x, y, z);
+            shallow = omega arith;
+            rest = statementBytes t ++ (255 ∷ post);
+            stands = f1;
+            allowed = a .0;
+            scoped = sym (append-nil (sc .contexts)) ∙ ap (λ z. sc .contexts ++ z) (sym (none-before (p + 1) (o + 1) (o + size t) own (declared-between d t sc o) (omega (arith, y))));
+          },
+          all-map (Holds (o + 1) (o + size t) n (sc .contexts) own) _ (conditions d sc t o)
+              (widen (o + 1) (o + size t) n (p + 1) (p + size (if b t)) n (sc .contexts) (sc .contexts) own own (omega arith) (omega (arith, x, z)) (omega arith) (λ q i j. refl))
+              (sites t sc o n (255 ∷ post) (omega arith) (a .1) (past s (p + 1) (booleanBytes b) _ f1)),
+        )
+    sites (ifElse b t u) sc p n post h a f =
+        let y = boolean-size b in
+        let o = p + 1 + length (booleanBytes b) in
+        let one = declared d sc t o in
+        let two = declared d sc u (o + size t) in
+        let z = length-append (booleanBytes b ++ statementBytes t) (statementBytes u) in
+        let x = length-append (booleanBytes b) (statementBytes t) in
+        let f1 : drop (p + 1) s ≡ booleanBytes b ++ (statementBytes t ++ (statementBytes u ++ post)) =
+        past s p (8 ∷ []) _ f ∙ append-assoc (booleanBytes b ++ statementBytes t) (statementBytes u) post ∙ append-assoc (booleanBytes b) (statementBytes t) (statementBytes u ++ post) in
+        let f2 = past s (p + 1) (booleanBytes b) _ f1 in
+        let w : Between (o + 1) (o + size t) one = declared-between d t sc o in
+        let v : Between (o + size t + 1) (o + size t + size u) two = declared-between d u sc (o + size t) in (
+          record {
+            after = omega arith;
+            before = omega (arith, x, y, z);
+            shallow = omega arith;
+            rest = statementBytes t ++ (statementBytes u ++ post);
+            stands = f1;
+            allowed = a .0;
+            scoped =
+                sym (append-nil (sc .contexts)) ∙ ap (λ z. sc .contexts ++ z) (sym (none-before (p + 1) (o + 1) (o + size t) one w (omega (arith, y))))
+                ∙ first-part (p + 1) (o + size t + 1) (o + size t + size u) (sc .contexts) one two v (omega (arith, y));
+          },
+          all-append _ (conditions d sc t o) _
+              (all-map (Holds (o + 1) (o + size t) n (sc .contexts) one) _ (conditions d sc t o)
+              (widen (o + 1) (o + size t) n (p + 1) (p + size (ifElse b t u)) n (sc .contexts) (sc .contexts) one (one ++ two) (omega arith) (omega (arith, x, z)) (omega arith)
+              (λ q i j. first-part q (o + size t + 1) (o + size t + size u) (sc .contexts) one two v (omega (arith, j))))
+              (sites t sc o n _ (omega arith) (a .1) f2))
+              (all-map (Holds (o + size t + 1) (o + size t + size u) n (sc .contexts) two) _ (conditions d sc u (o + size t))
+              (widen (o + size t + 1) (o + size t + size u) n (p + 1) (p + size (ifElse b t u)) n (sc .contexts) (sc .contexts) two (one ++ two) (omega arith) (omega (arith, x, z)) (omega arith)
+              (λ q i j. second-part q (o + 1) (o + size t) (sc .contexts) one two w (omega (arith, i))))
+              (sites u sc (o + size t) n post (omega arith) (a .2) (past s o (statementBytes t) _ f2))),
+        )
+    sites (select rs) sc p n post h a f =
+        let z = length-append (receivesBytes rs) (255 ∷ []) in
+        all-map (Holds (p + 1) (p + 1 + length (receivesBytes rs)) n (sc .contexts) (receivesDeclared d sc rs (p + 1))) _ (receivesConditions d sc rs (p + 1))
+        (widen (p + 1) (p + 1 + length (receivesBytes rs)) n (p + 1) (p + size (select rs)) n (sc .contexts) (sc .contexts)
+        (receivesDeclared d sc rs (p + 1)) (receivesDeclared d sc rs (p + 1)) (omega arith) (omega (arith, z)) (omega arith) (λ q i j. refl))
+        (receives-sites rs [] sc (p + 1) n _ (omega arith) a (past s p (13 ∷ []) _ f ∙ append-assoc (receivesBytes rs) (255 ∷ []) post))
+
+    pub all-sites : (ts : Statements) (sc : Scope) (p n : ℕ) (post : List ℕ) → statementsDepth ts ≤ n → StatementsAllowed e sc ts →
+        drop p s ≡ statementsBytes ts ++ post →
+        All (Holds p (p + length (statementsBytes ts)) n (sc .contexts) (declaredAll d sc ts p)) (statementsConditions d sc ts p)
+    all-sites nothing sc p n post h a f = tt
+    all-sites (t then ts) sc p n post h a f =
+        let end = p + length (statementsBytes (t then ts)) in
+        let one = declared d sc t p in
+        let two = declaredAll d sc ts (p + size t) in
+        let z = length-append (statementBytes t) (statementsBytes ts) in
+        let w : Between (p + 1) (p + size t) one = declared-between d t sc p in
+        let v : Between (p + size t) (p + size t + length (statementsBytes ts)) two = all-between d ts sc (p + size t) in
+        let f1 : drop p s ≡ statementBytes t ++ (statementsBytes ts ++ post) = f ∙ append-assoc (statementBytes t) (statementsBytes ts) post in
+        all-append _ (conditions d sc t p) _
+        (all-map (Holds (p + 1) (p + size t) n (sc .contexts) one) _ (conditions d sc t p)
+        (widen (p + 1) (p + size t) n p end n (sc .contexts) (sc .contexts) one (one ++ two) (omega arith) (omega (arith, z)) (omega arith)
+        (λ q i j. first-part q (p + size t) (p + size t + length (statementsBytes ts)) (sc .contexts) one two v j))
+        (sites t sc p n _ (omega arith) (a .0) f1))
+        (all-map (Holds (p + size t) (p + size t + length (statementsBytes ts)) n (sc .contexts) two) _ (statementsConditions d sc ts (p + size t))
+        (widen (p + size t) (p + size t + length (statementsBytes ts)) n p end n (sc .contexts) (sc .contexts) two (one ++ two) (omega arith) (omega (arith, z)) (omega arith)
+        (λ q i j. second-part q (p + 1) (p + size t) (sc .contexts) one two w i))
+        (all-sites ts sc (p + size t) n post (omega arith) (a .1) (past s p (statementBytes t) _ f1)))
+
+    receives-sites : (rs : Receives) (before : List ℕ) (sc : Scope) (p n : ℕ) (post : List ℕ) → receivesDepth rs ≤ n → ReceivesAllowed e sc before rs →
+        drop p s ≡ receivesBytes rs ++ post →
+        All (Holds p (p + length (receivesBytes rs)) n (sc .contexts) (receivesDeclared d sc rs p)) (receivesConditions d sc rs p)
+    receives-sites (last m t) before sc p n post h a f =
+        all-map (Holds (p + 2 + 1) (p + 2 + size t) n (sc .contexts) (declared d sc t (p + 2))) _ (conditions d sc t (p + 2))
+        (widen (p + 2 + 1) (p + 2 + size t) n p (p + length (receivesBytes (last m t))) n (sc .contexts) (sc .contexts)
+        (declared d sc t (p + 2)) (declared d sc t (p + 2)) (omega arith) (omega arith) (omega arith) (λ q i j. refl))
+        (sites t sc (p + 2) n post (omega arith) (a .1) (past s p (12 ∷ m ∷ []) _ f))
+    receives-sites (more m t rs) before sc p n post h a f =
+        let end = p + length (receivesBytes (more m t rs)) in
+        let o = p + 2 in
+        let one = declared d sc t o in
+        let two = receivesDeclared d sc rs (o + size t) in
+        let z = length-append (statementBytes t) (receivesBytes rs) in
+        let w : Between (o + 1) (o + size t) one = declared-between d t sc o in
+        let v : Between (o + size t) (o + size t + length (receivesBytes rs)) two = receives-between d rs sc (o + size t) in
+        let f1 : drop o s ≡ statementBytes t ++ (receivesBytes rs ++ post) = past s p (12 ∷ m ∷ []) _ f ∙ append-assoc (statementBytes t) (receivesBytes rs) post in
+        all-append _ (conditions d sc t o) _
+        (all-map (Holds (o + 1) (o + size t) n (sc .contexts) one) _ (conditions d sc t o)
+        (widen (o + 1) (o + size t) n p end n (sc .contexts) (sc .contexts) one (one ++ two) (omega arith) (omega (arith, z)) (omega arith)
+        (λ q i j. first-part q (o + size t) (o + size t + length (receivesBytes rs)) (sc .contexts) one two v j))
+        (sites t sc o n _ (omega arith) (a .1) f1))
+        (all-map (Holds (o + size t) (o + size t + length (receivesBytes rs)) n (sc .contexts) two) _ (receivesConditions d sc rs (o + size t))
+        (widen (o + size t) (o + size t + length (receivesBytes rs)) n p end n (sc .contexts) (sc .contexts) two (one ++ two) (omega arith) (omega (arith, z)) (omega arith)
+        (λ q i j. second-part q (o + 1) (o + size t) (sc .contexts) one two w i))
+        (receives-sites rs _ sc (o + size t) n post (omega arith) (a .2) (past s o (statementBytes t) _ f1)))

@@ -1,0 +1,107 @@
+-- How a condition is worked out on its bytes. `g` says what a reference gives; the operators are the meaning's own.
+use Prim.Native.Nat.{ℕ, zero, suc, _+_}
+use mathlib.Core.List.{List}
+use lib.ListN.{length, take, drop}
+use Rattle.wire.specs.Words.{byteAt, wordAt, longAt, signed}
+use Rattle.wire.specs.Classes.{Class, valueClass, booleanClass, literalClass}
+use Rattle.wire.specs.declared.codes.Width.{Width}
+use Rattle.wire.specs.declared.codes.Width.the-variants.{Short, Long}
+use Rattle.wire.specs.declared.codes.LiteralType.{LiteralType}
+use Rattle.wire.specs.declared.codes.LiteralType.the-variants.{NumberLiteral, TextLiteral}
+use Rattle.wire.specs.declared.codes.ReferenceCode.{ReferenceCode}
+use Rattle.wire.specs.declared.codes.ReferenceCode.the-variants.{Field, Fid, Parameter, Parameter2}
+use Rattle.wire.specs.declared.codes.ValueCode.{ValueCode}
+use Rattle.wire.specs.declared.codes.ValueCode.the-variants as Code
+use Rattle.wire.specs.declared.codes.BooleanCode.{BooleanCode}
+use Rattle.wire.specs.declared.codes.BooleanCode.the-variants as Boolean
+use Rattle.dictionary.specs.Dictionary.{nameAt}
+use Rattle.dictionary.specs.Names.{named, numbered}
+use Rattle.dictionary.specs.Format.{widthBytes}
+use Rattle.grammar.specs.Tree as Tree
+use Rattle.grammar.specs.Tree.{Reference, field, parameter, parameter2}
+use Rattle.meaning.specs.declared.Truth.{Truth}
+use Rattle.meaning.specs.declared.Fault.{Fault}
+use Rattle.meaning.specs.Data.{Result, is, refused, stray, Datum, arithmeticOf, negateOf, compareOf, searchOf, betweenOf, missingOf, connected, opposite}
+use Rattle.meaning.specs.Inputs.{Fetched, literalValue}
+use Rattle.meaning.specs.Meaning.{fetchedAt}
+
+-- a thing and the place after it; or the first refusal or stray met
+pub data Walked (A : Type 0) : Type 0 where
+  at : A → ℕ → Walked A
+  fault : Fault → ℕ → Walked A
+  astray : Walked A
+
+infixl 10 _▷_
+abbrev pub _▷_ : {A B : Type 0} → Walked A → (A → ℕ → Walked B) → Walked B
+_▷_ (at a q) f = f a q
+_▷_ (fault r p) f = fault r p
+_▷_ astray f = astray
+
+-- what the meaning gives, with the place after it
+abbrev pub ended : {A : Type 0} → Result A → ℕ → Walked A
+ended (is a) q = at a q
+ended (refused r p) q = fault r p
+ended stray q = astray
+
+abbrev pub onClass : {A B : Type 0} → Class A → (A → Walked B) → Walked B
+onClass (Class.due k) f = f k
+onClass Class.leftOut f = astray
+onClass Class.foreign f = astray
+
+abbrev pub numberAt : Width → List ℕ → ℕ → ℕ
+numberAt Short s p = wordAt s p
+numberAt Long s p = longAt s p
+
+-- a literal whose type stands at p
+abbrev pub literalUnder : List ℕ → ℕ → LiteralType → Walked Datum
+literalUnder s p (NumberLiteral w) =
+    at (literalValue (Tree.Literal.number w (byteAt s (p + 1)) (numberAt w s (p + 2)))) (p + 2 + widthBytes w)
+literalUnder s p TextLiteral =
+    at (literalValue (Tree.Literal.text (take (wordAt s (p + 1)) (drop (p + 3) s)))) (p + 3 + wordAt s (p + 1))
+
+unfoldable pub literalAt : List ℕ → ℕ → Walked Datum
+literalAt s p = onClass (literalClass (byteAt s p)) (literalUnder s p)
+
+-- a reference whose code stands at p
+unfoldable pub referenceAt : (Reference → Fetched) → List ℕ → ℕ → ReferenceCode → Walked Datum
+referenceAt g s p Field = ended (fetchedAt p (g (field (byteAt s (p + 1)) (named (nameAt s (p + 2)))))) (p + 3 + byteAt s (p + 2))
+referenceAt g s p Fid = ended (fetchedAt p (g (field (byteAt s (p + 1)) (numbered (wordAt s (p + 2)))))) (p + 4)
+referenceAt g s p Parameter = ended (fetchedAt p (g (parameter (byteAt s (p + 1)) (wordAt s (p + 2))))) (p + 4)
+referenceAt g s p Parameter2 =
+    ended (fetchedAt p (g (parameter2 (byteAt s (p + 1)) (wordAt s (p + 2)) (wordAt s (p + 4))))) (p + 6)
+
+-- what stands under a value's code at p; `inner` gives the values one level down
+unfoldable pub valueUnder : (Reference → Fetched) → (ℕ → Walked Datum) → List ℕ → ℕ → ValueCode → Walked Datum
+valueUnder g inner s p Code.Literal = literalAt s (p + 1)
+valueUnder g inner s p (Code.Reference c) = referenceAt g s p c
+valueUnder g inner s p (Code.Arithmetic o) = inner (p + 1) ▷ (λ x q. inner q ▷ (λ y e. ended (arithmeticOf o p x y) e))
+valueUnder g inner s p Code.Negate = inner (p + 1) ▷ (λ x e. ended (negateOf p x) e)
+
+-- a value at a place, with so many levels left
+unfoldable pub valueAt : (Reference → Fetched) → ℕ → List ℕ → ℕ → Walked Datum
+valueAt g zero s p = astray
+valueAt g (suc l) s p = onClass (valueClass (byteAt s p)) (λ k. valueUnder g (λ q. valueAt g l s q) s p k)
+
+-- a test on values under its code at p; `and`, `or` and `not` are none
+unfoldable pub testUnder : (ℕ → Walked Datum) → ℕ → BooleanCode → Walked Truth
+testUnder values p (Boolean.Compare c) = values (p + 1) ▷ (λ x q. values q ▷ (λ y e. ended (compareOf c x y) e))
+testUnder values p (Boolean.Search t) = values (p + 1) ▷ (λ x q. values q ▷ (λ y e. ended (searchOf t x y) e))
+testUnder values p Boolean.Between =
+    values (p + 1) ▷ (λ x q. values q ▷ (λ y r. values r ▷ (λ z e. ended (betweenOf x y z) e)))
+testUnder values p (Boolean.Connect c) = astray
+testUnder values p Boolean.Not = astray
+testUnder values p Boolean.Missing = values (p + 1) ▷ (λ x e. at (missingOf x) e)
+
+-- what stands under a boolean's code at p; `values` gives the values and `inner` the booleans one level down
+unfoldable pub booleanUnder : (ℕ → Walked Datum) → (ℕ → Walked Truth) → ℕ → BooleanCode → Walked Truth
+booleanUnder values inner p (Boolean.Compare c) = testUnder values p (Boolean.Compare c)
+booleanUnder values inner p (Boolean.Search t) = testUnder values p (Boolean.Search t)
+booleanUnder values inner p Boolean.Between = testUnder values p Boolean.Between
+booleanUnder values inner p (Boolean.Connect c) = inner (p + 1) ▷ (λ x q. inner q ▷ (λ y e. at (connected c x y) e))
+booleanUnder values inner p Boolean.Not = inner (p + 1) ▷ (λ x e. at (opposite x) e)
+booleanUnder values inner p Boolean.Missing = testUnder values p Boolean.Missing
+
+unfoldable pub booleanAt : (Reference → Fetched) → ℕ → List ℕ → ℕ → Walked Truth
+booleanAt g zero s p = astray
+booleanAt g (suc l) s p =
+    onClass (booleanClass (byteAt s p)) (λ k. booleanUnder (λ q. valueAt g l s q) (λ q. booleanAt g l s q) p k)

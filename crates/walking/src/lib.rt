@@ -1,0 +1,1 @@
+// How a condition is worked out on its bytes, and that this gives its meaning.
