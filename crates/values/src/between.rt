@@ -1,0 +1,81 @@
+// Between: whether the first of three values is neither below the second nor above the third.
+ghost use mathlib.Core.Path.{_≡_};
+ghost use Rattle.meaning.specs.Data as Data;
+ghost use Rattle.values.specs.Values.{lent};
+ghost use Rattle.values.specs.Outcomes.{BothComparisons, BetweenOf};
+ghost use Rattle.values.specs.Promises.{Between};
+use crate::Tested;
+use crate::Value;
+use crate::Valued;
+use crate::comparison::comparison_of;
+use crate::operands::Operands;
+use crate::operands::in_order;
+use crate::outcomes::Outcome;
+use crate::outcomes::ended;
+use meaning::Truth;
+use wire::codes::Comparison;
+
+// Missing where either is; else both.
+fn strictly(a: Truth, b: Truth) -> Truth
+    ensures { λ r. ⌜ r ≡ Data.strictly a b ⌝ }
+{
+    match a {
+        Truth::True => b,
+        Truth::False => match b {
+            Truth::True => Truth::False,
+            Truth::False => Truth::False,
+            Truth::Missing => Truth::Missing,
+        },
+        Truth::Missing => Truth::Missing,
+    }
+}
+
+// Of the two comparisons; the first stray met stands.
+fn both_comparisons(a: Outcome, b: Outcome) -> Outcome
+    ensures { λ r. ⌜ BothComparisons a b r ⌝ }
+{
+    match a {
+        Outcome::Is(s) => match b {
+            Outcome::Is(t) => Outcome::Is(strictly(s, t)),
+            Outcome::Stray => Outcome::Stray,
+        },
+        Outcome::Stray => Outcome::Stray,
+    }
+}
+
+fn between_of<'a>(
+    request: &'a [u8],
+    images: &'a [u8],
+    records: &'a [u8],
+    x: Value,
+    y: Value,
+    z: Value,
+) -> Outcome
+    ensures { λ r. ⌜ BetweenOf (lent (now (request .entry)) (now (images .entry)) (now (records .entry))) x y z r ⌝ }
+{
+    both_comparisons(
+        comparison_of(request, images, records, Comparison::Geq, x, y),
+        comparison_of(request, images, records, Comparison::Leq, x, z),
+    )
+}
+
+pub fn between<'a>(
+    request: &'a [u8],
+    images: &'a [u8],
+    records: &'a [u8],
+    a: Valued,
+    b: Valued,
+    c: Valued,
+) -> Tested
+    ensures { λ r. ⌜ Between (lent (now (request .entry)) (now (images .entry)) (now (records .entry))) a b c r ⌝ }
+{
+    match in_order(a, b) {
+        Operands::Are(x, y, _) => match c {
+            Valued::Is(z, end) => ended(between_of(request, images, records, x, y, z), end),
+            Valued::Refused(f, p) => Tested::Refused(f, p),
+            Valued::Stray => Tested::Stray,
+        },
+        Operands::Refused(f, p) => Tested::Refused(f, p),
+        Operands::Stray => Tested::Stray,
+    }
+}

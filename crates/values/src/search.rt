@@ -1,0 +1,70 @@
+// The three searches of a text.
+ghost use Rattle.values.specs.Values.{lent};
+ghost use Rattle.values.specs.Outcomes.{MissingText, SearchedOf};
+ghost use Rattle.values.specs.Promises.{Searched};
+use crate::Tested;
+use crate::Value;
+use crate::Valued;
+use crate::logic::truth_of;
+use crate::operands::Operands;
+use crate::operands::in_order;
+use crate::outcomes::Outcome;
+use crate::outcomes::ended;
+use crate::pairs::Pair;
+use crate::pairs::paired;
+use crate::texts::text_operand;
+use meaning::Kind;
+use meaning::Truth;
+use wire::codes::TextSearch;
+
+// A missing operand of a search, which must be a text.
+fn missing_text(k: Kind) -> Outcome
+    ensures { λ r. ⌜ MissingText k r ⌝ }
+{
+    match k {
+        Kind::Number => Outcome::Stray,
+        Kind::Text => Outcome::Is(Truth::Missing),
+        Kind::Date => Outcome::Stray,
+    }
+}
+
+fn text_search_of<'a>(
+    request: &'a [u8],
+    images: &'a [u8],
+    records: &'a [u8],
+    t: TextSearch,
+    x: Value,
+    y: Value,
+) -> Outcome
+    ensures { λ r. ⌜ SearchedOf (lent (now (request .entry)) (now (images .entry)) (now (records .entry))) t x y r ⌝ }
+{
+    match paired(x, y) {
+        Pair::Numbers(_, _) => Outcome::Stray,
+        Pair::Texts(n, k) => {
+            let first = text_operand(request, images, records, n);
+            let second = text_operand(request, images, records, k);
+            Outcome::Is(truth_of(text::search::searched(t, first, second)))
+        }
+        Pair::Dates(_, _) => Outcome::Stray,
+        Pair::Lacking(k) => missing_text(k),
+        Pair::Unfit => Outcome::Stray,
+    }
+}
+
+// Whether the first text contains, matches or starts with the second.
+pub fn text_search<'a>(
+    request: &'a [u8],
+    images: &'a [u8],
+    records: &'a [u8],
+    t: TextSearch,
+    a: Valued,
+    b: Valued,
+) -> Tested
+    ensures { λ r. ⌜ Searched (lent (now (request .entry)) (now (images .entry)) (now (records .entry))) t a b r ⌝ }
+{
+    match in_order(a, b) {
+        Operands::Are(x, y, end) => ended(text_search_of(request, images, records, t, x, y), end),
+        Operands::Refused(f, p) => Tested::Refused(f, p),
+        Operands::Stray => Tested::Stray,
+    }
+}
