@@ -1,0 +1,149 @@
+-- Every context that an allowed request declares has a relation of the dictionary.
+use Prim.Native.Nat.{ℕ, _+_}
+use mathlib.Core.Path.{_≡_, refl, ap, subst, _∙_}
+use mathlib.Core.Bool.{Bool, true, false, cond}
+use mathlib.Core.List.{List, [], _∷_, _++_, map}
+use mathlib.Core.Option.{Option, none, some}
+use lib.Dec.{eqb}
+use lib.ListN.{length}
+use Rattle.wire.specs.Lists.{find, isSome, _andThen_}
+use Rattle.dictionary.specs.Dictionary.{Relation}
+use Rattle.dictionary.specs.Names.{Name, relationOf}
+use Rattle.grammar.specs.Tree.{Stream, Heading, loop, modify, handler, receive, send, store, label, Rse, rse, Statement, assignment, begin, erase, for, headed, leave, if, ifElse, select, Statements, none as nothing, _then_, Receives, last, more}
+use Rattle.grammar.specs.Bytes.{streamBytes, headBytes, rseBytes, headingBytes, booleanBytes}
+use Rattle.grammar.specs.Names.{Environment, Context, Scope, streamContext, modifyContext, contextOf, relationOfContext, underStreams, underRse, underHeading}
+use Rattle.grammar.specs.Scope.{StreamScoped, StreamsScoped, HeadingScoped, ofFor, openedByFor}
+use Rattle.grammar.specs.Rules.{RseAllowed, StatementAllowed, StatementsAllowed, ReceivesAllowed}
+use Rattle.grammar.specs.Rows.{size}
+use Rattle.walking.specs.Declared.{Declared, streamsDeclared, rseDeclared, headingDeclared, declared, declaredAll, receivesDeclared, keptIf, holdsAt, contextsAt}
+use Rattle.grammar.proofs.StepLaws.{absurd-eq}
+use Rattle.walking.proofs.Sites.{All, all-append}
+
+-- a context whose relation the dictionary has, under some name
+abbrev pub Named : List Relation → Context → Type 0
+Named rs x = (n : Name) × (r : Relation) × (x .relation ≡ some r) × (relationOf rs n ≡ some r)
+
+abbrev NamedAt : List Relation → Declared → Type 0
+NamedAt rs x = Named rs (x .context)
+
+some-of : {A : Type 0} (o : Option A) → isSome o ≡ true → (x : A) × (o ≡ some x)
+some-of none e = absurd-eq (cc)
+some-of (some x) e = (x, refl)
+
+find-all : {A : Type 0} (P : A → Type 0) (t : A → Bool) (l : List A) (y : A) → All P l → find t l ≡ some y → P y
+unfolding find
+find-all P t [] y a e = absurd-eq (cc)
+find-all P t (x ∷ l) y a e = by (t x) e (find-all P t l y (a .1))
+  where
+    by : (b : Bool) → cond b (some x) (find t l) ≡ some y → (find t l ≡ some y → P y) → P y
+    by true f next = let z : x ≡ y = cc in subst P z (a .0)
+    by false f next = next f
+
+stream-named : (rs : List Relation) (sc : Scope) (f : Bool) (s : Stream) → StreamScoped rs sc s → Named rs (streamContext rs f s)
+stream-named rs sc f s h = let x = some-of (relationOf rs (s .relation)) (h .0) in (s .relation, x .0, x .1, x .1)
+
+streams-named : (rs : List Relation) (sc : Scope) (ss : List Stream) → StreamsScoped rs sc ss →
+    All (Named rs) (map (streamContext rs true) ss)
+streams-named rs sc [] h = tt
+streams-named rs sc (s ∷ ss) h = (stream-named rs sc true s (h .0), streams-named rs (underStreams rs sc (s ∷ [])) ss (h .1))
+
+streams-declared : (rs : List Relation) (sc : Scope) (ss : List Stream) (p start end : ℕ) → StreamsScoped rs sc ss →
+    All (NamedAt rs) (streamsDeclared rs ss p start end)
+unfolding streamsDeclared
+streams-declared rs sc [] p start end h = tt
+streams-declared rs sc (s ∷ ss) p start end h =
+    (stream-named rs sc true s (h .0), streams-declared rs (underStreams rs sc (s ∷ [])) ss (p + length (streamBytes s)) start end (h .1))
+
+-- the context that a modify opens has the relation of the one that it names
+modify-named : (rs : List Relation) (sc : Scope) (from to : ℕ) → All (Named rs) (sc .contexts) → ofFor sc from ≡ true →
+    Named rs (modifyContext sc from to)
+unfolding ofFor contextOf relationOfContext
+modify-named rs sc from to a h = by (find (λ x. eqb (x .number) from) (sc .contexts)) refl h
+  where
+    by : (o : Option Context) → find (λ x. eqb (x .number) from) (sc .contexts) ≡ o → openedByFor o ≡ true →
+        Named rs (modifyContext sc from to)
+    by none e g = absurd-eq (cc)
+    by (some y) e g =
+        let n = find-all (Named rs) (λ x. eqb (x .number) from) (sc .contexts) y a e in
+        (n .0, n .1, ap (λ o. o andThen λ x. x .relation) e ∙ n .2, n .3)
+
+module _ (e : Environment) where
+  abbrev relations : List Relation
+  relations = e .relations
+
+  abbrev ScopeNamed : Scope → Type 0
+  ScopeNamed sc = All (Named relations) (sc .contexts)
+
+  abbrev DeclaredNamed : List Declared → Type 0
+  DeclaredNamed ds = All (NamedAt relations) ds
+
+  heading-named : (sc : Scope) (h : Heading) (p end : ℕ) → ScopeNamed sc → HeadingScoped e sc h →
+      DeclaredNamed (headingDeclared relations sc h p end) × ScopeNamed (underHeading relations sc h)
+  unfolding headingDeclared underHeading
+  heading-named sc loop p end a h = (tt, a)
+  heading-named sc (modify from to) p end a h =
+      let x = modify-named relations sc from to a (h .0) in
+      ((x, tt), all-append (Named relations) (sc .contexts) (modifyContext sc from to ∷ []) a (x, tt))
+  heading-named sc handler p end a h = (tt, a)
+  heading-named sc (receive m) p end a h = (tt, a)
+  heading-named sc (send m) p end a h = (tt, a)
+  heading-named sc (store s) p end a h =
+      let x = stream-named relations sc false s h in
+      ((x, tt), all-append (Named relations) (sc .contexts) (streamContext relations false s ∷ []) a (x, tt))
+  heading-named sc (label n) p end a h = (tt, a)
+
+  rse-named : (sc : Scope) (r : Rse) (p end : ℕ) → ScopeNamed sc → RseAllowed e sc r →
+      DeclaredNamed (rseDeclared relations r p end) × ScopeNamed (underRse relations sc r)
+  unfolding rseDeclared underRse underStreams
+  rse-named sc (rse ss cs) p end a h = (
+    streams-declared relations sc ss (p + 2) (p + length (headBytes ss)) end (h .1),
+    all-append (Named relations) (sc .contexts) (map (streamContext relations true) ss) a (streams-named relations sc ss (h .1)),
+  )
+
+  mutual
+    unfolding declared
+
+    pub declared-named : (t : Statement) (sc : Scope) (p : ℕ) → ScopeNamed sc → StatementAllowed e sc t →
+        DeclaredNamed (declared relations sc t p)
+    declared-named (assignment v t) sc p a h = tt
+    declared-named (begin ss) sc p a h = all-named ss sc (p + 1) a h
+    declared-named (erase c) sc p a h = tt
+    declared-named (for r s) sc p a h =
+        let x = rse-named sc r (p + 1) (p + size (for r s)) a (h .0) in
+        all-append (NamedAt relations) (rseDeclared relations r (p + 1) (p + size (for r s))) _ (x .0)
+        (declared-named s (underRse relations sc r) (p + 1 + length (rseBytes r)) (x .1) (h .1))
+    declared-named (headed g s) sc p a h =
+        let x = heading-named sc g p (p + size (headed g s)) a (h .0) in
+        all-append (NamedAt relations) (headingDeclared relations sc g p (p + size (headed g s))) _ (x .0)
+        (declared-named s (underHeading relations sc g) (p + length (headingBytes g)) (x .1) (h .1))
+    declared-named (leave n) sc p a h = tt
+    declared-named (if b s) sc p a h = declared-named s sc (p + 1 + length (booleanBytes b)) a (h .1)
+    declared-named (ifElse b s t) sc p a h =
+        all-append (NamedAt relations) (declared relations sc s (p + 1 + length (booleanBytes b))) _
+        (declared-named s sc (p + 1 + length (booleanBytes b)) a (h .1))
+        (declared-named t sc (p + 1 + length (booleanBytes b) + size s) a (h .2))
+    declared-named (select rs) sc p a h = receives-named rs [] sc (p + 1) a h
+
+    pub all-named : (ts : Statements) (sc : Scope) (p : ℕ) → ScopeNamed sc → StatementsAllowed e sc ts →
+        DeclaredNamed (declaredAll relations sc ts p)
+    all-named nothing sc p a h = tt
+    all-named (s then ss) sc p a h =
+        all-append (NamedAt relations) (declared relations sc s p) _ (declared-named s sc p a (h .0))
+        (all-named ss sc (p + size s) a (h .1))
+
+    receives-named : (rs : Receives) (before : List ℕ) (sc : Scope) (p : ℕ) → ScopeNamed sc → ReceivesAllowed e sc before rs →
+        DeclaredNamed (receivesDeclared relations sc rs p)
+    receives-named (last m s) before sc p a h = declared-named s sc (p + 2) a (h .1)
+    receives-named (more m s rs) before sc p a h =
+        all-append (NamedAt relations) (declared relations sc s (p + 2)) _ (declared-named s sc (p + 2) a (h .1))
+        (receives-named rs (before ++ (m ∷ [])) sc (p + 2 + size s) a (h .2))
+
+-- so every context in scope has one
+pub at-named : (rs : List Relation) (q : ℕ) (ds : List Declared) → All (NamedAt rs) ds → All (Named rs) (contextsAt q ds)
+unfolding contextsAt
+at-named rs q [] a = tt
+at-named rs q (x ∷ ds) a = by (holdsAt q x) (at-named rs q ds (a .1))
+  where
+    by : (b : Bool) → All (Named rs) (contextsAt q ds) → All (Named rs) (keptIf b (x .context) (contextsAt q ds))
+    by true h = (a .0, h)
+    by false h = h

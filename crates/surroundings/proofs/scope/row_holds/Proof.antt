@@ -1,0 +1,60 @@
+-- `surroundings::scope::row_holds` meets its contract. By the test of the scope's start. Assumes nothing.
+use Rattle.surroundings.proofs.ContextLoops.{holds-late, holds-early}
+use borrow.Author.Needs.{needs}
+use Rattle.surroundings.proofs.scope.row_holds.Statement.{statement}
+use Rattle.surroundings.proofs.scope.row_holds.Tie as tie
+
+mul-number-at : tie.Need-mul-number-at
+mul-number-at c = search needs
+
+add-number-at : tie.Need-add-number-at
+add-number-at c = search needs
+
+number-at-requires : tie.Need-number-at-requires
+number-at-requires c κs = search needs
+
+cast-if1 : tie.Need-cast-if1
+cast-if1 c = search needs
+
+mul-number-at-2 : tie.Need-mul-number-at-2
+mul-number-at-2 c = search needs
+
+add-number-at-2 : tie.Need-add-number-at-2
+add-number-at-2 c = search needs
+
+number-at-requires-2 : tie.Need-number-at-requires-2
+number-at-requires-2 c κs = search needs
+
+cast-result : tie.Need-cast-result
+cast-result c = search needs
+
+returns : tie.Need-returns
+returns c =
+    let args′ = c .before .before .before .before .args in
+    let number-at′ = c .before .before .number-at in
+    let number-at2′ = c .number-at2 in
+    let if1′ = c .before .if1 in
+    holds-late (args′ .contexts .now) (args′ .at) (args′ .row) (number-at′ .result) (number-at2′ .result)
+    (number-at′ .ensures) (if1′ .taken) (number-at2′ .ensures)
+
+returns-2 : tie.Need-returns-2
+returns-2 c =
+    let args′ = c .before .before .before .args in
+    let number-at′ = c .before .number-at in
+    let if1′ = c .if1 in
+    holds-early (args′ .contexts .now) (args′ .at) (args′ .row) (number-at′ .result) 0 (number-at′ .ensures) (if1′ .left)
+
+pub row-holds-spec : {M : Type 1} → statement M
+row-holds-spec =
+    tie.close
+    (tie.spec
+    mul-number-at
+    add-number-at
+    number-at-requires
+    cast-if1
+    mul-number-at-2
+    add-number-at-2
+    number-at-requires-2
+    cast-result
+    returns
+    returns-2)

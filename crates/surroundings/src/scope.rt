@@ -1,0 +1,97 @@
+// Contexts in scope by the rows of the context table: number, place, scope start, scope end, relation id. Document 01 has 32 context
+// declarations at most, and rows and slots after those are not looked at.
+ghost use mathlib.Core.Path.{_≡_};
+ghost use Prim.Native.Nat.{_≤_, min};
+ghost use Rattle.dictionary.specs.Names.{numbered};
+ghost use Rattle.dictionary.specs.Walk.{relationPlace};
+ghost use Rattle.surroundings.specs.Slots.{rowHolds, placeOr, slotsFrom};
+ghost use Rattle.surroundings.specs.Around.{slotAt};
+ghost use Rattle.surroundings.specs.Tables.{slotsIn, Laid, foundAnswer};
+use crate::Found;
+use crate::table::number_at;
+use crate::table::put;
+use crate::table::smaller;
+use dictionary::lookup::Place;
+use dictionary::lookup::relation_numbered;
+use wire::bytes::word_at;
+use wire::numbers::ContextNumber;
+
+// Whether a context row's scope holds a place.
+fn row_holds(contexts: &[u32], at: usize, row: usize) -> bool
+    requires { ⌜ row ≤ 32 ⌝ }
+    ensures { λ r. ⌜ r ≡ rowHolds (now (contexts .entry)) at row ⌝ }
+{
+    if number_at(contexts, row * 5 + 2) as usize <= at {
+        return at < number_at(contexts, row * 5 + 3) as usize;
+    }
+    false
+}
+
+// Where the entry of the relation of an id stands; 0 where there is none.
+fn entry_of(dictionary: &[u8], id: u32) -> u32
+    ensures { λ r. ⌜ r ≡ placeOr (relationPlace (now (dictionary .entry)) (numbered id)) ⌝ }
+{
+    let place = relation_numbered(dictionary, id);
+    match place {
+        Place::At(p) => p as u32,
+        Place::Unknown => 0,
+    }
+}
+
+// The contexts in scope at a place: their numbers, and where the entries of their relations stand. What does not fit a table is not
+// written, and the count is of all.
+pub fn in_scope(
+    dictionary: &[u8],
+    contexts: &[u32],
+    count: usize,
+    at: usize,
+    numbers: &mut [u32],
+    relations: &mut [u32],
+) -> usize
+    ensures { λ r.
+        ⌜ Laid (slotsFrom (now (dictionary .entry)) (now (contexts .entry)) at (min count 32) 0)
+        (now (numbers .entry)) (now (relations .entry)) (now (numbers .exit)) (now (relations .exit)) r ⌝ }
+{
+    let rows = smaller(count, 32);
+    let mut row: usize = 0;
+    let mut filled: usize = 0;
+    while row < rows {
+        if row_holds(contexts, at, row) {
+            put(numbers, filled, number_at(contexts, row * 5));
+            put(
+                relations,
+                filled,
+                entry_of(dictionary, number_at(contexts, row * 5 + 4)),
+            );
+            filled += 1;
+        }
+        row += 1;
+    }
+    filled
+}
+
+// The context of a number, among so many slots. Its record stands after those of the slots before it, by their length words.
+pub fn slot_of(
+    numbers: &[u32],
+    relations: &[u32],
+    count: usize,
+    records: &[u8],
+    number: ContextNumber,
+) -> Found
+    ensures { λ r.
+        ⌜ r ≡ foundAnswer
+        (slotAt (slotsIn (now (numbers .entry)) (now (relations .entry)) (min count 32) 0) (now (records .entry)) 0 (number .0)) ⌝ }
+{
+    let slots = smaller(count, 32);
+    let mut k: usize = 0;
+    let mut p: usize = 0;
+    while k < slots {
+        let next = p + word_at(records, p) as usize;
+        if number_at(numbers, k) == number.0 as u32 {
+            return Found::At(number_at(relations, k) as usize, p);
+        }
+        p = next;
+        k += 1;
+    }
+    Found::Nothing
+}
