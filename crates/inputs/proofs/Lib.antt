@@ -1,0 +1,6 @@
+-- Laws that the proofs of the code cite.
+pub mod PastEnd
+pub mod TextLaws
+pub mod FieldLaws
+pub mod LiteralLaws
+pub mod ReferenceLaws

@@ -1,0 +1,101 @@
+-- What the code's answers stand for, beside the slices that were lent.
+use Prim.Native.Nat.{ℕ, _+_, _-_, _≤_, min}
+use mathlib.Core.Path.{_≡_}
+use mathlib.Core.Bool.{Bool, true, false, cond}
+use mathlib.Core.List.{List}
+use lib.Dec.{ltb}
+use lib.IntN.{ℤ, pos}
+use lib.ListN.{length, take, drop}
+use Rattle.wire.specs.Words.{byteAt, wordAt, longAt, signed}
+use Rattle.wire.specs.declared.codes.Width.{Width}
+use Rattle.wire.specs.declared.codes.TextType.{TextType}
+use Rattle.wire.specs.declared.codes.ReferenceCode.{ReferenceCode}
+use Rattle.wire.specs.declared.codes.ReferenceCode.the-variants.{Field, Fid, Parameter, Parameter2}
+use Rattle.decimal.specs.declared.Number.{Number}
+use Rattle.dictionary.specs.Dictionary.{nameAt}
+use Rattle.dictionary.specs.Names.{named, numbered}
+use Rattle.grammar.specs.Tree.{Reference, field, parameter, parameter2}
+use Rattle.meaning.specs.Inputs as Inputs
+use Rattle.meaning.specs.Inputs.{onFound, flagged, unlessFlagged}
+use Rattle.walking.specs.Walk as Walk
+use Rattle.values.specs.declared.Source.{Source}
+use Rattle.values.specs.declared.Held.{Held}
+use Rattle.values.specs.declared.Date.{Date}
+use Rattle.values.specs.Values.{Lent, sourceIn, datum}
+use Rattle.surroundings.specs.Slots.{Slot}
+use Rattle.surroundings.specs.Parameters.{parameterFrom}
+use Rattle.surroundings.specs.Around.{rowValue, around}
+use Rattle.surroundings.specs.Tables.{slotsIn}
+use Rattle.inputs.specs.declared.Fetched.{Fetched}
+use Rattle.inputs.specs.declared.Fetched.the-variants.{Value, Malformed, Nothing}
+use Rattle.inputs.specs.declared.numbers.Sign.{Sign}
+use Rattle.inputs.specs.declared.numbers.Sign.the-variants.{Signed, Unsigned}
+use Rattle.inputs.specs.declared.parameters.Flag.{Flag}
+use Rattle.inputs.specs.declared.parameters.Flag.the-variants as Flag
+
+-- what was fetched: a value, a malformed text, or nothing
+abbrev pub fetchedIn : Lent → Fetched → Inputs.Fetched
+fetchedIn m (Value v) = Inputs.value (datum m v)
+fetchedIn m Malformed = Inputs.malformed
+fetchedIn m Nothing = Inputs.nothing
+
+-- the answer stands for x, whatever is lent beside the bytes s of its source
+abbrev pub Gives : Source → List ℕ → Fetched → Inputs.Fetched → Type 0
+Gives source s r x = (m : Lent) → sourceIn m source ≡ s → fetchedIn m r ≡ x
+
+-- the integer of a width at a place, and the number of a scale byte
+abbrev pub integerAt : Sign → Width → List ℕ → ℕ → ℤ
+integerAt Signed w s p = Inputs.numberAt w s p
+integerAt Unsigned w s p = pos (Walk.numberAt w s p)
+
+abbrev pub numberOf : Sign → Width → ℕ → List ℕ → ℕ → Number
+numberOf sign w scale s p = record { value = integerAt sign w s p; scale = signed 1 scale }
+
+-- a signed day, then an unsigned fraction
+abbrev pub dateOf : List ℕ → ℕ → Date
+dateOf s p = record { day = signed 4 (longAt s p); fraction = longAt s (p + 4) }
+
+-- a place, or the end where it lies past it: what stands there is the same
+unfoldable pub clamped : List ℕ → ℕ → ℕ
+clamped s q = cond (ltb q (length s)) q (length s)
+
+-- h holds those of the n bytes at p that the slice s has
+pub record Holds (source : Source) (t : TextType) (n : ℕ) (s : List ℕ) (p : ℕ) (h : Held) : Type 0 where
+  pub source-is : h .source ≡ source
+  pub type-is : h .of ≡ t
+  pub ordered : h .start ≤ h .end
+  pub within : h .end ≤ length s
+  pub bytes : take (h .end - h .start) (drop (h .start) s) ≡ take n (drop p s)
+
+-- what follows a flag: `f` of whether it is zero
+abbrev pub byFlag : Flag → (Bool → Inputs.Fetched) → Inputs.Fetched
+byFlag Flag.Zero f = f true
+byFlag Flag.Set f = f false
+byFlag Flag.Nothing f = Inputs.nothing
+
+-- a parameter with its flag, by the rows of the table
+abbrev pub flaggedValue : List ℕ → ℕ → List ℕ → ℕ → ℕ → ℕ → Inputs.Fetched
+flaggedValue t count images m i flag =
+    onFound (parameterFrom t m i count 0 0) (λ x. flagged (rowValue t count images m flag) (unlessFlagged (x .0) images (x .1)))
+
+-- the contexts in scope that two tables hold, 32 at most
+abbrev pub slotsLent : List ℕ → List ℕ → ℕ → List Slot
+slotsLent numbers relations count = slotsIn numbers relations (min count 32) 0
+
+-- what a reference gives: contexts in scope from two tables, parameters from the rows of a third, 256 at most
+abbrev pub lentAround : List ℕ → List ℕ → List ℕ → ℕ → List ℕ → ℕ → List ℕ → List ℕ → Reference → Inputs.Fetched
+lentAround d numbers relations count parameters rows images records =
+    around d (slotsLent numbers relations count) parameters (min rows 256) images records
+
+-- the reference whose code stands at p, and the place after it
+abbrev pub referenceIn : List ℕ → ℕ → ReferenceCode → Reference
+referenceIn s p Field = field (byteAt s (p + 1)) (named (nameAt s (p + 2)))
+referenceIn s p Fid = field (byteAt s (p + 1)) (numbered (wordAt s (p + 2)))
+referenceIn s p Parameter = parameter (byteAt s (p + 1)) (wordAt s (p + 2))
+referenceIn s p Parameter2 = parameter2 (byteAt s (p + 1)) (wordAt s (p + 2)) (wordAt s (p + 4))
+
+abbrev pub referenceEnd : List ℕ → ℕ → ReferenceCode → ℕ
+referenceEnd s p Field = p + 3 + byteAt s (p + 2)
+referenceEnd s p Fid = p + 4
+referenceEnd s p Parameter = p + 4
+referenceEnd s p Parameter2 = p + 6

@@ -1,0 +1,2 @@
+-- What messages, records and literals hold, as the code has it.
+pub mod Answers

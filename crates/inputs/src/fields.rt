@@ -1,0 +1,125 @@
+// The fields of records.
+ghost use mathlib.Core.Path.{_≡_};
+ghost use mathlib.Core.Bool.{_||_};
+ghost use Rattle.wire.specs.Words.{wordAt};
+ghost use Rattle.dictionary.specs.Names.{named, numbered};
+ghost use Rattle.dictionary.specs.Walk.{relationAt};
+ghost use Rattle.records.specs.Record.{bitAt, readingMissing, fieldPlace};
+ghost use Rattle.meaning.specs.Inputs.{fieldIn};
+ghost use Rattle.surroundings.specs.Around.{slotField, slotValue};
+ghost use Rattle.inputs.specs.Answers.{Gives, clamped, slotsLent};
+use crate::Fetched;
+use crate::stored::kind_held;
+use crate::stored::value_at;
+use dictionary::field::Index;
+use dictionary::field::described;
+use dictionary::field::field_entry;
+use dictionary::field::field_named;
+use dictionary::lookup::Place;
+use records::lengths::Length;
+use records::lengths::offset_within;
+use records::missing::missing_bit;
+use surroundings::Found;
+use surroundings::scope::slot_of;
+use values::Source;
+use values::Value;
+use wire::bytes::word_at;
+use wire::codes::FieldType;
+use wire::numbers::ContextNumber;
+
+// Where field i stands in the record at p, or the end of the records where that lies past it.
+fn field_place(d: &[u8], relation: usize, s: &[u8], p: usize, i: usize) -> usize
+    ensures { λ r. ⌜ r ≡ clamped (now (s .entry)) (fieldPlace (relationAt (now (d .entry)) relation) p i) ⌝ }
+{
+    if s.len() <= p {
+        return s.len();
+    }
+    let offset = offset_within(d, relation, i, s.len() - p);
+    match offset {
+        Length::Is(n) => p + n,
+        Length::Long => s.len(),
+    }
+}
+
+// "A field is missing if its bit is set, or if it is a reading of 65535." Field i has its bytes at a place, in the record at p.
+fn is_missing(t: FieldType, s: &[u8], p: usize, i: usize, at: usize) -> bool
+    ensures { λ r. ⌜ r ≡ (bitAt (now (s .entry)) p i || readingMissing t (wordAt (now (s .entry)) at)) ⌝ }
+{
+    if missing_bit(s, p, i) {
+        return true;
+    }
+    match t {
+        FieldType::Plain(_) => false,
+        FieldType::Reading => word_at(s, at) == 65535,
+    }
+}
+
+// Field i of a relation, in the record at p.
+fn field_in(d: &[u8], relation: usize, s: &[u8], p: usize, i: usize) -> Fetched
+    ensures { λ r. ⌜ Gives Source.Records (now (s .entry)) r (fieldIn (relationAt (now (d .entry)) relation) (now (s .entry)) p i) ⌝ }
+{
+    let entry = field_entry(d, relation, i);
+    match entry {
+        Place::At(q) => {
+            let x = described(d, q);
+            let t = x.data_type;
+            let at = field_place(d, relation, s, p, i);
+            if is_missing(t, s, p, i, at) {
+                return Fetched::Value(Value::Missing(kind_held(x)));
+            }
+            value_at(x, Source::Records, s, at)
+        }
+        Place::Unknown => Fetched::Nothing,
+    }
+}
+
+// The field of a name, of a relation, in the record at p.
+fn named_in(d: &[u8], relation: usize, s: &[u8], p: usize, name: &[u8]) -> Fetched
+    ensures { λ r. ⌜ Gives Source.Records (now (s .entry)) r (slotField (now (d .entry)) (now (s .entry)) (named (now (name .entry))) relation p) ⌝ }
+{
+    let index = field_named(d, relation, name);
+    match index {
+        Index::Is(i) => field_in(d, relation, s, p, i),
+        Index::Unknown => Fetched::Nothing,
+    }
+}
+
+// The field of a name, of the context of a number.
+pub fn by_name(
+    d: &[u8],
+    numbers: &[u32],
+    relations: &[u32],
+    count: usize,
+    s: &[u8],
+    context: ContextNumber,
+    name: &[u8],
+) -> Fetched
+    ensures { λ r. ⌜ Gives Source.Records (now (s .entry)) r (slotValue (now (d .entry))
+        (slotsLent (now (numbers .entry)) (now (relations .entry)) count) (now (s .entry)) 0 (context .0) (named (now (name .entry)))) ⌝ }
+{
+    let slot = slot_of(numbers, relations, count, s, context);
+    match slot {
+        Found::At(relation, p) => named_in(d, relation, s, p, name),
+        Found::Nothing => Fetched::Nothing,
+    }
+}
+
+// The field of an id, of the context of a number.
+pub fn by_id(
+    d: &[u8],
+    numbers: &[u32],
+    relations: &[u32],
+    count: usize,
+    s: &[u8],
+    context: ContextNumber,
+    id: usize,
+) -> Fetched
+    ensures { λ r. ⌜ Gives Source.Records (now (s .entry)) r (slotValue (now (d .entry))
+        (slotsLent (now (numbers .entry)) (now (relations .entry)) count) (now (s .entry)) 0 (context .0) (numbered id)) ⌝ }
+{
+    let slot = slot_of(numbers, relations, count, s, context);
+    match slot {
+        Found::At(relation, p) => field_in(d, relation, s, p, id),
+        Found::Nothing => Fetched::Nothing,
+    }
+}
