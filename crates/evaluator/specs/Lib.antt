@@ -1,0 +1,3 @@
+-- What the code of evaluation is handed, and what it answers.
+pub mod Given
+pub mod AfterReading

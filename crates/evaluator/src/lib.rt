@@ -1,0 +1,50 @@
+// Evaluation: a condition of a request, by its number, with messages and records.
+ghost use Rattle.meaning.specs.Evaluated.{Evaluated};
+use grammar::Reading;
+use meaning::Evaluation;
+use reader::read_noting;
+
+mod answers;
+mod booleans;
+mod conditions;
+mod operands;
+mod tests;
+
+// The condition of a number, from 0 in reading order: what it comes out as with these message images and records, or the refusal and its place.
+pub fn evaluate<'a>(
+    request: &'a [u8],
+    dictionary: &[u8],
+    number: usize,
+    images: &'a [u8],
+    records: &'a [u8],
+) -> Evaluation
+    ensures { λ r. ⌜ Evaluated (now (request .entry)) (now (dictionary .entry)) number (now (images .entry)) (now (records .entry)) r ⌝ }
+{
+    let mut statements = [0u32; 2048];
+    let mut parameters = [0u32; 1536];
+    let mut contexts = [0u32; 160];
+    let mut places = [0u32; 512];
+    let reading = read_noting(
+        request,
+        dictionary,
+        &mut statements,
+        &mut parameters,
+        &mut contexts,
+        &mut places,
+    );
+    match reading {
+        Reading::Accepted(_, rows, declared) => conditions::evaluate_read(
+            request,
+            dictionary,
+            &parameters,
+            &contexts,
+            &places,
+            rows,
+            declared,
+            number,
+            images,
+            records,
+        ),
+        Reading::Refused(r, p) => Evaluation::Refused(r, p),
+    }
+}
