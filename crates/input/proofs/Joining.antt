@@ -43,4 +43,5 @@ joined-is {s} {p} {kind} {lent} {lent′} {r} h fits =
     let all = joined s p kind in
     let short = joined-short s kind p in
     let whole′ : lent′ ≡ all ++ drop (0 + length all) lent = h .filled ∙ sets-eq all lent 0 (omega (arith, short)) in
-    (omega (arith, h .count, short, ap length (h .filled), length-sets lent 0 all), rw (whole′, h .count) (take-at all (drop (0 + length all) lent) (length all) refl))
+    let same : length lent′ ≡ length lent = ap length (h .filled) ∙ length-sets lent 0 all in
+    (omega (arith, h .count, short, same), rw (whole′, h .count) (take-at all (drop (0 + length all) lent) (length all) refl))
