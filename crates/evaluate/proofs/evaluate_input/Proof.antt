@@ -104,7 +104,7 @@ returns c =
     rw (
       ← found .before .before .evaluation-entries .ensures,
       found .request .given .1,
-      c .evaluate .ensures,
+      c .evaluate .ensures .answered,
       c .before .before .before .word-at .ensures .0,
       messages joins .1,
       take-all (length bytes - records) (drop records bytes) (omega (arith, length-drop records bytes)),
