@@ -1,4 +1,4 @@
--- The two entries of an input stand inside it.
+-- The entries of an input stand inside it.
 use Prim.Native.Nat.{ℕ, _+_, _≤_}
 use mathlib.Core.Path.{_≡_, refl, sym, ap, _∙_}
 use mathlib.Core.Bool.{Bool, true, false, cond, _&&_}
@@ -13,11 +13,11 @@ use Rattle.input.specs.Input.{whole, requestEntry, inputAnswer}
 use Rattle.input.specs.declared.Input.{Input}
 use Rattle.input.specs.declared.Input.the-variants as Input
 
-both : (a b : Bool) → a && b ≡ true → (a ≡ true) × (b ≡ true)
+pub both : (a b : Bool) → a && b ≡ true → (a ≡ true) × (b ≡ true)
 both true b e = (refl, e)
 both false b e = let z : _≡_ {A = ℕ} 0 1 = cc in absurd (omega arith)
 
-whole-inside : (s : List ℕ) (p k : ℕ) → whole s p k ≡ true → (4 ≤ wordAt s p) × (p + wordAt s p ≤ length s)
+pub whole-inside : (s : List ℕ) (p k : ℕ) → whole s p k ≡ true → (4 ≤ wordAt s p) × (p + wordAt s p ≤ length s)
 unfolding whole
 whole-inside s p k h =
     let u = both (leb 4 (wordAt s p) && leb (p + wordAt s p) (length s)) (eqb (wordAt s (p + 2)) k) h in

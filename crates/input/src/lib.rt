@@ -1,13 +1,21 @@
 // What the programs read from standard input: whole entries, one after another.
 ghost use mathlib.Core.Path.{_≡_};
-ghost use Prim.Native.Nat.{_≤_};
-ghost use lib.ListN.{length};
+ghost use Prim.Native.Nat.{_+_, _^_, _<_};
+ghost use lib.ListN.{length, set};
+ghost use lib.Seq.{sets};
 ghost use Rattle.input.specs.Input.{whole, inputAnswer, requestEntry};
+ghost use Rattle.input.specs.Evaluation.{wholeNumber, afterEntries, evaluationInput, Joined};
 use wire::bytes::word_at;
 
 // The place of the request's entry after the dictionary's, or that the input is not these two entries.
 pub enum Input {
     Request(usize),
+    Bad,
+}
+
+// The places of the request's entry, of the number's entry and of the first record, or that the input is not an evaluation's.
+pub enum EvaluationInput {
+    Entries(usize, usize, usize),
     Bad,
 }
 
@@ -44,4 +52,88 @@ pub fn request_entry(s: &[u8]) -> Input
     } else {
         Input::Bad
     }
+}
+
+// Whether an entry of kind 9 with one word stands at a place.
+fn is_number(s: &[u8], at: usize) -> bool
+    ensures { λ r. ⌜ r ≡ wholeNumber (now (s .entry)) at ⌝ }
+{
+    if !is_whole(s, at, 9) {
+        return false;
+    }
+    word_at(s, at) == 6
+}
+
+// The place after the entries of a kind that stand one after another from a place on.
+pub fn after_entries(s: &[u8], at: usize, kind: u32) -> usize
+    ensures { λ r. ⌜ r ≡ afterEntries (now (s .entry)) at kind ⌝ }
+{
+    let mut p = at;
+    while is_whole(s, p, kind) {
+        p += word_at(s, p) as usize;
+    }
+    p
+}
+
+// The entries of the program `evaluate`: of kinds 4, 5 and 9, then those of kind 10, then those of kind 3, and nothing more.
+pub fn evaluation_entries(s: &[u8]) -> EvaluationInput
+    ensures { λ r. ⌜ r ≡ evaluationInput (now (s .entry)) ⌝ }
+{
+    if s.len() > 3000000 {
+        return EvaluationInput::Bad;
+    }
+    if !is_whole(s, 0, 4) {
+        return EvaluationInput::Bad;
+    }
+    let request = word_at(s, 0) as usize;
+    if !is_whole(s, request, 5) {
+        return EvaluationInput::Bad;
+    }
+    let number = request + word_at(s, request) as usize;
+    if !is_number(s, number) {
+        return EvaluationInput::Bad;
+    }
+    let records = after_entries(s, number + 6, 10);
+    if after_entries(s, records, 3) == s.len() {
+        EvaluationInput::Entries(request, number, records)
+    } else {
+        EvaluationInput::Bad
+    }
+}
+
+// Sets one byte of a lent slice; past its end nothing.
+fn put(lent: &mut [u8], at: usize, x: u8)
+    ensures { λ _. ⌜ now (lent .exit) ≡ set (now (lent .entry)) at x ⌝ }
+{
+    if at < lent.len() {
+        lent[at] = x;
+    }
+}
+
+// Copies bytes into a lent slice from a place on, as far as it goes.
+fn put_all(lent: &mut [u8], at: usize, bytes: &[u8])
+    requires { ⌜ at + length (now bytes) < 2 ^ 64 ⌝ }
+    ensures { λ _. ⌜ now (lent .exit) ≡ sets (now (lent .entry)) at (now (bytes .entry)) ⌝ }
+{
+    let mut i: usize = 0;
+    while i < bytes.len() {
+        put(lent, at + i, bytes[i]);
+        i += 1;
+    }
+}
+
+// Copies the bodies of the entries of a kind that stand one after another from a place on, joined, into a lent slice as far as it goes.
+// Answers how many bytes they are.
+pub fn join_bodies(s: &[u8], at: usize, kind: u32, lent: &mut [u8]) -> usize
+    ensures { λ r. ⌜ Joined (now (s .entry)) at kind (now (lent .entry)) (now (lent .exit)) r ⌝ }
+{
+    let mut p = at;
+    let mut n: usize = 0;
+    while is_whole(s, p, kind) {
+        let next = p + word_at(s, p) as usize;
+        put_all(lent, n, &s[p + 4..next]);
+        n += next - p - 4;
+        p = next;
+    }
+    n
 }

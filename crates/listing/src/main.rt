@@ -1,13 +1,13 @@
 // The listing program: reads an entry of kind 4 (the dictionary) and one of kind 5 (the request) from standard input, and prints the rows of
 // the request, its refusal, or that the input is not these two entries.
-mod show;
+mod table;
 
 use grammar::Reading;
 use input::Input;
 use show::bad_input;
+use show::line;
 use show::refused;
-use show::request;
-use show::rows;
+use table::rows;
 
 // The rows of a request beside a dictionary, or its refusal. The tables are as short as reading allows.
 fn list(dictionary: &[u8], body: &[u8]) {
@@ -22,7 +22,7 @@ fn list(dictionary: &[u8], body: &[u8]) {
         &mut contexts,
     ) {
         Reading::Accepted(n, m, k) => {
-            request(body.len());
+            line(b"request ", body.len());
             rows(b"statement", &statements, 4, n);
             rows(b"parameter", &parameters, 6, m);
             rows(b"context", &contexts, 5, k);

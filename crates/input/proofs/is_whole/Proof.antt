@@ -12,15 +12,12 @@ use Rattle.input.proofs.is_whole.Reads as reads
 use Rattle.input.proofs.is_whole.Lts as lts
 use Rattle.wire.proofs.bytes.word_at.Reads as word-at-reads
 
--- src/lib.rt:18:13
 word-at-requires : tie.Need-word-at-requires
 word-at-requires c κs = search needs
 
--- src/lib.rt:18:13
 cast-n : tie.Need-cast-n
 cast-n c = search needs
 
--- src/lib.rt:20:9
 returns : tie.Need-returns
 unfolding whole
 returns c =
@@ -30,7 +27,6 @@ returns c =
     let n = wordAt (args′ .s .now) (args′ .at) in
     rw (whole, lt-leb 4 n (omega (arith, if1′ .taken, word-at′ .ensures .0)))
 
--- src/lib.rt:23:9
 returns-2 : tie.Need-returns-2
 unfolding whole
 returns-2 c =
@@ -45,11 +41,9 @@ returns-2 c =
       lt-leb (args′ .at + n) (length (args′ .s .now)) (omega (arith, if1′ .left, if2′ .taken, word-at′ .ensures .0)),
     )
 
--- src/lib.rt:25:8
 sub-if3 : tie.Need-sub-if3
 sub-if3 c = search needs
 
--- src/lib.rt:26:9
 returns-3 : tie.Need-returns-3
 unfolding whole
 returns-3 c =
@@ -65,15 +59,12 @@ returns-3 c =
       lt-leb (args′ .at + n) (length (args′ .s .now)) (omega (arith, if2′ .left, if3′ .taken, word-at′ .ensures .0)),
     )
 
--- src/lib.rt:28:16
 add-word-at : tie.Need-add-word-at
 add-word-at c = search needs
 
--- src/lib.rt:28:5
 word-at-requires-2 : tie.Need-word-at-requires-2
 word-at-requires-2 c κs = search needs
 
--- src/lib.rt:15:1
 returns-4 : tie.Need-returns-4
 unfolding whole
 returns-4 c =

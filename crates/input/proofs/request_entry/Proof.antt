@@ -9,11 +9,9 @@ use Rattle.input.proofs.request_entry.Lts as lts
 use Rattle.input.proofs.is_whole.Reads as is-whole-reads
 use Rattle.wire.proofs.bytes.word_at.Reads as word-at-reads
 
--- src/lib.rt:35:9
 is-whole-requires : tie.Need-is-whole-requires
 is-whole-requires c κs = search needs
 
--- src/lib.rt:36:9
 returns : tie.Need-returns
 unfolding requestEntry
 returns c =
@@ -21,19 +19,15 @@ returns c =
     let if1′ = c .if1 in
     rw (requestEntry, sym (is-whole′ .ensures) ∙ not-true (is-whole′ .result) (if1′ .taken))
 
--- src/lib.rt:38:14
 word-at-requires : tie.Need-word-at-requires
 word-at-requires c κs = search needs
 
--- src/lib.rt:38:14
 cast-at : tie.Need-cast-at
 cast-at c = search needs
 
--- src/lib.rt:39:9
 is-whole-requires-2 : tie.Need-is-whole-requires-2
 is-whole-requires-2 c κs = search needs
 
--- src/lib.rt:40:9
 returns-2 : tie.Need-returns-2
 unfolding requestEntry
 returns-2 c =
@@ -49,19 +43,15 @@ returns-2 c =
       sym (is-whole2′ .ensures) ∙ not-true (is-whole2′ .result) (if2′ .taken),
     )
 
--- src/lib.rt:42:13
 word-at-requires-2 : tie.Need-word-at-requires-2
 word-at-requires-2 c κs = search needs
 
--- src/lib.rt:42:13
 cast-if3 : tie.Need-cast-if3
 cast-if3 c = search needs
 
--- src/lib.rt:42:8
 add-if3 : tie.Need-add-if3
 add-if3 c = search needs
 
--- src/lib.rt:32:1
 returns-3 : tie.Need-returns-3
 unfolding requestEntry
 returns-3 c =
@@ -81,7 +71,6 @@ returns-3 c =
       eq-eqb _ _ (if3′ .taken),
     )
 
--- src/lib.rt:32:1
 returns-4 : tie.Need-returns-4
 unfolding requestEntry
 returns-4 c =

@@ -10,66 +10,52 @@ use Rattle.listing.proofs.answer.Reads as reads
 use Rattle.listing.proofs.answer.Lts as lts
 use Rattle.input.proofs.request_entry.Reads as request-entry-reads
 use Rattle.listing.proofs.list.Reads as list-reads
-use Rattle.listing.proofs.show.bad_input.Reads as bad-input-reads
+use Rattle.show.proofs.bad_input.Reads as bad-input-reads
 
 -- the dictionary and the request stand inside the input
 entries-inside : (c : tie.After-at) → (4 ≤ c .at .given .0 .0) × (c .at .given .0 .0 + 4 ≤ length (c .before .before .before .before .args .s .now))
 entries-inside c =
     request-inside (c .before .before .before .before .args .s .now) _ (sym (c .at .given .1) ∙ c .before .before .request-entry .ensures)
 
--- src/main.rt:36:11
 request-entry-requires : tie.Need-request-entry-requires
 request-entry-requires c κs = search needs
 
--- src/main.rt:37:24
 enum-known-at : tie.Need-enum-known-at
 enum-known-at c = search needs
 
--- src/main.rt:37:36
 sub-list : tie.Need-sub-list
 sub-list c = let inside = entries-inside (c .before) in omega arith
 
--- src/main.rt:37:36
 part-list-start : tie.Need-part-list-start
 part-list-start c = let inside = entries-inside (c .before) in omega arith
 
--- src/main.rt:37:36
 part-list-end : tie.Need-part-list-end
 part-list-end c = let inside = entries-inside (c .before) in omega arith
 
--- src/main.rt:37:50
 add-list : tie.Need-add-list
 add-list c = let inside = entries-inside (c .before .before) in omega arith
 
--- src/main.rt:37:47
 sub-list-2 : tie.Need-sub-list-2
 sub-list-2 c = let inside = entries-inside (c .before .before) in omega arith
 
--- src/main.rt:37:47
 part-list-start-2 : tie.Need-part-list-start-2
 part-list-start-2 c = let inside = entries-inside (c .before .before) in omega arith
 
--- src/main.rt:37:47
 part-list-end-2 : tie.Need-part-list-end-2
 part-list-end-2 c = search needs
 
--- src/main.rt:37:31
 list-requires : tie.Need-list-requires
 list-requires c κs = search needs
 
--- src/main.rt:38:23
 enum-told : tie.Need-enum-told
 enum-told c = search needs
 
--- src/main.rt:38:23
 bad-input-requires : tie.Need-bad-input-requires
 bad-input-requires c κs = search needs
 
--- src/main.rt:35:1
 returns : tie.Need-returns
 returns c = search needs
 
--- src/main.rt:35:1
 returns-2 : tie.Need-returns-2
 returns-2 c = search needs
 

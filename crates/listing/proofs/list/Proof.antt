@@ -6,9 +6,9 @@ use Rattle.listing.proofs.list.Tie as tie
 use Rattle.listing.proofs.list.Reads as reads
 use Rattle.listing.proofs.list.Lts as lts
 use Rattle.grammar.proofs.number_of.Reads as number-of-reads
-use Rattle.listing.proofs.show.refused.Reads as refused-reads
-use Rattle.listing.proofs.show.request.Reads as request-reads
-use Rattle.listing.proofs.show.rows.Reads as rows-reads
+use Rattle.show.proofs.refused.Reads as refused-reads
+use Rattle.show.proofs.line.Reads as line-reads
+use Rattle.listing.proofs.table.rows.Reads as rows-reads
 use Rattle.reader.proofs.read.Reads as read-reads
 
 -- the three counts of an accepted request
@@ -17,83 +17,66 @@ few-rows c =
     let read′ = c .before .before .before .before .before .read in
     accepted-few (read′ .ensures) _ _ _ (c .n .given .1)
 
--- src/main.rt:20:9
 slice-aggregate-read : tie.Need-slice-aggregate-read
 slice-aggregate-read c = search needs
 
--- src/main.rt:21:9
 slice-aggregate-read-2 : tie.Need-slice-aggregate-read-2
 slice-aggregate-read-2 c = search needs
 
--- src/main.rt:22:9
 slice-aggregate-read-3 : tie.Need-slice-aggregate-read-3
 slice-aggregate-read-3 c = search needs
 
--- src/main.rt:17:11
 read-requires : tie.Need-read-requires
 read-requires c κs = search needs
 
--- src/main.rt:24:27
 enum-known-n : tie.Need-enum-known-n
 enum-known-n c = search needs
 
--- src/main.rt:25:13
-request-requires : tie.Need-request-requires
-request-requires c κs = search needs
+slice-aggregate-line : tie.Need-slice-aggregate-line
+slice-aggregate-line c = search needs
 
--- src/main.rt:26:18
+line-requires : tie.Need-line-requires
+line-requires c κs = search needs
+
 slice-aggregate-rows : tie.Need-slice-aggregate-rows
 slice-aggregate-rows c = search needs
 
--- src/main.rt:26:32
 slice-aggregate-rows-2 : tie.Need-slice-aggregate-rows-2
 slice-aggregate-rows-2 c = search needs
 
--- src/main.rt:26:13
 rows-requires : tie.Need-rows-requires
-rows-requires c κs = let few = few-rows (c .before .before .before .before) in omega arith
+rows-requires c κs = let few = few-rows (c .before .before .before .before .before) in omega arith
 
--- src/main.rt:27:18
 slice-aggregate-rows-3 : tie.Need-slice-aggregate-rows-3
 slice-aggregate-rows-3 c = search needs
 
--- src/main.rt:27:32
 slice-aggregate-rows-4 : tie.Need-slice-aggregate-rows-4
 slice-aggregate-rows-4 c = search needs
 
--- src/main.rt:27:13
 rows-requires-2 : tie.Need-rows-requires-2
-rows-requires-2 c κs = let few = few-rows (c .before .before .before .before .before .before .before) in omega arith
+rows-requires-2 c κs = let few = few-rows (c .before .before .before .before .before .before .before .before) in omega arith
 
--- src/main.rt:28:18
 slice-aggregate-rows-5 : tie.Need-slice-aggregate-rows-5
 slice-aggregate-rows-5 c = search needs
 
--- src/main.rt:28:30
 slice-aggregate-rows-6 : tie.Need-slice-aggregate-rows-6
 slice-aggregate-rows-6 c = search needs
 
--- src/main.rt:28:13
 rows-requires-3 : tie.Need-rows-requires-3
-rows-requires-3 c κs = let few = few-rows (c .before .before .before .before .before .before .before .before .before .before) in omega arith
+rows-requires-3 c κs = let few = few-rows (c .before .before .before .before .before .before .before .before .before .before .before) in omega arith
 
--- src/main.rt:30:26
 enum-known-r : tie.Need-enum-known-r
 enum-known-r c = search needs
 
--- src/main.rt:30:43
 number-of-requires : tie.Need-number-of-requires
 number-of-requires c κs = search needs
 
--- src/main.rt:30:35
 refused-requires : tie.Need-refused-requires
 refused-requires c κs = search needs
 
--- src/main.rt:13:1
 returns : tie.Need-returns
 returns c = search needs
 
--- src/main.rt:13:1
 returns-2 : tie.Need-returns-2
 returns-2 c = search needs
 
@@ -106,7 +89,8 @@ list-spec =
     slice-aggregate-read-3
     read-requires
     enum-known-n
-    request-requires
+    slice-aggregate-line
+    line-requires
     slice-aggregate-rows
     slice-aggregate-rows-2
     rows-requires

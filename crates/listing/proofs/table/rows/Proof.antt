@@ -3,11 +3,11 @@ use native.Mathlib.Nat.{mul-le-mul-right, suc-mul}
 use Prim.Native.Nat.{ℕ, suc, _+_, _*_, _-_, _≤_, _<_}
 use lib.ListN.{length}
 use borrow.Author.Needs.{needs}
-use Rattle.listing.proofs.show.rows.Statement.{statement}
-use Rattle.listing.proofs.show.rows.Tie as tie
-use Rattle.listing.proofs.show.rows.Reads as reads
-use Rattle.listing.proofs.show.rows.Lts as lts
-use Rattle.listing.proofs.show.row.Reads as row-reads
+use Rattle.listing.proofs.table.rows.Statement.{statement}
+use Rattle.listing.proofs.table.rows.Tie as tie
+use Rattle.listing.proofs.table.rows.Reads as reads
+use Rattle.listing.proofs.table.rows.Lts as lts
+use Rattle.listing.proofs.table.row.Reads as row-reads
 
 abbrev Inv-loop : tie.InvT-loop
 Inv-loop name table width count n₀ n = n ≤ count
@@ -26,31 +26,24 @@ next-inside :
     length (c .before .before .before .before .args .table .now)
 next-inside c = row-inside _ _ _ _ (c .loop-test .taken) (c .before .before .before .before .pre)
 
--- src/show.rt:50:5
 loop-holds : tie.Need-loop-holds Inv-loop μ-loop
 loop-holds c = omega arith
 
--- src/show.rt:51:26
 mul-row : tie.Need-mul-row Inv-loop μ-loop
 mul-row c = let inside = next-inside c in omega arith
 
--- src/show.rt:51:9
 row-requires : tie.Need-row-requires Inv-loop μ-loop
 row-requires c κs = next-inside c
 
--- src/show.rt:52:9
 add-n : tie.Need-add-n Inv-loop μ-loop
 add-n c = search needs
 
--- src/show.rt:50:5
 loop-less : tie.Need-loop-less Inv-loop μ-loop
 loop-less c = search needs
 
--- src/show.rt:50:5
 loop-again : tie.Need-loop-again Inv-loop μ-loop
 loop-again c = search needs
 
--- src/show.rt:46:1
 returns : tie.Need-returns Inv-loop μ-loop
 returns c = search needs
 

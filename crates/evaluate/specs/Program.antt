@@ -1,0 +1,32 @@
+-- What the program answers to an input of any bytes.
+use Prim.Native.Nat.{ℕ, _+_, _-_}
+use mathlib.Core.Path.{_≡_}
+use mathlib.Core.List.{List}
+use mathlib.Core.Option.{Option, none, some}
+use lib.ListN.{take, drop}
+use Rattle.wire.specs.Words.{wordAt}
+use Rattle.meaning.specs.Evaluated.{outcomeOf}
+use Rattle.meaning.specs.Evaluation.{Outcome, evaluation}
+use Rattle.input.specs.Evaluation.{joined, evaluationInput}
+use Rattle.input.specs.declared.EvaluationInput.{EvaluationInput}
+use Rattle.input.specs.declared.EvaluationInput.the-variants.{Entries, Bad}
+use Rattle.evaluate.specs.declared.Answer.{Answer}
+use Rattle.evaluate.specs.declared.Answer.the-variants.{Is, BadInput}
+
+-- the bytes from one place up to another
+abbrev pub part : List ℕ → ℕ → ℕ → List ℕ
+part s from to = take (to - from) (drop from s)
+
+-- the condition of that number, with the bodies of the entries of kind 10, joined, as messages, and with the rest of the input as records
+abbrev pub outcome : List ℕ → EvaluationInput → Option Outcome
+outcome s (Entries request number records) =
+    some
+    (evaluation (part s (request + 4) number) (part s 4 request) (wordAt s (number + 4)) (joined s (number + 6) 10) (drop records s))
+outcome s Bad = none
+
+abbrev pub answerOf : Answer → Option Outcome
+answerOf (Is e) = some (outcomeOf e)
+answerOf BadInput = none
+
+abbrev pub Answered : List ℕ → Answer → Type 0
+Answered s r = answerOf r ≡ outcome s (evaluationInput s)

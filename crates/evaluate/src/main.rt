@@ -1,0 +1,79 @@
+// The program `evaluate`: reads the entries of a dictionary (kind 4), a request (5), the number of a boolean (9), any number of message
+// bytes (10) and any number of records (3) from standard input. Prints `true`, `false`, `missing`, a refusal, or that the input is not these
+// entries.
+ghost use Prim.Native.Nat.{_≤_};
+ghost use lib.ListN.{length};
+ghost use Rattle.evaluate.specs.Program.{Answered};
+use input::EvaluationInput;
+use meaning::Evaluation;
+use meaning::Truth;
+use show::bad_input;
+use show::refused;
+use show::text;
+use wire::bytes::word_at;
+
+enum Answer {
+    Is(Evaluation),
+    BadInput,
+}
+
+// The answer to an input. A body starts four bytes after its entry; the messages are joined in a space as long as the longest input.
+fn evaluate_input(s: &[u8], images: &mut [u8]) -> Answer
+    requires { ⌜ 3000000 ≤ length (now images) ⌝ }
+    ensures { λ r. ⌜ Answered (now (s .entry)) r ⌝ }
+{
+    match input::evaluation_entries(s) {
+        EvaluationInput::Entries(request, number, records) => {
+            let n = input::join_bodies(s, number + 6, 10, images);
+            Answer::Is(evaluator::evaluate(
+                &s[request + 4..number],
+                &s[4..request],
+                word_at(s, number + 4) as usize,
+                &images[..n],
+                &s[records..],
+            ))
+        }
+        EvaluationInput::Bad => Answer::BadInput,
+    }
+}
+
+fn show_truth(t: Truth) {
+    match t {
+        Truth::True => text(b"true\n"),
+        Truth::False => text(b"false\n"),
+        Truth::Missing => text(b"missing\n"),
+    }
+}
+
+fn show_evaluation(e: Evaluation) {
+    match e {
+        Evaluation::Is(t) => show_truth(t),
+        Evaluation::Refused(r, p) => refused(grammar::number_of(r), p),
+    }
+}
+
+fn show_answer(a: Answer) {
+    match a {
+        Answer::Is(e) => show_evaluation(e),
+        Answer::BadInput => bad_input(),
+    }
+}
+
+// With room for one byte more than the longest input, a longer one is seen to be too long.
+fn run(space: &mut [u8], images: &mut [u8])
+    requires { ⌜ 3000000 ≤ length (now images) ⌝ }
+{
+    let n = io::read_full(0, space);
+    show_answer(evaluate_input(&space[..n], images));
+}
+
+// Lends the two arrays as slices, whose lengths are those of the arrays' types.
+fn with_space(space: &mut [u8; 3000001], images: &mut [u8; 3000000]) {
+    run(space, images);
+}
+
+fn main() {
+    let mut space = [0u8; 3000001];
+    let mut images = [0u8; 3000000];
+    with_space(&mut space, &mut images);
+}

@@ -1,0 +1,80 @@
+-- The input of the program `evaluate`: entries of kinds 4 (dictionary), 5 (request) and 9 (the number of a boolean, one word), then any
+-- number of kind 10 (message bytes), then any number of kind 3 (records), at most 3,000,000 bytes in all.
+use Prim.Native.Nat.{ℕ, zero, suc, _+_, _-_}
+use mathlib.Core.Bool.{Bool, true, false, cond, _&&_}
+use mathlib.Core.Path.{_≡_}
+use mathlib.Core.List.{List, [], _∷_, _++_}
+use lib.Dec.{eqb, leb}
+use lib.ListN.{length, take, drop}
+use lib.Seq.{sets}
+use Rattle.wire.specs.Words.{wordAt}
+use Rattle.input.specs.Input.{whole}
+use Rattle.input.specs.declared.EvaluationInput.{EvaluationInput}
+use Rattle.input.specs.declared.EvaluationInput.the-variants as EvaluationInput
+
+-- p and the rest, if an entry stands at p
+abbrev pub placed : Bool → ℕ → List ℕ → List ℕ
+placed true p rest = p ∷ rest
+placed false p rest = []
+
+-- the places of the entries of a kind, one after another from p on, n at most
+unfoldable pub places : ℕ → List ℕ → ℕ → ℕ → List ℕ
+places zero s p kind = []
+places (suc n) s p kind = placed (whole s p kind) p (places n s (p + wordAt s p) kind)
+
+-- all of them: an entry has four bytes or more, so there are fewer than bytes
+unfoldable pub entriesFrom : List ℕ → ℕ → ℕ → List ℕ
+entriesFrom s p kind = places (length s) s p kind
+
+-- the place after entries that stand one after another from p on
+unfoldable pub after : List ℕ → ℕ → List ℕ → ℕ
+after s p [] = p
+after s p (q ∷ qs) = after s (q + wordAt s q) qs
+
+unfoldable pub afterEntries : List ℕ → ℕ → ℕ → ℕ
+afterEntries s p kind = after s p (entriesFrom s p kind)
+
+-- the body of the entry at p
+unfoldable pub body : List ℕ → ℕ → List ℕ
+body s p = take (wordAt s p - 4) (drop (p + 4) s)
+
+unfoldable pub bodies : List ℕ → List ℕ → List ℕ
+bodies s [] = []
+bodies s (q ∷ qs) = body s q ++ bodies s qs
+
+-- the bodies of the entries of a kind from p on, joined
+unfoldable pub joined : List ℕ → ℕ → ℕ → List ℕ
+joined s p kind = bodies s (entriesFrom s p kind)
+
+-- joined bodies in a lent slice from its start on, as far as it goes, and how many bytes they are
+pub record Joined (s : List ℕ) (p kind : ℕ) (lent lent′ : List ℕ) (r : ℕ) : Type 0 where
+  pub count : r ≡ length (joined s p kind)
+  pub filled : lent′ ≡ sets lent 0 (joined s p kind)
+
+-- ---- the whole input
+
+-- an entry of kind 9 with one word
+unfoldable pub wholeNumber : List ℕ → ℕ → Bool
+wholeNumber s p = whole s p 9 && eqb (wordAt s p) 6
+
+-- where the request's entry, the number's, the messages' and the records' begin
+abbrev pub requestAt : List ℕ → ℕ
+requestAt s = wordAt s 0
+
+abbrev pub numberAt : List ℕ → ℕ
+numberAt s = requestAt s + wordAt s (requestAt s)
+
+abbrev pub messagesAt : List ℕ → ℕ
+messagesAt s = numberAt s + 6
+
+unfoldable pub recordsAt : List ℕ → ℕ
+recordsAt s = afterEntries s (messagesAt s) 10
+
+-- the records are the last entries
+unfoldable pub wholeInput : List ℕ → Bool
+wholeInput s =
+    leb (length s) 3000000 && whole s 0 4 && whole s (requestAt s) 5 && wholeNumber s (numberAt s) &&
+    eqb (afterEntries s (recordsAt s) 3) (length s)
+
+unfoldable pub evaluationInput : List ℕ → EvaluationInput
+evaluationInput s = cond (wholeInput s) (EvaluationInput.Entries (requestAt s) (numberAt s) (recordsAt s)) EvaluationInput.Bad
