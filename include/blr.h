@@ -1,4 +1,4 @@
-/* Reading BLR requests, for greenhouse controllers.
+/* Reading and evaluating BLR requests, for greenhouse controllers.
  *
  * The library is written in Rattle, a language whose compiler proves what each function promises. Nothing of that is
  * seen from here: a call takes numbers and pointers with lengths, allocates nothing, keeps no state between calls, never
@@ -49,6 +49,31 @@ uint32_t blr_read(const uint8_t *request, size_t request_length,
                   uint32_t *parameters, size_t parameters_length,
                   uint32_t *contexts, size_t contexts_length,
                   size_t answer[3]);
+
+/* What a condition comes out as: the answer of an evaluation. */
+#define BLR_FALSE 0
+#define BLR_TRUE 1
+#define BLR_MISSING 2
+#define BLR_REFUSED 3
+
+/* Evaluates a condition of a request, by its number (from 0 in reading order), with the images of all messages in
+ * declaration order, joined, and one record for each context in scope in declaration order, joined.
+ *
+ * Gives one number: blr_answer of it is one of the four above; of a refusal blr_number is the number, 2 to 16 or 20 to 25,
+ * and blr_place the place: in the dictionary for 3, in the images for 21, in the records for 22, otherwise in the
+ * request. A place of 281474976710655 stands for that and every greater one.
+ *
+ * Nothing lent is written.
+ */
+uint64_t blr_evaluate(const uint8_t *request, size_t request_length,
+                      const uint8_t *dictionary, size_t dictionary_length,
+                      size_t number,
+                      const uint8_t *images, size_t images_length,
+                      const uint8_t *records, size_t records_length);
+
+static inline unsigned blr_answer(uint64_t evaluation) { return (unsigned)(evaluation & 0xff); }
+static inline unsigned blr_number(uint64_t evaluation) { return (unsigned)(evaluation >> 8 & 0xff); }
+static inline uint64_t blr_place(uint64_t evaluation) { return evaluation >> 16; }
 
 #ifdef __cplusplus
 }

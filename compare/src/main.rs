@@ -1,7 +1,8 @@
 //! `compare leaves SEED COUNT` compares the proved leaves with the second program's, `compare dictionaries SEED COUNT` the check of
-//! dictionaries, look-ups and records, `compare requests SEED COUNT` the reader; `compare times` times both, and `compare stack`
+//! dictionaries, look-ups and records, `compare requests SEED COUNT` the reader, `compare evaluations SEED COUNT` the evaluator; `compare times` times both, and `compare stack`
 //! measures the stack that the reader uses.
 
+mod evaluations;
 mod houses;
 mod leaves;
 mod proved;
@@ -19,6 +20,7 @@ fn main() -> ExitCode {
             ("leaves", Ok(seed), Ok(count)) => leaves::run(seed, count),
             ("dictionaries", Ok(seed), Ok(count)) => houses::run(seed, count),
             ("requests", Ok(seed), Ok(count)) => requests::run(seed, count),
+            ("evaluations", Ok(seed), Ok(count)) => evaluations::run(seed, count),
             _ => return usage(),
         },
         ["stack"] => {
@@ -35,6 +37,8 @@ fn main() -> ExitCode {
 }
 
 fn usage() -> ExitCode {
-    eprintln!("usage: compare leaves|dictionaries|requests SEED COUNT | compare times|stack");
+    eprintln!(
+        "usage: compare leaves|dictionaries|requests|evaluations SEED COUNT | compare times|stack"
+    );
     ExitCode::from(2)
 }

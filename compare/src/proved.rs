@@ -18,6 +18,17 @@ extern "C" {
         contexts_length: usize,
         answer: *mut usize,
     ) -> u32;
+    fn blr_evaluate(
+        request: *const u8,
+        request_length: usize,
+        dictionary: *const u8,
+        dictionary_length: usize,
+        number: usize,
+        images: *const u8,
+        images_length: usize,
+        records: *const u8,
+        records_length: usize,
+    ) -> u64;
     fn leaf_value(operation: u8, a: i64, a_scale: i8, b: i64, b_scale: i8) -> i64;
     fn leaf_scale(operation: u8, a: i64, a_scale: i8, b: i64, b_scale: i8) -> i8;
     fn leaf_refusal(operation: u8, a: i64, a_scale: i8, b: i64, b_scale: i8) -> u32;
@@ -232,5 +243,46 @@ pub fn read(
     match number {
         0 => Ok(answer.map(|count| count as u32)),
         _ => Err((number, answer[0] as u32)),
+    }
+}
+
+/// The answer of an evaluation, as include/blr.h lays it out.
+pub fn evaluation(
+    request: &[u8],
+    dictionary: &[u8],
+    condition: usize,
+    messages: &[u8],
+    records: &[u8],
+) -> u64 {
+    // Each slice passes as a pointer and its length, and is borrowed for the call alone.
+    unsafe {
+        blr_evaluate(
+            request.as_ptr(),
+            request.len(),
+            dictionary.as_ptr(),
+            dictionary.len(),
+            condition,
+            messages.as_ptr(),
+            messages.len(),
+            records.as_ptr(),
+            records.len(),
+        )
+    }
+}
+
+/// What an evaluation comes out as: an answer, or a refusal with its number and its place.
+pub fn evaluate(
+    request: &[u8],
+    dictionary: &[u8],
+    condition: usize,
+    messages: &[u8],
+    records: &[u8],
+) -> String {
+    let given = evaluation(request, dictionary, condition, messages, records);
+    match given & 0xff {
+        0 => "false".to_string(),
+        1 => "true".to_string(),
+        2 => "missing".to_string(),
+        _ => format!("refused {} {}", given >> 8 & 0xff, given >> 16),
     }
 }

@@ -1,4 +1,4 @@
-//! The stack that the proved reader uses: it reads a request on a stack of known bytes, and what is no longer known was used.
+//! The stack that the proved reader and evaluator use: each works on a stack of known bytes, and what is no longer known was used.
 
 use crate::proved;
 use second::generate::{assemble, dictionaries};
@@ -26,27 +26,41 @@ extern "C" {
     fn pthread_join(thread: usize, result: *mut *mut c_void) -> c_int;
 }
 
+/// What is done on the stack that is measured.
+enum Work {
+    Nothing,
+    Read(Vec<u8>),
+    Evaluate(Vec<u8>),
+}
+
 struct Job {
-    request: Option<Vec<u8>>,
+    work: Work,
     dictionary: Vec<u8>,
     tables: [Vec<u32>; 3],
 }
 
-/// Reads the request, if there is one.
+/// Reads the request, or evaluates its first condition with one long as message and no records.
 extern "C" fn work(job: *mut c_void) -> *mut c_void {
     let job = unsafe { &mut *job.cast::<Job>() };
     let [statements, parameters, contexts] = &mut job.tables;
-    if let Some(request) = &job.request {
-        let answer = proved::read(request, &job.dictionary, statements, parameters, contexts);
-        answer.expect("a request that the rules allow");
+    match &job.work {
+        Work::Nothing => {}
+        Work::Read(request) => {
+            let answer = proved::read(request, &job.dictionary, statements, parameters, contexts);
+            answer.expect("a request that the rules allow");
+        }
+        Work::Evaluate(request) => {
+            let given = proved::evaluation(request, &job.dictionary, 0, &[0; 4], &[]);
+            assert!(given & 0xff < 3, "a condition that comes out");
+        }
     }
     std::ptr::null_mut()
 }
 
 /// The bytes of a stack that a thread wrote to.
-fn used(request: Option<Vec<u8>>) -> usize {
+fn used(work: Work) -> usize {
     let dictionary = dictionaries::encode(&dictionaries::house());
-    let mut job = Job { request, dictionary, tables: TABLE_LENGTHS.map(|length| vec![0; length]) };
+    let mut job = Job { work, dictionary, tables: TABLE_LENGTHS.map(|length| vec![0; length]) };
     let mut stack = vec![UNUSED; STACK + 4096];
     let start = stack.as_ptr().align_offset(4096);
     let mut attributes = Attributes([0; 256]);
@@ -55,7 +69,7 @@ fn used(request: Option<Vec<u8>>) -> usize {
     let failed = unsafe {
         pthread_attr_init(&mut attributes)
             | pthread_attr_setstack(&mut attributes, stack[start..].as_mut_ptr().cast(), STACK)
-            | pthread_create(&mut thread, &attributes, work, (&raw mut job).cast())
+            | pthread_create(&mut thread, &attributes, self::work, (&raw mut job).cast())
             | pthread_join(thread, std::ptr::null_mut())
     };
     assert_eq!(failed, 0, "a thread on a stack of its own");
@@ -134,8 +148,29 @@ pub fn run() {
             nested(28, assign(assemble::parameter(0, 0)), |_, inner| headed(&[wire::LOOP], inner)),
         ),
     ];
-    let own = used(None);
+    let own = used(Work::Nothing);
     for (name, request) in cases {
-        println!("{name:<32} {:>8} bytes of stack", used(Some(request)) - own);
+        println!("{name:<32} {:>8} bytes of stack", used(Work::Read(request)) - own);
     }
+    for (name, request) in deepest_conditions() {
+        println!("{name:<32} {:>8} bytes of stack", used(Work::Evaluate(request)) - own);
+    }
+}
+
+/// Conditions of the greatest depth: not, and negate under one test.
+fn deepest_conditions() -> Vec<(&'static str, Vec<u8>)> {
+    let conditional = |boolean: Vec<u8>| {
+        let body = [&[wire::IF], boolean.as_slice(), &[wire::BEGIN, wire::END], &[wire::END]];
+        nested(0, body.concat(), |_, inner| inner)
+    };
+    let value = assemble::parameter(0, 0);
+    let nots = [&[wire::NOT; 28][..], &[wire::MISSING], &value].concat();
+    let negates = [&[wire::MISSING][..], &[wire::NEGATE; 28], &value].concat();
+    let sums =
+        (0..28).fold(value.clone(), |rest, _| assemble::operator(wire::ADD, &[&rest, &value]));
+    vec![
+        ("evaluation: not", conditional(nots)),
+        ("evaluation: negate", conditional(negates)),
+        ("evaluation: add", conditional(assemble::operator(wire::MISSING, &[&sums]))),
+    ]
 }

@@ -3,6 +3,7 @@
 use crate::proved::{self, Computed, Number};
 use second::decimal::{self, Fault};
 use second::dictionary::{Dictionary, Relation};
+use second::evaluator;
 use second::generate::rng::Rng;
 use second::generate::{assemble, dictionaries};
 use second::reader::{self, TABLE_LENGTHS};
@@ -303,6 +304,99 @@ fn readings() {
     }
 }
 
+/// So many tests joined by and, no deeper than their number needs.
+fn joined(tests: &[Vec<u8>]) -> Vec<u8> {
+    match tests {
+        [test] => test.clone(),
+        _ => {
+            let (left, right) = tests.split_at(tests.len() / 2);
+            assemble::operator(wire::AND, &[&joined(left), &joined(right)])
+        }
+    }
+}
+
+/// A request whose first condition has about so many bytes, over the relation of `dictionaries::house`.
+fn condition_of_about(length: usize) -> (Vec<u8>, usize) {
+    let test = |n: usize| match n % 3 {
+        0 => assemble::operator(wire::GTR, &[&assemble::fid(0, 2), &assemble::short(-1, n as i16)]),
+        1 => assemble::operator(wire::CONTAINING, &[&assemble::fid(0, 3), &assemble::text(b"TOP")]),
+        _ => {
+            let sum = assemble::operator(wire::ADD, &[&assemble::fid(0, 0), &assemble::fid(0, 1)]);
+            assemble::operator(wire::LSS, &[&sum, &assemble::long(0, n as i32)])
+        }
+    };
+    let mut tests = vec![test(0)];
+    while tests.iter().map(|test| test.len() + 1).sum::<usize>() < length {
+        tests.push(test(tests.len()));
+    }
+    let condition = joined(&tests);
+    let bytes = condition.len();
+    (assemble::request(&[&assemble::condition(&condition)]), bytes)
+}
+
+/// The relation of `dictionaries::house`, and 31 others of 64 fields each.
+fn large_dictionary() -> Dictionary {
+    let name = |prefix: &str, n: usize| format!("{prefix}{n:0>18}").into_bytes();
+    let fields =
+        || (0..64).map(|n| dictionaries::field(wire::LONG, -2, 4, &name("F", n))).collect();
+    let mut dictionary = dictionaries::house();
+    dictionary.relations.extend((0..31).map(|n| Relation {
+        id: 100 + n as u16,
+        name: name("R", n),
+        fields: fields(),
+    }));
+    dictionary
+}
+
+/// A record of the house relation: every field is there.
+fn house_record() -> Vec<u8> {
+    let head = [34, 0, 3, 0, 1, 0, 0, 100, 0, 1, 0, 0, 0, 45, 1];
+    [&head[..], b"TOP", &[3, 0], b"TOP", &[b'A', 0, 0], &[0; 8]].concat()
+}
+
+/// Conditions of several lengths beside a small and a large dictionary; and how much of the time reading and the dictionary's check take.
+fn evaluations() {
+    let record = house_record();
+    for (words, dictionary) in [("small", dictionaries::house()), ("large", large_dictionary())] {
+        let dictionary = dictionaries::encode(&dictionary);
+        for about in [10, 100, 500, 2_000] {
+            let (request, bytes) = condition_of_about(about);
+            let calls = if words == "small" { 400_000 / bytes } else { 40 };
+            let (one, other) = both(
+                calls,
+                |_| {
+                    let given = proved::evaluation(&request, &dictionary, 0, &[], &record);
+                    assert!(black_box(given) & 0xff < 3, "a condition that comes out");
+                },
+                |_| {
+                    let answer = evaluator::evaluate(&request, &dictionary, 0, &[], &record);
+                    black_box(answer).expect("a condition that comes out");
+                },
+            );
+            let mut tables = TABLE_LENGTHS.map(|length| vec![0u32; length]);
+            let [statements, parameters, contexts] = &mut tables;
+            let mut read = |_| {
+                let answer = proved::read(&request, &dictionary, statements, parameters, contexts);
+                black_box(answer).expect("a request that the rules allow");
+            };
+            let reading = (0..11).map(|_| seconds(calls, &mut read)).fold(f64::INFINITY, f64::min);
+            let mut check = |_| {
+                black_box(proved::check(&dictionary));
+            };
+            let checking =
+                (0..11).map(|_| seconds(calls, &mut check)).fold(f64::INFINITY, f64::min);
+            println!(
+                "{:<32} {:>8.2} {:>12.1} ns a call; reading {:.0} %, of it the dictionary {:.0} %",
+                format!("condition of {bytes}, {words}"),
+                one / other,
+                one / calls as f64 * 1e9,
+                reading / one * 100.0,
+                checking / one * 100.0
+            );
+        }
+    }
+}
+
 /// Prints a line for each leaf: its ratio, and the time of a proved call.
 pub fn run() {
     let mut rng = Rng::new(1);
@@ -313,4 +407,5 @@ pub fn run() {
     worst(&mut rng);
     dictionary_check();
     readings();
+    evaluations();
 }

@@ -1,13 +1,17 @@
 -- What the functions for C give back.
-use Prim.Native.Nat.{ℕ, suc}
+use Prim.Native.Nat.{ℕ, suc, _+_, _*_, min}
 use mathlib.Core.Path.{_≡_}
 use mathlib.Core.List.{List, [], _∷_}
 use lib.ListN.{length}
+use Rattle.grammar.specs.declared.Refusal.{Refusal}
 use Rattle.grammar.specs.Refusals.{number}
 use Rattle.grammar.specs.Tree.{Request}
 use Rattle.grammar.specs.Sizes.{statementsCount, parameterCount, contextsCount}
 use Rattle.grammar.specs.Reader.{Read, read, refused}
 use Rattle.grammar.specs.Reading.{answer, statementTable, parameterTable, contextTable}
+use Rattle.meaning.specs.declared.Truth.{Truth}
+use Rattle.meaning.specs.declared.Truth.the-variants.{True, False, Missing}
+use Rattle.meaning.specs.Evaluation.{Outcome, answered, refusal, strayed}
 
 -- 0 for an accepted request, or 01's number of the refusal
 abbrev pub numberGiven : Read Request → ℕ
@@ -27,3 +31,21 @@ pub record Given (s d st pa ct st′ pa′ ct′ an′ : List ℕ) (r : ℕ) : T
   pub statements-filled : st′ ≡ statementTable (answer s d (length st) (length pa) (length ct)) (length st)
   pub parameters-filled : pa′ ≡ parameterTable (answer s d (length st) (length pa) (length ct)) (length pa)
   pub contexts-filled : ct′ ≡ contextTable d (answer s d (length st) (length pa) (length ct)) (length ct)
+
+-- ---- evaluation: one number of 64 bits
+
+-- the lowest byte: false, true, missing
+abbrev pub truthGiven : Truth → ℕ
+truthGiven False = 0
+truthGiven True = 1
+truthGiven Missing = 2
+
+-- or 3 for a refusal; then its number in the next byte, and its place in the 48 bits above, which are full for a greater one
+abbrev pub refusalGiven : Refusal → ℕ → ℕ
+refusalGiven x p = 3 + 256 * number x + 65536 * min p 281474976710655
+
+-- no evaluation strays
+unfoldable pub outcomeGiven : Outcome → ℕ
+outcomeGiven (answered t) = truthGiven t
+outcomeGiven (refusal x p) = refusalGiven x p
+outcomeGiven strayed = 4

@@ -1,7 +1,13 @@
 // The product's functions for C (include/blr.h): numbers and slices only.
-ghost use Rattle.exports.specs.Exports.{Given};
+ghost use mathlib.Core.Path.{_≡_};
+ghost use Prim.Native.Nat.{min};
+ghost use Rattle.meaning.specs.Evaluation.{evaluation};
+ghost use Rattle.exports.specs.Exports.{Given, truthGiven, refusalGiven, outcomeGiven};
 use grammar::Reading;
+use grammar::Refusal;
 use grammar::number_of;
+use meaning::Evaluation;
+use meaning::Truth;
 
 // Reads a request: 0 and the counts of rows, or the number of the refusal and its place.
 #[no_mangle]
@@ -24,5 +30,55 @@ pub extern "C" fn blr_read(
             *answer = [p, 0, 0];
             number_of(r)
         }
+    }
+}
+
+// A truth value as a number.
+fn truth_number(truth: Truth) -> u64
+    ensures { λ r. ⌜ r ≡ truthGiven truth ⌝ }
+{
+    match truth {
+        Truth::False => 0,
+        Truth::True => 1,
+        Truth::Missing => 2,
+    }
+}
+
+// The greatest place that the answer of evaluation holds: 48 bits.
+const GREATEST_PLACE: usize = 281474976710655;
+
+// A place, or the greatest that is held.
+fn held_place(place: usize) -> u64
+    ensures { λ r. ⌜ r ≡ min place 281474976710655 ⌝ }
+{
+    if place < GREATEST_PLACE {
+        place as u64
+    } else {
+        GREATEST_PLACE as u64
+    }
+}
+
+// A refusal and its place as a number.
+fn refusal_number(refusal: Refusal, place: usize) -> u64
+    ensures { λ r. ⌜ r ≡ refusalGiven refusal place ⌝ }
+{
+    3 + 256 * number_of(refusal) as u64 + 65536 * held_place(place)
+}
+
+// Evaluates a condition by its number: what it comes out as, or the refusal and its place, in one number (include/blr.h).
+#[no_mangle]
+pub extern "C" fn blr_evaluate<'a>(
+    request: &'a [u8],
+    dictionary: &[u8],
+    number: usize,
+    images: &'a [u8],
+    records: &'a [u8],
+) -> u64
+    ensures { λ r. ⌜ r ≡ outcomeGiven
+        (evaluation (now (request .entry)) (now (dictionary .entry)) number (now (images .entry)) (now (records .entry))) ⌝ }
+{
+    match evaluator::evaluate(request, dictionary, number, images, records) {
+        Evaluation::Is(t) => truth_number(t),
+        Evaluation::Refused(r, p) => refusal_number(r, p),
     }
 }

@@ -1,0 +1,135 @@
+//! Evaluations, valid and damaged: the proved evaluator against the second program's.
+
+use crate::proved;
+use second::cases::answer_name;
+use second::evaluator;
+use second::generate::{self, Case, Size};
+use second::hex;
+
+const DICTIONARY: &str = include_str!("../../second/tests/real/dictionary.hex");
+const CONDITIONS: &str = include_str!("../../second/tests/real/conditions.jsonl");
+const AGREED: &str = include_str!("../../second/tests/agreed/evaluations.txt");
+
+/// What an evaluation takes.
+struct Input {
+    dictionary: Vec<u8>,
+    request: Vec<u8>,
+    condition: usize,
+    messages: Vec<u8>,
+    records: Vec<u8>,
+}
+
+impl Input {
+    /// The words that both programs give.
+    fn outcomes(&self) -> (String, String) {
+        let Input { dictionary, request, condition, messages, records } = self;
+        let proved = proved::evaluate(request, dictionary, *condition, messages, records);
+        let plain = evaluator::evaluate(request, dictionary, *condition, messages, records)
+            .map(|answer| answer_name(answer).to_string())
+            .unwrap_or_else(|refusal| format!("refused {} {}", refusal.number, refusal.place));
+        (proved, plain)
+    }
+
+    /// The input as a line of a case has it.
+    fn text(&self) -> String {
+        let parts = [&self.dictionary, &self.request, &self.messages, &self.records];
+        let [dictionary, request, messages, records] = parts.map(|bytes| hex::write(bytes));
+        format!("evaluate {dictionary} {request} {} {messages} {records}", self.condition)
+    }
+}
+
+/// A generated case; a reading is evaluated as well, with no messages and no records.
+fn input(case: Case, index: usize) -> Input {
+    match case {
+        Case::Evaluate { dictionary, request, condition, messages, records } => {
+            Input { dictionary, request, condition, messages, records }
+        }
+        Case::Read { dictionary, request, .. } => {
+            let condition = [0, 1, 511, 512, usize::MAX][index % 5];
+            Input { dictionary, request, condition, messages: vec![], records: vec![] }
+        }
+    }
+}
+
+/// The text behind a key of a line of JSON.
+fn part<'a>(line: &'a str, key: &str) -> &'a str {
+    let key = format!("\"{key}\": \"");
+    let rest = line.find(&key).map_or("", |at| &line[at + key.len()..]);
+    &rest[..rest.find('"').unwrap_or(0)]
+}
+
+/// The conditions of a real implementation, each with its answer.
+fn real() -> Vec<(Input, String)> {
+    let dictionary = hex::read(DICTIONARY.trim()).expect("hex digits");
+    let bytes = |text: &str| hex::read(text).expect("hex digits");
+    CONDITIONS
+        .lines()
+        .map(|line| {
+            let [request, messages, records] =
+                ["request", "messages", "records"].map(|key| bytes(part(line, key)));
+            let dictionary = dictionary.clone();
+            let input = Input { dictionary, request, condition: 0, messages, records };
+            (input, part(line, "answer").to_string())
+        })
+        .collect()
+}
+
+/// The evaluations that independent programs agreed on, each with its answer.
+fn agreed() -> Vec<(Input, String)> {
+    let bytes = |text: &str| hex::read(text).expect("hex digits");
+    AGREED
+        .lines()
+        .filter_map(|line| {
+            let (input, answer) = line.split_once(" = ")?;
+            let words: Vec<&str> = input.split(' ').collect();
+            let [_, dictionary, request, condition, messages, records] = words[..] else {
+                return None;
+            };
+            let [dictionary, request, messages, records] =
+                [dictionary, request, messages, records].map(bytes);
+            let condition = condition.parse().ok()?;
+            Some((Input { dictionary, request, condition, messages, records }, answer.to_string()))
+        })
+        .collect()
+}
+
+/// What comes up: three answers, and the refusals by their numbers.
+fn outcome(text: &str) -> usize {
+    match text {
+        "true" => 0,
+        "false" => 1,
+        "missing" => 26,
+        _ => text.split(' ').nth(1).and_then(|word| word.parse().ok()).unwrap_or(17),
+    }
+}
+
+/// Runs so many generated cases, the real conditions and those agreed on, and gives the number of differences.
+pub fn run(seed: u64, count: usize) -> usize {
+    let (mut differences, mut outcomes) = (0, [0usize; 27]);
+    let mut note = |input: &Input, due: Option<&str>| {
+        let (proved, plain) = input.outcomes();
+        outcomes[outcome(&plain)] += 1;
+        if proved != plain || due.is_some_and(|due| due != plain) {
+            differences += 1;
+            println!("differs: {}: {proved}, {plain}, {}", input.text(), due.unwrap_or("-"));
+        }
+    };
+    for (index, case) in generate::cases(Size::Mixed, seed, count).enumerate() {
+        note(&input(case, index), None);
+    }
+    let (real, agreed) = (real(), agreed());
+    for (input, answer) in real.iter().chain(&agreed) {
+        note(input, Some(answer));
+    }
+    let unseen: Vec<usize> =
+        (0..27).filter(|n| !(17..20).contains(n) && outcomes[*n] == 0).collect();
+    println!(
+        "evaluations: {count} cases, {} real ones and {} agreed on, {differences} differences",
+        real.len(),
+        agreed.len()
+    );
+    if !unseen.is_empty() {
+        println!("evaluations: {unseen:?} do not come up");
+    }
+    differences + unseen.len()
+}
