@@ -13,7 +13,8 @@ use Rattle.values.specs.declared.Tested.{Tested}
 use Rattle.values.specs.Values.{Lent, lent, valued, tested}
 use Rattle.inputs.specs.Answers.{lentAround}
 
--- the request, the dictionary, the contexts in scope (their numbers and their relations), the rows of the parameters, the images and the records
+-- the request, the dictionary, the contexts in scope (their numbers and their relations), the rows of the parameters, the images
+-- and the records
 pub record Given : Type 0 where
   pub request : List ℕ
   pub dictionary : List ℕ

@@ -21,7 +21,7 @@ pub fn refusal_of(fault: Fault) -> Refusal
     }
 }
 
-// The answer of a walk that is not astray. The walk over a condition of an accepted request never is: nothing reaches the last case.
+// The answer of a walk that is not astray, for this crate alone. That over a condition of an accepted request never is: nothing reaches the last case.
 pub fn answer_of(walk: Tested) -> Evaluation
     requires { ⌜ (tested walk ≡ astray → ⊥) ⌝ }
     ensures { λ r. ⌜ outcomeOf r ≡ settled (tested walk) ⌝ }

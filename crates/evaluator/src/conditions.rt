@@ -10,7 +10,7 @@ use surroundings::images::image_bytes;
 use surroundings::scope::in_scope;
 use surroundings::table::number_at;
 
-// The condition of a number, of a request that was read: the tables hold so many rows of parameters and of contexts, and the places of the conditions.
+// The condition of a number, of a request that was read, for this crate alone: the tables hold so many rows of parameters and of contexts, and the places.
 pub fn evaluate_read<'a>(
     request: &'a [u8],
     dictionary: &[u8],

@@ -1,5 +1,5 @@
--- The tree whose bytes a list is, by the grammar alone: no rule of scope, kind or size is tested. Of the code tables it uses the codes that are
--- due alone: whether another code is left out or foreign makes no difference here.
+-- The tree whose bytes a list is, by the grammar alone: no rule of scope, kind or size is tested. Of the code tables it uses the codes
+-- that are due alone: whether another code is left out or foreign makes no difference here.
 use Prim.Native.Nat.{ℕ, zero, suc, _+_, _*_}
 use mathlib.Core.Bool.{Bool, cond}
 use mathlib.Core.List.{List, [], _∷_}

@@ -44,8 +44,8 @@ pub data Images : List Message → List ℕ → Type 0 where
   noImage : Images [] []
   image : {m : Message} {ms : List Message} (e images : List ℕ) → length e ≡ messageSize m → Images ms images → Images (m ∷ ms) (e ++ images)
 
--- 01: "A proper record is a kind 3 entry of the relation due, here its context's, of at most 4,096 bytes and otherwise as stated above, with any
--- bytes in its fields."
+-- 01: "A proper record is a kind 3 entry of the relation due, here its context's, of at most 4,096 bytes and otherwise as stated above,
+-- with any bytes in its fields."
 pub record ProperRecord (r : Relation) (e : List ℕ) : Type 0 where
   pub sized : length e ≡ recordLength r
   pub small : recordLength r ≤ 4096

@@ -13,7 +13,8 @@ use Rattle.dictionary.specs.Dictionary.{Relation, nameAt, fieldAt, withField}
 abbrev pub relationSaid : List ℕ → ℕ → Relation
 relationSaid d p = record { place = p; id = wordAt d (p + 4); name = nameAt d (p + 6); fields = [] }
 
--- 01: "Kind 2, a field of the last relation: id word .., type byte, scale byte, size word .., counted name." The last relation stands first.
+-- 01: "Kind 2, a field of the last relation: id word .., type byte, scale byte, size word .., counted name."
+-- The last relation stands first.
 abbrev pub fieldSaid : List ℕ → ℕ → Class FieldType → List Relation → List Relation
 fieldSaid d p c [] = []
 fieldSaid d p (due t) (r ∷ rs) = withField r (fieldAt d p t) ∷ rs

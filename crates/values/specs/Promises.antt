@@ -1,4 +1,5 @@
--- What the operators and tests promise: the meaning's own, on what the operands stand for. The first refusal or stray met, in reading order, stands.
+-- What the operators and tests promise: the meaning's own, on what the operands stand for. The first refusal or stray met, in reading
+-- order, stands.
 use Prim.Native.Nat.{ℕ}
 use mathlib.Core.Path.{_≡_}
 use Rattle.wire.specs.declared.codes.Operator.{Operator}
