@@ -1,15 +1,15 @@
 // The program `evaluate`: reads the entries of a dictionary (kind 4), a request (5), the number of a boolean (9), any number of message
 // bytes (10) and any number of records (3) from standard input. Prints `true`, `false`, `missing`, a refusal, or that the input is not these
 // entries.
+mod show;
+
 ghost use Prim.Native.Nat.{_≤_};
 ghost use lib.ListN.{length};
 ghost use Rattle.evaluate.specs.Program.{Answered};
 use input::EvaluationInput;
 use meaning::Evaluation;
-use meaning::Truth;
 use show::bad_input;
-use show::refused;
-use show::text;
+use show::evaluation;
 use wire::bytes::word_at;
 
 enum Answer {
@@ -37,24 +37,9 @@ fn evaluate_input(s: &[u8], images: &mut [u8]) -> Answer
     }
 }
 
-fn show_truth(t: Truth) {
-    match t {
-        Truth::True => text(b"true\n"),
-        Truth::False => text(b"false\n"),
-        Truth::Missing => text(b"missing\n"),
-    }
-}
-
-fn show_evaluation(e: Evaluation) {
-    match e {
-        Evaluation::Is(t) => show_truth(t),
-        Evaluation::Refused(r, p) => refused(grammar::number_of(r), p),
-    }
-}
-
 fn show_answer(a: Answer) {
     match a {
-        Answer::Is(e) => show_evaluation(e),
+        Answer::Is(e) => evaluation(e),
         Answer::BadInput => bad_input(),
     }
 }

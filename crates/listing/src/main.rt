@@ -1,5 +1,6 @@
 // The listing program: reads an entry of kind 4 (the dictionary) and one of kind 5 (the request) from standard input, and prints the rows of
 // the request, its refusal, or that the input is not these two entries.
+mod show;
 mod table;
 
 use grammar::Reading;

@@ -1,8 +1,8 @@
 // Rows of a table as lines of the listing. The module is private to the program, and its functions ask for room in the table.
 ghost use Prim.Native.Nat.{_+_, _*_, _≤_};
 ghost use lib.ListN.{length};
-use show::number;
-use show::text;
+use crate::show::number;
+use crate::show::text;
 
 // The row that starts at a place of a table: a name and so many numbers.
 fn row(name: &[u8], table: &[u32], start: usize, width: usize)

@@ -10,7 +10,7 @@ use Rattle.listing.proofs.answer.Reads as reads
 use Rattle.listing.proofs.answer.Lts as lts
 use Rattle.input.proofs.request_entry.Reads as request-entry-reads
 use Rattle.listing.proofs.list.Reads as list-reads
-use Rattle.show.proofs.bad_input.Reads as bad-input-reads
+use Rattle.listing.proofs.show.bad_input.Reads as bad-input-reads
 
 -- the dictionary and the request stand inside the input
 entries-inside : (c : tie.After-at) → (4 ≤ c .at .given .0 .0) × (c .at .given .0 .0 + 4 ≤ length (c .before .before .before .before .args .s .now))

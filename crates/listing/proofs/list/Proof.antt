@@ -6,8 +6,8 @@ use Rattle.listing.proofs.list.Tie as tie
 use Rattle.listing.proofs.list.Reads as reads
 use Rattle.listing.proofs.list.Lts as lts
 use Rattle.grammar.proofs.number_of.Reads as number-of-reads
-use Rattle.show.proofs.refused.Reads as refused-reads
-use Rattle.show.proofs.line.Reads as line-reads
+use Rattle.listing.proofs.show.refused.Reads as refused-reads
+use Rattle.listing.proofs.show.line.Reads as line-reads
 use Rattle.listing.proofs.table.rows.Reads as rows-reads
 use Rattle.reader.proofs.read.Reads as read-reads
 

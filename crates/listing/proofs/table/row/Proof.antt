@@ -4,8 +4,8 @@ use Rattle.listing.proofs.table.row.Statement.{statement}
 use Rattle.listing.proofs.table.row.Tie as tie
 use Rattle.listing.proofs.table.row.Reads as reads
 use Rattle.listing.proofs.table.row.Lts as lts
-use Rattle.show.proofs.number.Reads as number-reads
-use Rattle.show.proofs.text.Reads as text-reads
+use Rattle.listing.proofs.show.number.Reads as number-reads
+use Rattle.listing.proofs.show.text.Reads as text-reads
 
 abbrev Inv-loop : tie.InvT-loop
 Inv-loop name table start width i₀ t6 t7 i = i ≤ width

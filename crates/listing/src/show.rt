@@ -1,4 +1,4 @@
-// Lines on standard output that more than one program writes. No contract can say what is written, so these have none.
+// Lines on standard output, of this program alone. No contract can say what is written, so these functions have none.
 
 pub fn text(s: &[u8]) {
     io::write_all(1, s);
