@@ -29,9 +29,14 @@ extern "C" {
         records: *const u8,
         records_length: usize,
     ) -> u64;
-    fn leaf_value(operation: u8, a: i64, a_scale: i8, b: i64, b_scale: i8) -> i64;
-    fn leaf_scale(operation: u8, a: i64, a_scale: i8, b: i64, b_scale: i8) -> i8;
-    fn leaf_refusal(operation: u8, a: i64, a_scale: i8, b: i64, b_scale: i8) -> u32;
+    fn leaf_compute(
+        operation: u8,
+        a: i64,
+        a_scale: i8,
+        b: i64,
+        b_scale: i8,
+        answer: *mut i64,
+    ) -> u32;
     fn leaf_compare(a: i64, a_scale: i8, b: i64, b_scale: i8) -> i64;
     fn leaf_text_malformed(text_type: u8, bytes: *const u8, length: usize) -> bool;
     fn leaf_text_start(text_type: u8, bytes: *const u8, length: usize) -> usize;
@@ -105,19 +110,20 @@ pub const DIVIDE: u8 = 3;
 pub const NEGATE: u8 = 4;
 pub const RESCALE: u8 = 5;
 
-/// The result of an operation.
-pub fn compute(operation: u8, a: Number, b: Number) -> Computed {
-    // Numbers alone are passed.
-    unsafe {
-        let refusal = leaf_refusal(operation, a.value, a.scale, b.value, b.scale);
-        if refusal != 0 {
-            return Computed::Refused(refusal);
-        }
-        Computed::Value(Number {
-            value: leaf_value(operation, a.value, a.scale, b.value, b.scale),
-            scale: leaf_scale(operation, a.value, a.scale, b.value, b.scale),
-        })
+/// The result of an operation, from the number of a refusal, or 0, and the value and scale left in the answer.
+pub fn computed(refusal: u32, answer: [i64; 2]) -> Computed {
+    match refusal {
+        0 => Computed::Value(Number { value: answer[0], scale: answer[1] as i8 }),
+        _ => Computed::Refused(refusal),
     }
+}
+
+pub fn compute(operation: u8, a: Number, b: Number) -> Computed {
+    let mut answer = [i64::MAX; 2];
+    let pointer = answer.as_mut_ptr();
+    // Numbers are passed, and an array that is borrowed for the call alone.
+    let refusal = unsafe { leaf_compute(operation, a.value, a.scale, b.value, b.scale, pointer) };
+    computed(refusal, answer)
 }
 
 fn ordering(sign: i64) -> Ordering {

@@ -1,6 +1,8 @@
 -- What the test exports give, in numbers.
 use Prim.Native.Nat.{ℕ}
 use mathlib.Core.Bool.{Bool, true, false, cond}
+use mathlib.Core.List.{List, [], _∷_}
+use mathlib.Core.Path.{_≡_}
 use lib.Dec.{eqb, ltb}
 use lib.IntN.{ℤ, pos, negsuc}
 use Rattle.wire.specs.declared.order.Order.{Order}
@@ -56,6 +58,11 @@ abbrev pub refusalOf : Computed → ℕ
 refusalOf (Value a) = 0
 refusalOf Overflow = 24
 refusalOf ZeroDivisor = 25
+
+-- what an operation gives, and what it leaves in the answer
+pub record Given (c : Computed) (an′ : List ℤ) (r : ℕ) : Type 0 where
+  pub number-is : r ≡ refusalOf c
+  pub answer-filled : an′ ≡ valueOf c ∷ scaleOf c ∷ []
 
 abbrev pub signOf : Order → ℤ
 signOf Less = negsuc 0

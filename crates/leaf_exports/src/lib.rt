@@ -1,7 +1,7 @@
 // Test exports of the leaves, for the comparison with the second program. They are no part of the product's interface.
 ghost use mathlib.Core.Path.{_≡_};
 ghost use Rattle.wire.specs.Words.{wordAt, longAt, signed};
-ghost use Rattle.leaf_exports.specs.Exports.{operatorOf, textTypeOf, searchOf, operation, valueOf, scaleOf, refusalOf, signOf, isMalformed, startOf, endOf};
+ghost use Rattle.leaf_exports.specs.Exports.{operatorOf, textTypeOf, searchOf, operation, Given, signOf, isMalformed, startOf, endOf};
 ghost use Rattle.decimal.specs.Number.{compared};
 ghost use Rattle.text.specs.Value.{textPart, bytesOf};
 ghost use Rattle.text.specs.Tests.{textOrder, search};
@@ -50,42 +50,32 @@ fn operate(o: u8, a: i64, a_scale: i8, b: i64, b_scale: i8) -> Computed
     decimal::rescale(first, b_scale)
 }
 
-// The value of a result, 0 where there is none.
+// 0, or refusal 24 or 25; value and scale of the result are left in the answer, zeros where there is none.
 #[no_mangle]
-pub extern "C" fn leaf_value(o: u8, a: i64, a_scale: i8, b: i64, b_scale: i8) -> i64
-    ensures { λ r. ⌜ r ≡ valueOf (operation o (record { value = a; scale = «a_scale» }) (record { value = b; scale = «b_scale» })) ⌝ }
+pub extern "C" fn leaf_compute(
+    o: u8,
+    a: i64,
+    a_scale: i8,
+    b: i64,
+    b_scale: i8,
+    answer: &mut [i64; 2],
+) -> u32
+    ensures { λ r. ⌜ Given (operation o (record { value = a; scale = «a_scale» }) (record { value = b; scale = «b_scale» })) (now (answer .exit)) r ⌝ }
 {
-    let c = operate(o, a, a_scale, b, b_scale);
-    match c {
-        Computed::Value(n) => n.value,
-        Computed::Overflow => 0,
-        Computed::ZeroDivisor => 0,
-    }
-}
-
-// The scale of a result, 0 where there is none.
-#[no_mangle]
-pub extern "C" fn leaf_scale(o: u8, a: i64, a_scale: i8, b: i64, b_scale: i8) -> i8
-    ensures { λ r. ⌜ r ≡ scaleOf (operation o (record { value = a; scale = «a_scale» }) (record { value = b; scale = «b_scale» })) ⌝ }
-{
-    let c = operate(o, a, a_scale, b, b_scale);
-    match c {
-        Computed::Value(n) => n.scale,
-        Computed::Overflow => 0,
-        Computed::ZeroDivisor => 0,
-    }
-}
-
-// 24 or 25, or 0 where there is a result.
-#[no_mangle]
-pub extern "C" fn leaf_refusal(o: u8, a: i64, a_scale: i8, b: i64, b_scale: i8) -> u32
-    ensures { λ r. ⌜ r ≡ refusalOf (operation o (record { value = a; scale = «a_scale» }) (record { value = b; scale = «b_scale» })) ⌝ }
-{
-    let c = operate(o, a, a_scale, b, b_scale);
-    match c {
-        Computed::Value(n) => 0,
-        Computed::Overflow => 24,
-        Computed::ZeroDivisor => 25,
+    match operate(o, a, a_scale, b, b_scale) {
+        Computed::Value(n) => {
+            let scale = n.scale as i64;
+            *answer = [n.value, scale];
+            0
+        }
+        Computed::Overflow => {
+            *answer = [0, 0];
+            24
+        }
+        Computed::ZeroDivisor => {
+            *answer = [0, 0];
+            25
+        }
     }
 }
 
