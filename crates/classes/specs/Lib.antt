@@ -1,2 +1,2 @@
--- The signs of the tables.
-pub mod Signs
+-- The classes as the code has them.
+pub mod Classes

@@ -18,7 +18,7 @@ use Rattle.classes.specs.declared.ValueClass.{ValueClass}
 use Rattle.classes.specs.declared.ValueClass.the-variants as ValueClass
 use Rattle.classes.specs.declared.BooleanClass.{BooleanClass}
 use Rattle.classes.specs.declared.BooleanClass.the-variants as BooleanClass
-use Rattle.classes.specs.Signs.{valueClassOf, booleanClassOf}
+use Rattle.classes.specs.Classes.{valueClassOf, booleanClassOf}
 use Rattle.grammar.specs.Tree.{Reference}
 use Rattle.meaning.specs.declared.Truth.{Truth}
 use Rattle.meaning.specs.Data.{Datum, arithmeticOf, negateOf, compareOf, searchOf, betweenOf, missingOf, connected, opposite}

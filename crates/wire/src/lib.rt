@@ -1,4 +1,5 @@
 // What requests, dictionaries and records are written in: bytes, words, and codes by their kind of place.
+pub mod blr;
 pub mod bytes;
 pub mod codes;
 pub mod numbers;

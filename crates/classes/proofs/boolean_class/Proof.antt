@@ -1,88 +1,97 @@
 use borrow.Author.Needs.{needs}
-use mathlib.Core.Path.{sym, ap, _∙_}
+use mathlib.Core.Path.{refl, sym, ap}
+use mathlib.Core.List.{List, [], _∷_}
+use Prim.Native.Nat.{ℕ}
+use Rattle.wire.specs.Codes as blr
 use Rattle.wire.specs.Lists.{among, anyOf}
-use Rattle.wire.specs.Classes.{classify}
-use Rattle.classes.specs.Signs.{left, booleanSigns, booleanSign}
-use Rattle.classes.proofs.Table.{other}
+use Rattle.wire.specs.Classes.{leftOut, foreign, classify, booleanClass}
+use Rattle.classes.proofs.Arms.{each, at-key, between}
 use Rattle.classes.proofs.boolean_class.Statement.{statement}
 use Rattle.classes.proofs.boolean_class.Tie as tie
 
-boolean-sign-requires : tie.Need-boolean-sign-requires
-boolean-sign-requires c κs = search needs
+abbrev arms : List (List ℕ)
+arms =
+    each
+    (blr.eql ∷ blr.neq ∷ blr.gtr ∷ blr.geq ∷ blr.lss ∷ blr.leq ∷ blr.containing ∷ blr.matching ∷ blr.starting ∷
+    blr.between ∷ blr.or ∷ blr.and ∷ blr.not ∷ blr.missing ∷ [])
+    ((blr.any ∷ []) ∷ [])
 
 returns : tie.Need-returns
-unfolding booleanSign classify
-returns c = ap booleanSign (sym (c .match .keys1)) ∙ c .before .boolean-sign .ensures
+unfolding booleanClass classify
+returns c = ap booleanClass (sym (c .match .keys1))
 
 returns-2 : tie.Need-returns-2
-unfolding booleanSign classify
-returns-2 c = ap booleanSign (sym (c .match .keys2)) ∙ c .before .boolean-sign .ensures
+unfolding booleanClass classify
+returns-2 c = ap booleanClass (sym (c .match .keys2))
 
 returns-3 : tie.Need-returns-3
-unfolding booleanSign classify
-returns-3 c = ap booleanSign (sym (c .match .keys3)) ∙ c .before .boolean-sign .ensures
+unfolding booleanClass classify
+returns-3 c = ap booleanClass (sym (c .match .keys3))
 
 returns-4 : tie.Need-returns-4
-unfolding booleanSign classify
-returns-4 c = ap booleanSign (sym (c .match .keys4)) ∙ c .before .boolean-sign .ensures
+unfolding booleanClass classify
+returns-4 c = ap booleanClass (sym (c .match .keys4))
 
 returns-5 : tie.Need-returns-5
-unfolding booleanSign classify
-returns-5 c = ap booleanSign (sym (c .match .keys5)) ∙ c .before .boolean-sign .ensures
+unfolding booleanClass classify
+returns-5 c = ap booleanClass (sym (c .match .keys5))
 
 returns-6 : tie.Need-returns-6
-unfolding booleanSign classify
-returns-6 c = ap booleanSign (sym (c .match .keys6)) ∙ c .before .boolean-sign .ensures
+unfolding booleanClass classify
+returns-6 c = ap booleanClass (sym (c .match .keys6))
 
 returns-7 : tie.Need-returns-7
-unfolding booleanSign classify
-returns-7 c = ap booleanSign (sym (c .match .keys7)) ∙ c .before .boolean-sign .ensures
+unfolding booleanClass classify
+returns-7 c = ap booleanClass (sym (c .match .keys7))
 
 returns-8 : tie.Need-returns-8
-unfolding booleanSign classify
-returns-8 c = ap booleanSign (sym (c .match .keys8)) ∙ c .before .boolean-sign .ensures
+unfolding booleanClass classify
+returns-8 c = ap booleanClass (sym (c .match .keys8))
 
 returns-9 : tie.Need-returns-9
-unfolding booleanSign classify
-returns-9 c = ap booleanSign (sym (c .match .keys9)) ∙ c .before .boolean-sign .ensures
+unfolding booleanClass classify
+returns-9 c = ap booleanClass (sym (c .match .keys9))
 
 returns-10 : tie.Need-returns-10
-unfolding booleanSign classify
-returns-10 c = ap booleanSign (sym (c .match .keys10)) ∙ c .before .boolean-sign .ensures
+unfolding booleanClass classify
+returns-10 c = ap booleanClass (sym (c .match .keys10))
 
 returns-11 : tie.Need-returns-11
-unfolding booleanSign classify
-returns-11 c = ap booleanSign (sym (c .match .keys11)) ∙ c .before .boolean-sign .ensures
+unfolding booleanClass classify
+returns-11 c = ap booleanClass (sym (c .match .keys11))
 
 returns-12 : tie.Need-returns-12
-unfolding booleanSign classify
-returns-12 c = ap booleanSign (sym (c .match .keys12)) ∙ c .before .boolean-sign .ensures
+unfolding booleanClass classify
+returns-12 c = ap booleanClass (sym (c .match .keys12))
 
 returns-13 : tie.Need-returns-13
-unfolding booleanSign classify
-returns-13 c = ap booleanSign (sym (c .match .keys13)) ∙ c .before .boolean-sign .ensures
+unfolding booleanClass classify
+returns-13 c = ap booleanClass (sym (c .match .keys13))
 
 returns-14 : tie.Need-returns-14
-unfolding booleanSign classify
-returns-14 c = ap booleanSign (sym (c .match .keys14)) ∙ c .before .boolean-sign .ensures
+unfolding booleanClass classify
+returns-14 c = ap booleanClass (sym (c .match .keys14))
 
 returns-15 : tie.Need-returns-15
-unfolding booleanSign classify among anyOf
-returns-15 c = ap booleanSign (sym (c .match .keys15)) ∙ c .before .boolean-sign .ensures
+unfolding booleanClass classify among anyOf
+returns-15 c = between foreign booleanClass [] 0 47 refl (c .before .before .args .code) tt (search needs) (search needs)
 
 returns-16 : tie.Need-returns-16
-unfolding booleanSign
-returns-16 c =
-    let r = c .match .rest in
-    other booleanSigns left (c .before .boolean-sign .result)
-    ((r .0 .0 .0 .0 .0 .0 .0 .0 .0 .0 .0 .0 .0 .0 .1), ((r .0 .0 .0 .0 .0 .0 .0 .0 .0 .0 .0 .0 .0 .1), ((r .0 .0 .0 .0 .0 .0 .0 .0 .0 .0 .0 .0 .1), ((r .0 .0 .0 .0 .0 .0 .0 .0 .0 .0 .0 .1), ((r .0 .0 .0 .0 .0 .0 .0 .0 .0 .0 .1), ((r .0 .0 .0 .0 .0 .0 .0 .0 .0 .1), ((r .0 .0 .0 .0 .0 .0 .0 .0 .1), ((r .0 .0 .0 .0 .0 .0 .0 .1), ((r .0 .0 .0 .0 .0 .0 .1), ((r .0 .0 .0 .0 .0 .1), ((r .0 .0 .0 .0 .1), ((r .0 .0 .0 .1), ((r .0 .0 .1), ((r .0 .1), tt))))))))))))))
-    ((r .1), tt) ∙ c .before .boolean-sign .ensures
+unfolding booleanClass classify among anyOf
+returns-16 c = between foreign booleanClass [] 64 256 refl (c .before .before .before .args .code) tt (search needs) (search needs)
+
+returns-17 : tie.Need-returns-17
+unfolding booleanClass classify among anyOf
+returns-17 c = at-key leftOut booleanClass (blr.any ∷ []) refl _ (c .match .keys15)
+
+returns-18 : tie.Need-returns-18
+unfolding booleanClass classify among anyOf
+returns-18 c = between leftOut booleanClass arms 47 64 refl _ (c .before .before .match .rest) (search needs) (search needs)
 
 pub boolean-class-spec : {M : Type 1} → statement M
 boolean-class-spec =
     tie.close
     (tie.spec
-    boolean-sign-requires
     returns
     returns-2
     returns-3
@@ -98,4 +107,6 @@ boolean-class-spec =
     returns-13
     returns-14
     returns-15
-    returns-16)
+    returns-16
+    returns-17
+    returns-18)

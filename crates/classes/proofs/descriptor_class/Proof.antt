@@ -1,56 +1,61 @@
 use borrow.Author.Needs.{needs}
-use mathlib.Core.Path.{sym, ap, _∙_}
+use mathlib.Core.Path.{refl, sym, ap}
+use mathlib.Core.List.{List, [], _∷_}
+use Prim.Native.Nat.{ℕ}
+use Rattle.wire.specs.Codes as blr
 use Rattle.wire.specs.Lists.{among, anyOf}
-use Rattle.wire.specs.Classes.{classify}
-use Rattle.classes.specs.Signs.{left, descriptorSigns, descriptorSign}
-use Rattle.classes.proofs.Table.{other}
+use Rattle.wire.specs.Classes.{leftOut, foreign, classify, descriptorClass}
+use Rattle.classes.proofs.Arms.{each, at-key, between}
 use Rattle.classes.proofs.descriptor_class.Statement.{statement}
 use Rattle.classes.proofs.descriptor_class.Tie as tie
 
-descriptor-sign-requires : tie.Need-descriptor-sign-requires
-descriptor-sign-requires c κs = search needs
+abbrev arms : List (List ℕ)
+arms = each (blr.short ∷ blr.long ∷ blr.date ∷ blr.text ∷ blr.varying ∷ blr.cstring ∷ []) ((blr.double ∷ []) ∷ [])
 
 returns : tie.Need-returns
-unfolding descriptorSign classify
-returns c = ap descriptorSign (sym (c .match .keys1)) ∙ c .before .descriptor-sign .ensures
+unfolding descriptorClass classify
+returns c = ap descriptorClass (sym (c .match .keys1))
 
 returns-2 : tie.Need-returns-2
-unfolding descriptorSign classify
-returns-2 c = ap descriptorSign (sym (c .match .keys2)) ∙ c .before .descriptor-sign .ensures
+unfolding descriptorClass classify
+returns-2 c = ap descriptorClass (sym (c .match .keys2))
 
 returns-3 : tie.Need-returns-3
-unfolding descriptorSign classify
-returns-3 c = ap descriptorSign (sym (c .match .keys3)) ∙ c .before .descriptor-sign .ensures
+unfolding descriptorClass classify
+returns-3 c = ap descriptorClass (sym (c .match .keys3))
 
 returns-4 : tie.Need-returns-4
-unfolding descriptorSign classify
-returns-4 c = ap descriptorSign (sym (c .match .keys4)) ∙ c .before .descriptor-sign .ensures
+unfolding descriptorClass classify
+returns-4 c = ap descriptorClass (sym (c .match .keys4))
 
 returns-5 : tie.Need-returns-5
-unfolding descriptorSign classify
-returns-5 c = ap descriptorSign (sym (c .match .keys5)) ∙ c .before .descriptor-sign .ensures
+unfolding descriptorClass classify
+returns-5 c = ap descriptorClass (sym (c .match .keys5))
 
 returns-6 : tie.Need-returns-6
-unfolding descriptorSign classify
-returns-6 c = ap descriptorSign (sym (c .match .keys6)) ∙ c .before .descriptor-sign .ensures
+unfolding descriptorClass classify
+returns-6 c = ap descriptorClass (sym (c .match .keys6))
 
 returns-7 : tie.Need-returns-7
-unfolding descriptorSign classify among anyOf
-returns-7 c = ap descriptorSign (sym (c .match .keys7)) ∙ c .before .descriptor-sign .ensures
+unfolding descriptorClass classify among anyOf
+returns-7 c = between foreign descriptorClass [] 0 7 refl (c .before .before .args .code) tt (search needs) (search needs)
 
 returns-8 : tie.Need-returns-8
-unfolding descriptorSign
-returns-8 c =
-    let r = c .match .rest in
-    other descriptorSigns left (c .before .descriptor-sign .result)
-    ((r .0 .0 .0 .0 .0 .0 .1), ((r .0 .0 .0 .0 .0 .1), ((r .0 .0 .0 .0 .1), ((r .0 .0 .0 .1), ((r .0 .0 .1), ((r .0 .1), tt))))))
-    ((r .1), tt) ∙ c .before .descriptor-sign .ensures
+unfolding descriptorClass classify among anyOf
+returns-8 c = between foreign descriptorClass arms 12 256 refl _ (c .before .before .match .rest) (search needs) (search needs)
+
+returns-9 : tie.Need-returns-9
+unfolding descriptorClass classify among anyOf
+returns-9 c = at-key leftOut descriptorClass (blr.double ∷ []) refl _ (c .match .keys7)
+
+returns-10 : tie.Need-returns-10
+unfolding descriptorClass classify among anyOf
+returns-10 c = between leftOut descriptorClass arms 7 12 refl _ (c .before .before .match .rest) (search needs) (search needs)
 
 pub descriptor-class-spec : {M : Type 1} → statement M
 descriptor-class-spec =
     tie.close
     (tie.spec
-    descriptor-sign-requires
     returns
     returns-2
     returns-3
@@ -58,4 +63,6 @@ descriptor-class-spec =
     returns-5
     returns-6
     returns-7
-    returns-8)
+    returns-8
+    returns-9
+    returns-10)

@@ -1,36 +1,28 @@
 use borrow.Author.Needs.{needs}
-use mathlib.Core.Path.{sym, ap, _∙_}
-use mathlib.Core.List.{[]}
-use Rattle.wire.specs.Classes.{classify}
-use Rattle.classes.specs.Signs.{directionSigns, directionSign}
-use Rattle.classes.proofs.Table.{other}
+use mathlib.Core.Path.{refl, sym, ap}
+use mathlib.Core.List.{List, [], _∷_}
+use Prim.Native.Nat.{ℕ}
+use Rattle.wire.specs.Codes as blr
+use Rattle.wire.specs.Lists.{among, anyOf}
+use Rattle.wire.specs.Classes.{foreign, classify, directionClass}
+use Rattle.classes.proofs.Arms.{each, between}
 use Rattle.classes.proofs.direction_class.Statement.{statement}
 use Rattle.classes.proofs.direction_class.Tie as tie
 
-direction-sign-requires : tie.Need-direction-sign-requires
-direction-sign-requires c κs = search needs
+abbrev arms : List (List ℕ)
+arms = each (blr.ascending ∷ blr.descending ∷ []) []
 
 returns : tie.Need-returns
-unfolding directionSign classify
-returns c = ap directionSign (sym (c .match .keys1)) ∙ c .before .direction-sign .ensures
+unfolding directionClass classify
+returns c = ap directionClass (sym (c .match .keys1))
 
 returns-2 : tie.Need-returns-2
-unfolding directionSign classify
-returns-2 c = ap directionSign (sym (c .match .keys2)) ∙ c .before .direction-sign .ensures
+unfolding directionClass classify
+returns-2 c = ap directionClass (sym (c .match .keys2))
 
 returns-3 : tie.Need-returns-3
-unfolding directionSign
-returns-3 c =
-    let r = c .match .rest in
-    other directionSigns [] (c .before .direction-sign .result)
-    ((r .0 .1), ((r .1), tt))
-    tt ∙ c .before .direction-sign .ensures
+unfolding directionClass classify among anyOf
+returns-3 c = between foreign directionClass arms 0 256 refl _ (c .match .rest) (search needs) (search needs)
 
 pub direction-class-spec : {M : Type 1} → statement M
-direction-class-spec =
-    tie.close
-    (tie.spec
-    direction-sign-requires
-    returns
-    returns-2
-    returns-3)
+direction-class-spec = tie.close (tie.spec returns returns-2 returns-3)

@@ -1,46 +1,44 @@
 use borrow.Author.Needs.{needs}
-use mathlib.Core.Path.{sym, ap, _∙_}
+use mathlib.Core.Path.{refl, sym, ap}
+use mathlib.Core.List.{List, [], _∷_}
+use Prim.Native.Nat.{ℕ}
+use Rattle.wire.specs.Codes as blr
 use Rattle.wire.specs.Lists.{among, anyOf}
-use Rattle.wire.specs.Classes.{classify}
-use Rattle.classes.specs.Signs.{left, literalSigns, literalSign}
-use Rattle.classes.proofs.Table.{other}
+use Rattle.wire.specs.Classes.{leftOut, foreign, classify, literalClass}
+use Rattle.classes.proofs.Arms.{each, at-key, between}
 use Rattle.classes.proofs.literal_class.Statement.{statement}
 use Rattle.classes.proofs.literal_class.Tie as tie
 
-literal-sign-requires : tie.Need-literal-sign-requires
-literal-sign-requires c κs = search needs
+abbrev arms : List (List ℕ)
+arms = each (blr.short ∷ blr.long ∷ blr.text ∷ []) ((blr.double ∷ blr.date ∷ blr.varying ∷ blr.cstring ∷ []) ∷ [])
 
 returns : tie.Need-returns
-unfolding literalSign classify
-returns c = ap literalSign (sym (c .match .keys1)) ∙ c .before .literal-sign .ensures
+unfolding literalClass classify
+returns c = ap literalClass (sym (c .match .keys1))
 
 returns-2 : tie.Need-returns-2
-unfolding literalSign classify
-returns-2 c = ap literalSign (sym (c .match .keys2)) ∙ c .before .literal-sign .ensures
+unfolding literalClass classify
+returns-2 c = ap literalClass (sym (c .match .keys2))
 
 returns-3 : tie.Need-returns-3
-unfolding literalSign classify
-returns-3 c = ap literalSign (sym (c .match .keys3)) ∙ c .before .literal-sign .ensures
+unfolding literalClass classify
+returns-3 c = ap literalClass (sym (c .match .keys3))
 
 returns-4 : tie.Need-returns-4
-unfolding literalSign classify among anyOf
-returns-4 c = ap literalSign (sym (c .match .keys4)) ∙ c .before .literal-sign .ensures
+unfolding literalClass classify among anyOf
+returns-4 c = between foreign literalClass [] 0 7 refl (c .before .before .args .code) tt (search needs) (search needs)
 
 returns-5 : tie.Need-returns-5
-unfolding literalSign
-returns-5 c =
-    let r = c .match .rest in
-    other literalSigns left (c .before .literal-sign .result)
-    ((r .0 .0 .0 .1), ((r .0 .0 .1), ((r .0 .1), tt)))
-    ((r .1), tt) ∙ c .before .literal-sign .ensures
+unfolding literalClass classify among anyOf
+returns-5 c = between foreign literalClass arms 12 256 refl _ (c .before .before .match .rest) (search needs) (search needs)
+
+returns-6 : tie.Need-returns-6
+unfolding literalClass classify among anyOf
+returns-6 c = at-key leftOut literalClass (blr.double ∷ blr.date ∷ blr.varying ∷ blr.cstring ∷ []) refl _ (c .match .keys4)
+
+returns-7 : tie.Need-returns-7
+unfolding literalClass classify among anyOf
+returns-7 c = between leftOut literalClass arms 7 12 refl _ (c .before .before .match .rest) (search needs) (search needs)
 
 pub literal-class-spec : {M : Type 1} → statement M
-literal-class-spec =
-    tie.close
-    (tie.spec
-    literal-sign-requires
-    returns
-    returns-2
-    returns-3
-    returns-4
-    returns-5)
+literal-class-spec = tie.close (tie.spec returns returns-2 returns-3 returns-4 returns-5 returns-6 returns-7)

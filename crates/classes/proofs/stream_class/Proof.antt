@@ -1,41 +1,32 @@
 use borrow.Author.Needs.{needs}
-use mathlib.Core.Path.{sym, ap, _∙_}
+use mathlib.Core.Path.{refl, sym, ap}
+use mathlib.Core.List.{List, [], _∷_}
+use Prim.Native.Nat.{ℕ}
+use Rattle.wire.specs.Codes as blr
 use Rattle.wire.specs.Lists.{among, anyOf}
-use Rattle.wire.specs.Classes.{classify}
-use Rattle.classes.specs.Signs.{left, streamSigns, streamSign}
-use Rattle.classes.proofs.Table.{other}
+use Rattle.wire.specs.Classes.{leftOut, foreign, classify, streamClass}
+use Rattle.classes.proofs.Arms.{each, at-key, between}
 use Rattle.classes.proofs.stream_class.Statement.{statement}
 use Rattle.classes.proofs.stream_class.Tie as tie
 
-stream-sign-requires : tie.Need-stream-sign-requires
-stream-sign-requires c κs = search needs
+abbrev arms : List (List ℕ)
+arms = each (blr.relation ∷ blr.rid ∷ []) ((blr.union ∷ blr.aggregate ∷ []) ∷ [])
 
 returns : tie.Need-returns
-unfolding streamSign classify
-returns c = ap streamSign (sym (c .match .keys1)) ∙ c .before .stream-sign .ensures
+unfolding streamClass classify
+returns c = ap streamClass (sym (c .match .keys1))
 
 returns-2 : tie.Need-returns-2
-unfolding streamSign classify
-returns-2 c = ap streamSign (sym (c .match .keys2)) ∙ c .before .stream-sign .ensures
+unfolding streamClass classify
+returns-2 c = ap streamClass (sym (c .match .keys2))
 
 returns-3 : tie.Need-returns-3
-unfolding streamSign classify among anyOf
-returns-3 c = ap streamSign (sym (c .match .keys3)) ∙ c .before .stream-sign .ensures
+unfolding streamClass classify among anyOf
+returns-3 c = at-key leftOut streamClass (blr.union ∷ blr.aggregate ∷ []) refl _ (c .match .keys3)
 
 returns-4 : tie.Need-returns-4
-unfolding streamSign
-returns-4 c =
-    let r = c .match .rest in
-    other streamSigns left (c .before .stream-sign .result)
-    ((r .0 .0 .1), ((r .0 .1), tt))
-    ((r .1), tt) ∙ c .before .stream-sign .ensures
+unfolding streamClass classify among anyOf
+returns-4 c = between foreign streamClass arms 0 256 refl _ (c .match .rest) (search needs) (search needs)
 
 pub stream-class-spec : {M : Type 1} → statement M
-stream-class-spec =
-    tie.close
-    (tie.spec
-    stream-sign-requires
-    returns
-    returns-2
-    returns-3
-    returns-4)
+stream-class-spec = tie.close (tie.spec returns returns-2 returns-3 returns-4)

@@ -1,46 +1,36 @@
 use borrow.Author.Needs.{needs}
-use mathlib.Core.Path.{sym, ap, _∙_}
-use mathlib.Core.List.{[]}
-use Rattle.wire.specs.Classes.{classify}
-use Rattle.classes.specs.Signs.{targetSigns, targetSign}
-use Rattle.classes.proofs.Table.{other}
+use mathlib.Core.Path.{refl, sym, ap}
+use mathlib.Core.List.{List, [], _∷_}
+use Prim.Native.Nat.{ℕ}
+use Rattle.wire.specs.Codes as blr
+use Rattle.wire.specs.Lists.{among, anyOf}
+use Rattle.wire.specs.Classes.{foreign, classify, targetClass}
+use Rattle.classes.proofs.Arms.{each, between}
 use Rattle.classes.proofs.target_class.Statement.{statement}
 use Rattle.classes.proofs.target_class.Tie as tie
 
-target-sign-requires : tie.Need-target-sign-requires
-target-sign-requires c κs = search needs
+abbrev arms : List (List ℕ)
+arms = each (blr.field ∷ blr.fid ∷ blr.parameter ∷ blr.parameter2 ∷ []) []
 
 returns : tie.Need-returns
-unfolding targetSign classify
-returns c = ap targetSign (sym (c .match .keys1)) ∙ c .before .target-sign .ensures
+unfolding targetClass classify
+returns c = ap targetClass (sym (c .match .keys1))
 
 returns-2 : tie.Need-returns-2
-unfolding targetSign classify
-returns-2 c = ap targetSign (sym (c .match .keys2)) ∙ c .before .target-sign .ensures
+unfolding targetClass classify
+returns-2 c = ap targetClass (sym (c .match .keys2))
 
 returns-3 : tie.Need-returns-3
-unfolding targetSign classify
-returns-3 c = ap targetSign (sym (c .match .keys3)) ∙ c .before .target-sign .ensures
+unfolding targetClass classify
+returns-3 c = ap targetClass (sym (c .match .keys3))
 
 returns-4 : tie.Need-returns-4
-unfolding targetSign classify
-returns-4 c = ap targetSign (sym (c .match .keys4)) ∙ c .before .target-sign .ensures
+unfolding targetClass classify
+returns-4 c = ap targetClass (sym (c .match .keys4))
 
 returns-5 : tie.Need-returns-5
-unfolding targetSign
-returns-5 c =
-    let r = c .match .rest in
-    other targetSigns [] (c .before .target-sign .result)
-    ((r .0 .0 .0 .1), ((r .0 .0 .1), ((r .0 .1), ((r .1), tt))))
-    tt ∙ c .before .target-sign .ensures
+unfolding targetClass classify among anyOf
+returns-5 c = between foreign targetClass arms 0 256 refl _ (c .match .rest) (search needs) (search needs)
 
 pub target-class-spec : {M : Type 1} → statement M
-target-class-spec =
-    tie.close
-    (tie.spec
-    target-sign-requires
-    returns
-    returns-2
-    returns-3
-    returns-4
-    returns-5)
+target-class-spec = tie.close (tie.spec returns returns-2 returns-3 returns-4 returns-5)

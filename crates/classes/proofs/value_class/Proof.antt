@@ -1,72 +1,89 @@
 use borrow.Author.Needs.{needs}
-use mathlib.Core.Path.{sym, ap, _∙_}
+use mathlib.Core.Path.{refl, sym, ap}
+use mathlib.Core.List.{List, [], _∷_}
+use Prim.Native.Nat.{ℕ}
+use Rattle.wire.specs.Codes as blr
 use Rattle.wire.specs.Lists.{among, anyOf}
-use Rattle.wire.specs.Classes.{classify}
-use Rattle.classes.specs.Signs.{left, valueSigns, valueSign}
-use Rattle.classes.proofs.Table.{other}
+use Rattle.wire.specs.Classes.{leftOut, foreign, classify, valueClass}
+use Rattle.classes.proofs.Arms.{each, at-key, between}
 use Rattle.classes.proofs.value_class.Statement.{statement}
 use Rattle.classes.proofs.value_class.Tie as tie
 
-value-sign-requires : tie.Need-value-sign-requires
-value-sign-requires c κs = search needs
+abbrev arms : List (List ℕ)
+arms =
+    each
+    (blr.literal ∷ blr.field ∷ blr.fid ∷ blr.parameter ∷ blr.parameter2 ∷ blr.add ∷ blr.subtract ∷ blr.multiply ∷
+    blr.divide ∷ blr.negate ∷ [])
+    ((blr.dbkey ∷ []) ∷ [])
 
 returns : tie.Need-returns
-unfolding valueSign classify
-returns c = ap valueSign (sym (c .match .keys1)) ∙ c .before .value-sign .ensures
+unfolding valueClass classify
+returns c = ap valueClass (sym (c .match .keys1))
 
 returns-2 : tie.Need-returns-2
-unfolding valueSign classify
-returns-2 c = ap valueSign (sym (c .match .keys2)) ∙ c .before .value-sign .ensures
+unfolding valueClass classify
+returns-2 c = ap valueClass (sym (c .match .keys2))
 
 returns-3 : tie.Need-returns-3
-unfolding valueSign classify
-returns-3 c = ap valueSign (sym (c .match .keys3)) ∙ c .before .value-sign .ensures
+unfolding valueClass classify
+returns-3 c = ap valueClass (sym (c .match .keys3))
 
 returns-4 : tie.Need-returns-4
-unfolding valueSign classify
-returns-4 c = ap valueSign (sym (c .match .keys4)) ∙ c .before .value-sign .ensures
+unfolding valueClass classify
+returns-4 c = ap valueClass (sym (c .match .keys4))
 
 returns-5 : tie.Need-returns-5
-unfolding valueSign classify
-returns-5 c = ap valueSign (sym (c .match .keys5)) ∙ c .before .value-sign .ensures
+unfolding valueClass classify
+returns-5 c = ap valueClass (sym (c .match .keys5))
 
 returns-6 : tie.Need-returns-6
-unfolding valueSign classify
-returns-6 c = ap valueSign (sym (c .match .keys6)) ∙ c .before .value-sign .ensures
+unfolding valueClass classify
+returns-6 c = ap valueClass (sym (c .match .keys6))
 
 returns-7 : tie.Need-returns-7
-unfolding valueSign classify
-returns-7 c = ap valueSign (sym (c .match .keys7)) ∙ c .before .value-sign .ensures
+unfolding valueClass classify
+returns-7 c = ap valueClass (sym (c .match .keys7))
 
 returns-8 : tie.Need-returns-8
-unfolding valueSign classify
-returns-8 c = ap valueSign (sym (c .match .keys8)) ∙ c .before .value-sign .ensures
+unfolding valueClass classify
+returns-8 c = ap valueClass (sym (c .match .keys8))
 
 returns-9 : tie.Need-returns-9
-unfolding valueSign classify
-returns-9 c = ap valueSign (sym (c .match .keys9)) ∙ c .before .value-sign .ensures
+unfolding valueClass classify
+returns-9 c = ap valueClass (sym (c .match .keys9))
 
 returns-10 : tie.Need-returns-10
-unfolding valueSign classify
-returns-10 c = ap valueSign (sym (c .match .keys10)) ∙ c .before .value-sign .ensures
+unfolding valueClass classify
+returns-10 c = ap valueClass (sym (c .match .keys10))
 
 returns-11 : tie.Need-returns-11
-unfolding valueSign classify among anyOf
-returns-11 c = ap valueSign (sym (c .match .keys11)) ∙ c .before .value-sign .ensures
+unfolding valueClass classify among anyOf
+returns-11 c = between foreign valueClass [] 0 21 refl (c .before .before .args .code) tt (search needs) (search needs)
 
 returns-12 : tie.Need-returns-12
-unfolding valueSign
-returns-12 c =
-    let r = c .match .rest in
-    other valueSigns left (c .before .value-sign .result)
-    ((r .0 .0 .0 .0 .0 .0 .0 .0 .0 .0 .1), ((r .0 .0 .0 .0 .0 .0 .0 .0 .0 .1), ((r .0 .0 .0 .0 .0 .0 .0 .0 .1), ((r .0 .0 .0 .0 .0 .0 .0 .1), ((r .0 .0 .0 .0 .0 .0 .1), ((r .0 .0 .0 .0 .0 .1), ((r .0 .0 .0 .0 .1), ((r .0 .0 .0 .1), ((r .0 .0 .1), ((r .0 .1), tt))))))))))
-    ((r .1), tt) ∙ c .before .value-sign .ensures
+unfolding valueClass classify among anyOf
+returns-12 c = between foreign valueClass [] 32 34 refl (c .before .before .before .before .args .code) tt (search needs) (search needs)
+
+returns-13 : tie.Need-returns-13
+unfolding valueClass classify among anyOf
+returns-13 c = between foreign valueClass [] 46 256 refl (c .before .before .before .before .before .args .code) tt (search needs) (search needs)
+
+returns-14 : tie.Need-returns-14
+unfolding valueClass classify among anyOf
+returns-14 c = at-key leftOut valueClass (blr.dbkey ∷ []) refl _ (c .match .keys11)
+
+returns-15 : tie.Need-returns-15
+unfolding valueClass classify among anyOf
+returns-15 c = between leftOut valueClass arms 21 32 refl _ (c .before .before .match .rest) (search needs) (search needs)
+
+returns-16 : tie.Need-returns-16
+unfolding valueClass classify among anyOf
+returns-16 c = between leftOut valueClass arms 34 46 refl _ (c .before .before .before .before .match .rest) (search needs) (search needs)
 
 pub value-class-spec : {M : Type 1} → statement M
 value-class-spec =
     tie.close
     (tie.spec
-    value-sign-requires
     returns
     returns-2
     returns-3
@@ -78,4 +95,8 @@ value-class-spec =
     returns-9
     returns-10
     returns-11
-    returns-12)
+    returns-12
+    returns-13
+    returns-14
+    returns-15
+    returns-16)

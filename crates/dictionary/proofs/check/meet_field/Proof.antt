@@ -3,7 +3,7 @@ use mathlib.Core.Path.{_≡_, sym, ap, _∙_}
 use Prim.Native.Nat.{_+_}
 use Rattle.wire.specs.Words.{byteAt}
 use Rattle.wire.specs.Classes.{due, foreign, fieldClass}
-use Rattle.classes.specs.Signs.{fieldClassOf}
+use Rattle.classes.specs.Classes.{fieldClassOf}
 use Rattle.dictionary.specs.Walk.{fieldMet}
 use Rattle.dictionary.specs.Answers.{meetingOf}
 use borrow.Author.Needs.{needs}

@@ -1,7 +1,7 @@
 -- `inputs::literals::literal` meets its contract. Assumes nothing.
 use mathlib.Core.Path.{sym, ap, _∙_}
 use native.Mathlib.Omega.{arith}
-use Rattle.classes.specs.Signs.{literalClassOf}
+use Rattle.classes.specs.Classes.{literalClassOf}
 use Rattle.inputs.proofs.LiteralLaws.{no-literal, literal-due, literal-left, literal-foreign}
 use borrow.Author.Needs.{needs}
 use Rattle.inputs.proofs.literals.literal.Statement.{statement}

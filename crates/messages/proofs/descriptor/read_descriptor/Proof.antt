@@ -4,7 +4,7 @@ use mathlib.Core.Path.{sym, ap, _∙_}
 use native.Mathlib.Omega.{arith}
 use Rattle.grammar.specs.Reader.{byte}
 use Rattle.grammar.specs.Messages.{descriptorUnder}
-use Rattle.classes.specs.Signs.{descriptorClassOf}
+use Rattle.classes.specs.Classes.{descriptorClassOf}
 use Rattle.grammar.proofs.StepLaws.{byte-read, byte-refused}
 use Rattle.messages.proofs.Descriptors.{format-read, format-refused, under-few, descriptor-ended, descriptor-left-out, descriptor-foreign, descriptor-cut, descriptor-answer, descriptor-over}
 use borrow.Author.Needs.{needs}

@@ -1,6 +1,6 @@
 use Rattle.reader.proofs.Codes.{coded-due, coded-out, coded-foreign, coded-cut, leveled-due, leveled-deep, leveled-refused}
 use Rattle.reader.specs.Cycle.{booleanHead}
-use Rattle.classes.specs.Signs.{booleanClassOf}
+use Rattle.classes.specs.Classes.{booleanClassOf}
 use Rattle.wire.specs.Classes.{booleanClass}
 use Rattle.grammar.proofs.StepLaws.{byte-read, byte-refused}
 use Rattle.grammar.specs.Reader.{byte}

@@ -1,6 +1,6 @@
 use Rattle.reader.proofs.Codes.{coded-due, coded-out, coded-foreign, coded-cut, clause-full, clause-refused, clause-stands, clause-twice}
 use Rattle.reader.specs.Cycle.{clauseHead}
-use Rattle.classes.specs.Signs.{clauseClassOf}
+use Rattle.classes.specs.Classes.{clauseClassOf}
 use Rattle.wire.specs.Classes.{clauseClass}
 use Rattle.grammar.proofs.StepLaws.{byte-read, byte-refused}
 use Rattle.grammar.specs.Reader.{byte}

@@ -1,5 +1,5 @@
 use Rattle.reader.proofs.Codes.{coded-due, coded-foreign, coded-cut, coded-after, refused-after}
-use Rattle.classes.specs.Signs.{directionClassOf}
+use Rattle.classes.specs.Classes.{directionClassOf}
 use Rattle.wire.specs.Classes.{directionClass}
 use Rattle.grammar.proofs.StepLaws.{byte-read, byte-refused}
 use Rattle.grammar.specs.Reader.{byte}

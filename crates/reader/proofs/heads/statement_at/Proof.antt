@@ -1,6 +1,6 @@
 use Rattle.reader.proofs.Codes.{coded-due, coded-out, coded-foreign, coded-cut, statement-entered, statement-refused}
 use Rattle.reader.specs.Cycle.{statementHead}
-use Rattle.classes.specs.Signs.{statementClassOf}
+use Rattle.classes.specs.Classes.{statementClassOf}
 use Rattle.wire.specs.Classes.{statementClass}
 use Rattle.grammar.proofs.StepLaws.{byte-read, byte-refused}
 use Rattle.grammar.specs.Reader.{byte}

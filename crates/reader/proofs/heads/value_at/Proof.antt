@@ -1,6 +1,6 @@
 use Rattle.reader.proofs.Codes.{coded-due, coded-out, coded-foreign, coded-cut, leveled-due, leveled-deep, leveled-refused}
 use Rattle.reader.specs.Cycle.{valueHead}
-use Rattle.classes.specs.Signs.{valueClassOf}
+use Rattle.classes.specs.Classes.{valueClassOf}
 use Rattle.wire.specs.Classes.{valueClass}
 use Rattle.grammar.proofs.StepLaws.{byte-read, byte-refused}
 use Rattle.grammar.specs.Reader.{byte}

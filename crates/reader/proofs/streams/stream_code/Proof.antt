@@ -1,6 +1,6 @@
 use mathlib.Core.Path.{_≡_, refl, sym, ap, _∙_}
 use Rattle.wire.specs.Classes.{streamClass}
-use Rattle.classes.specs.Signs.{streamClassOf}
+use Rattle.classes.specs.Classes.{streamClassOf}
 use Rattle.grammar.specs.Reader.{byte, coded}
 use Rattle.grammar.proofs.StepLaws.{byte-read, byte-refused}
 use Rattle.reader.proofs.StreamLaws.{coded-due, coded-left, coded-foreign}

@@ -1,7 +1,7 @@
 -- `references::literal::read_literal` meets its contract. By the class of the code. Assumes nothing.
 use mathlib.Core.Path.{sym, ap, _∙_}
 use borrow.Author.Needs.{needs}
-use Rattle.classes.specs.Signs.{literalClassOf}
+use Rattle.classes.specs.Classes.{literalClassOf}
 use Rattle.grammar.specs.Values.{readLiteral}
 use Rattle.grammar.specs.Reader.{byte, coded}
 use Rattle.grammar.proofs.StepLaws.{byte-read, byte-refused}

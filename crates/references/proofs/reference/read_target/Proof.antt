@@ -1,7 +1,7 @@
 -- `references::reference::read_target` meets its contract. By the class of the code. Assumes nothing.
 use mathlib.Core.Path.{sym, ap, _∙_}
 use borrow.Author.Needs.{needs}
-use Rattle.classes.specs.Signs.{targetClassOf}
+use Rattle.classes.specs.Classes.{targetClassOf}
 use Rattle.grammar.specs.Values.{readTarget}
 use Rattle.grammar.specs.Reader.{byte, coded}
 use Rattle.grammar.proofs.StepLaws.{byte-read, byte-refused}

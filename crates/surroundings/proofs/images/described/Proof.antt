@@ -1,7 +1,7 @@
 -- `surroundings::images::described` meets its contract. By the class of the code. Assumes nothing.
 use Prim.Native.Nat.{_%_}
 use mathlib.Core.Path.{sym, ap, _∙_}
-use Rattle.classes.specs.Signs.{descriptorClassOf}
+use Rattle.classes.specs.Classes.{descriptorClassOf}
 use Rattle.surroundings.proofs.ParameterLoops.{due-code, left-code, foreign-code, far-code}
 use borrow.Author.Needs.{needs}
 use Rattle.surroundings.proofs.images.described.Statement.{statement}
