@@ -1,7 +1,7 @@
 -- A condition that was asked for, once the request is read: a law for each answer.
 use Prim.Native.Nat.{ℕ, _+_, _*_, _/_, _≤_, min}
-use mathlib.Core.Path.{_≡_, refl, sym, ap, ap₂, subst, _∙_}
-use mathlib.Core.List.{List, [], _∷_, _++_, map, append-nil}
+use mathlib.Core.Path.{_≡_, refl, sym, ap, ap₂, _∙_}
+use mathlib.Core.List.{List, [], _++_, map, append-nil}
 use mathlib.Core.Option.{Option, none, some}
 use native.Mathlib.Omega.{arith}
 use lib.Dec.{eqb}
@@ -23,11 +23,11 @@ use Rattle.meaning.specs.declared.Truth.{Truth}
 use Rattle.meaning.specs.Data.{Result, is, refused, stray}
 use Rattle.meaning.specs.Inputs.{fetch}
 use Rattle.meaning.specs.Meaning.{meaning, booleanSize}
-use Rattle.meaning.specs.Evaluation.{Outcome, refusal, outcome, dueRelations, afterRecords, afterMessages, evaluation}
+use Rattle.meaning.specs.Evaluation.{refusal, outcome, dueRelations, afterRecords, afterMessages, evaluation}
 use Rattle.meaning.specs.Demand.{NotStray}
-use Rattle.walking.specs.Walk.{Walked, at, fault, astray, ended, booleanAt}
+use Rattle.walking.specs.Walk.{at, astray, ended, booleanAt}
 use Rattle.walking.proofs.Asked.{stands-after, walks, never}
-use Rattle.surroundings.specs.Slots.{slotsFrom, relationsIn}
+use Rattle.surroundings.specs.Slots.{Slot, slotsFrom, relationsIn}
 use Rattle.surroundings.specs.Parameters.{heldFrom}
 use Rattle.surroundings.specs.Around.{around}
 use Rattle.surroundings.specs.Tables.{slotsIn, numbersIn, Laid, conditionPlace}
@@ -99,108 +99,133 @@ module _ {s d pa ct nd : List ℕ} {m o : ℕ} (w : AfterReading s d pa ct nd m 
     unfolding evaluation
     no-condition z = rw (w .reads, w .accepted .house, none-asked (sym there ∙ z))
 
-    module _ (some-place : place ≡ 0 → ⊥) (total : ℕ) (t : total ≡ heldFrom pa (min m 256) 0) where
-      abbrev found : (x : Condition) × (asked ≡ some x) × (getD nd n 0 ≡ x .place)
-      found = one-asked (λ z. some-place (there ∙ z))
+    -- 21
+    pub wrong-images : (place ≡ 0 → ⊥) → (total : ℕ) → total ≡ heldFrom pa (min m 256) 0 → (length images ≡ total → ⊥) →
+        refusal BadMessageBytes (length images) ≡ evaluation s d n images rows
+    wrong-images some-place total t h =
+        let found = one-asked (λ z. some-place (there ∙ z)) in
+        sym (at-condition (found .0) (found .1)
+        ∙ rw (ne-eqb (length images) (sumOf messageSize (w .request .messages)) (λ z. h (z ∙ sym held-are ∙ sym t))))
 
-      -- 21
-      pub wrong-images : (length images ≡ total → ⊥) → refusal BadMessageBytes (length images) ≡ evaluation s d n images rows
-      wrong-images h =
-          sym (at-condition (found .0) (found .1)
-          ∙ rw (ne-eqb (length images) (sumOf messageSize (w .request .messages)) (λ z. h (z ∙ sym held-are ∙ sym t))))
+  -- there is such a condition, the images have their bytes, and the contexts in scope are laid over two tables
+  pub record Ready : Type 0 where
+    pub place : ℕ
+    pub there : place ≡ getD nd n 0
+    pub some-place : place ≡ 0 → ⊥
+    pub exact : length images ≡ heldFrom pa (min m 256) 0
+    pub numbers : List ℕ
+    pub relations : List ℕ
+    pub numbers′ : List ℕ
+    pub relations′ : List ℕ
+    pub count : ℕ
+    pub laid : Laid (slotsFrom d ct place (min o 32) 0) numbers relations numbers′ relations′ count
+    pub numbers-room : 32 ≤ length numbers
+    pub relations-room : 32 ≤ length relations
 
-      module _ (exact : length images ≡ total) {numbers relations numbers′ relations′ : List ℕ} {count : ℕ}
-          (l : Laid (slotsFrom d ct place (min o 32) 0) numbers relations numbers′ relations′ count)
-          (h : 32 ≤ length numbers) (g : 32 ≤ length relations) where
-        abbrev x : Condition
-        x = found .0
+module _ {s d pa ct nd : List ℕ} {m o : ℕ} {w : AfterReading s d pa ct nd m o} {n : ℕ} {images rows : List ℕ} (z : Ready w n images rows) where
+  found : (x : Condition) × (asked w n images rows ≡ some x) × (getD nd n 0 ≡ x .place)
+  found = one-asked w n images rows (λ q. z .some-place (z .there ∙ q))
 
-        here : place ≡ x .place
-        here = there ∙ found .2
+  abbrev x : Condition
+  x = found .0
 
-        contexts-here : min o 32 ≡ contextsCount (w .request .statements)
-        contexts-here = ap (λ z. min z 32) (w .contexts-are) ∙ every-context (w .relations) (w .request) (w .accepted .allowed)
+  here : z .place ≡ x .place
+  here = z .there ∙ found .2
 
-        slots-here : slotsFrom d ct place (min o 32) 0 ≡ slotsFrom d ct (x .place) (contextsCount (w .request .statements)) 0
-        slots-here = λ i. slotsFrom d ct (here i) (contexts-here i) 0
+  contexts-here : min o 32 ≡ contextsCount (w .request .statements)
+  contexts-here = ap (λ q. min q 32) (w .contexts-are) ∙ every-context (w .relations) (w .request) (w .accepted .allowed)
 
-        few : length (slotsFrom d ct place (min o 32) 0) ≤ 32
-        few = omega (arith, slots-few d ct place (min o 32) 0)
+  abbrev slots : List Slot
+  slots = slotsFrom d ct (z .place) (min o 32) 0
 
-        pub count-few : count ≤ 32
-        count-few = omega (arith, few, l .counted)
+  slots-here : slots ≡ slotsFrom d ct (x .place) (contextsCount (w .request .statements)) 0
+  slots-here = λ i. slotsFrom d ct (here i) (contexts-here i) 0
 
-        pub relations-long : length relations′ ≡ length relations
-        relations-long = ap length (l .relations-filled) ∙ length-sets relations 0 (relationsIn (slotsFrom d ct place (min o 32) 0))
+  few : length slots ≤ 32
+  few = omega (arith, slots-few d ct (z .place) (min o 32) 0)
 
-        pub numbers-long : length numbers′ ≡ length numbers
-        numbers-long = ap length (l .numbers-filled) ∙ length-sets numbers 0 (numbersIn (slotsFrom d ct place (min o 32) 0))
+  numbers-hold : length slots ≤ length (z .numbers)
+  numbers-hold = omega (arith, few, z .numbers-room)
 
-        run-same : records (map (relationAt d) (take count relations′)) rows 0 ≡ records (dueRelations (x .scope .contexts)) rows 0
-        run-same =
-            ap (λ z. records (map (relationAt d) z) rows 0)
-            (relations-back l few (omega (arith, few)) (omega (arith, few)) ∙ ap relationsIn slots-here)
-            ∙ run-due s d (w .relations) (w .request) (w .accepted) n x (found .1) ct (w .more-contexts) (w .context-rows) rows
+  relations-hold : length slots ≤ length (z .relations)
+  relations-hold = omega (arith, few, z .relations-room)
 
-        checked : evaluation s d n images rows ≡
-            afterRecords (records (map (relationAt d) (take count relations′)) rows 0) (outcome (meaning s d n images rows))
-        checked =
-            at-condition x (found .1)
-            ∙ rw (eq-eqb (length images) (sumOf messageSize (w .request .messages)) (exact ∙ t ∙ held-are))
-            (ap (λ z. afterRecords z (outcome (meaning s d n images rows))) (sym run-same))
+  pub numbers-fit : z .count ≤ length (z .numbers′)
+  numbers-fit =
+      let e : length (z .numbers′) ≡ length (z .numbers) = ap length (z .laid .numbers-filled) ∙ length-sets (z .numbers) 0 (numbersIn slots) in
+      omega (arith, z .laid .counted, numbers-hold, e)
 
-        -- 22
-        pub wrong-records : (p : ℕ) → WrongAt p ≡ runAnswer (records (map (relationAt d) (take count relations′)) rows 0) →
-            refusal BadRecords p ≡ evaluation s d n images rows
-        wrong-records p f = sym (checked ∙ rw (was-wrong (records (map (relationAt d) (take count relations′)) rows 0) p f))
+  pub relations-fit : z .count ≤ length (z .relations′)
+  relations-fit =
+      let e : length (z .relations′) ≡ length (z .relations) = ap length (z .laid .relations-filled) ∙ length-sets (z .relations) 0 (relationsIn slots) in
+      omega (arith, z .laid .counted, relations-hold, e)
 
-        -- the parts of the tables that the walk is handed
-        abbrev handed : Given
-        handed = given s d (take count numbers′) (take count relations′) (take (m * 6) pa) images rows
+  -- the answer on the records
+  abbrev run : Run
+  run = records (map (relationAt d) (take (z .count) (z .relations′))) rows 0
 
-        rows-long : length (parameterRows (w .request .messages)) ≡ m * 6
-        rows-long = omega (arith, parameter-rows (w .request .messages), w .parameters-are)
+  run-same : run ≡ records (dueRelations (x .scope .contexts)) rows 0
+  run-same =
+      ap (λ q. records (map (relationAt d) q) rows 0) (relations-back (z .laid) few numbers-hold relations-hold ∙ ap relationsIn slots-here)
+      ∙ run-due s d (w .relations) (w .request) (w .accepted) n x (found .1) ct (w .more-contexts) (w .context-rows) rows
 
-        pub rows-fit : m * 6 ≤ length pa
-        rows-fit =
-            omega (arith, rows-long, ap length (w .parameter-rows), length-append (parameterRows (w .request .messages)) (w .more-parameters))
+  checked : evaluation s d n images rows ≡ afterRecords run (outcome (meaning s d n images rows))
+  checked =
+      at-condition w n images rows x (found .1)
+      ∙ rw (eq-eqb (length images) (sumOf messageSize (w .request .messages)) (z .exact ∙ held-are w n images rows))
+      (ap (λ q. afterRecords q (outcome (meaning s d n images rows))) (sym run-same))
 
-        table-cut : take (m * 6) pa ≡ parameterRows (w .request .messages) ++ []
-        table-cut =
-            ap (take (m * 6)) (w .parameter-rows) ∙ take-at (parameterRows (w .request .messages)) (w .more-parameters) (m * 6) rows-long
-            ∙ sym (append-nil (parameterRows (w .request .messages)))
+  -- 22
+  pub wrong-records : (p : ℕ) → WrongAt p ≡ runAnswer run → refusal BadRecords p ≡ evaluation s d n images rows
+  wrong-records p f = sym (checked ∙ rw (was-wrong run p f))
 
-        module _ (due : AsDue ≡ runAnswer (records (map (relationAt d) (take count relations′)) rows 0)) where
-          run-is : records (dueRelations (x .scope .contexts)) rows 0 ≡ asDue
-          run-is = sym run-same ∙ was-due (records (map (relationAt d) (take count relations′)) rows 0) due
+  -- the parts of the tables that the walk is handed
+  abbrev handed : Given
+  handed = given s d (take (z .count) (z .numbers′)) (take (z .count) (z .relations′)) (take (m * 6) pa) images rows
 
-          fetches : fetchedBy handed ≡ fetch (w .request .messages) (x .scope) images rows
-          unfolding fetchedBy
-          fetches =
-              let a : length (take count numbers′) ≡ count = length-take-le count numbers′ (omega (arith, count-few, numbers-long)) in
-              let b : length (take (m * 6) pa) ≡ m * 6 = length-take-le (m * 6) pa rows-fit in
-              let c : min (length (take (m * 6) pa) / 6) 256 ≡ parameterCount (w .request .messages) =
-              omega (arith, b, w .parameters-are, w .accepted .allowed .sized .parameters) in
-              let e : slotsIn (take count numbers′) (take count relations′) (min (length (take count numbers′)) 32) 0 ≡
-              slotsFrom d ct (x .place) (contextsCount (w .request .statements)) 0 =
-              ap (λ z. slotsIn (take count numbers′) (take count relations′) (min z 32) 0) a
-              ∙ slots-cut numbers′ relations′ count (min count 32) 0 (omega arith)
-              ∙ slots-back l few (omega (arith, few)) (omega (arith, few)) ∙ slots-here in
-              (λ i. around d (e i) (take (m * 6) pa) (c i) images rows)
-              ∙ around-is s d (w .relations) (w .request) (w .accepted) n x (found .1) ct (w .more-contexts) (w .context-rows) (w .scale-bytes)
-              (take (m * 6) pa) [] images rows table-cut run-is
+  rows-long : length (parameterRows (w .request .messages)) ≡ m * 6
+  rows-long = omega (arith, parameter-rows (w .request .messages), w .parameters-are)
 
-          walk-is : booleanAt (fetchedBy handed) 32 s place ≡ ended (meaning s d n images rows) (x .place + booleanSize (x .boolean))
-          walk-is =
-              ap₂ (λ g z. booleanAt g 32 s z) fetches here ∙ walks s d (w .relations) (w .request) (w .accepted) n x (found .1) images rows
+  pub rows-fit : m * 6 ≤ length pa
+  rows-fit =
+      omega (arith, rows-long, ap length (w .parameter-rows), length-append (parameterRows (w .request .messages)) (w .more-parameters))
 
-          -- the walk is never astray, and otherwise comes out as evaluation does
-          pub walk-met : booleanAt (fetchedBy handed) 32 s place ≡ astray → ⊥
-          walk-met e =
-              ended-met (meaning s d n images rows) (x .place + booleanSize (x .boolean))
-              (never s d (w .relations) (w .request) (w .accepted) n x (found .1) images rows) (sym walk-is ∙ e)
+  table-cut : take (m * 6) pa ≡ parameterRows (w .request .messages) ++ []
+  table-cut =
+      ap (take (m * 6)) (w .parameter-rows) ∙ take-at (parameterRows (w .request .messages)) (w .more-parameters) (m * 6) rows-long
+      ∙ sym (append-nil (parameterRows (w .request .messages)))
 
-          pub walked : settled (booleanAt (fetchedBy handed) 32 s place) ≡ evaluation s d n images rows
-          walked =
-              ap settled walk-is ∙ settled-ended (meaning s d n images rows) (x .place + booleanSize (x .boolean))
-              ∙ sym (checked ∙ rw (was-due (records (map (relationAt d) (take count relations′)) rows 0) due))
+  module _ (due : AsDue ≡ runAnswer run) where
+    run-is : records (dueRelations (x .scope .contexts)) rows 0 ≡ asDue
+    run-is = sym run-same ∙ was-due run due
+
+    fetches : fetchedBy handed ≡ fetch (w .request .messages) (x .scope) images rows
+    unfolding fetchedBy
+    fetches =
+        let a : length (take (z .count) (z .numbers′)) ≡ z .count = length-take-le (z .count) (z .numbers′) numbers-fit in
+        let b : length (take (m * 6) pa) ≡ m * 6 = length-take-le (m * 6) pa rows-fit in
+        let c : min (length (take (m * 6) pa) / 6) 256 ≡ parameterCount (w .request .messages) =
+        omega (arith, b, w .parameters-are, w .accepted .allowed .sized .parameters) in
+        let e : slotsIn (take (z .count) (z .numbers′)) (take (z .count) (z .relations′)) (min (length (take (z .count) (z .numbers′))) 32) 0 ≡
+        slotsFrom d ct (x .place) (contextsCount (w .request .statements)) 0 =
+        ap (λ q. slotsIn (take (z .count) (z .numbers′)) (take (z .count) (z .relations′)) (min q 32) 0) a
+        ∙ slots-cut (z .numbers′) (z .relations′) (z .count) (min (z .count) 32) 0 (omega arith)
+        ∙ slots-back (z .laid) few numbers-hold relations-hold ∙ slots-here in
+        (λ i. around d (e i) (take (m * 6) pa) (c i) images rows)
+        ∙ around-is s d (w .relations) (w .request) (w .accepted) n x (found .1) ct (w .more-contexts) (w .context-rows) (w .scale-bytes)
+        (take (m * 6) pa) [] images rows table-cut run-is
+
+    walk-is : booleanAt (fetchedBy handed) 32 s (z .place) ≡ ended (meaning s d n images rows) (x .place + booleanSize (x .boolean))
+    walk-is =
+        ap₂ (λ g q. booleanAt g 32 s q) fetches here ∙ walks s d (w .relations) (w .request) (w .accepted) n x (found .1) images rows
+
+    -- the walk is never astray, and otherwise comes out as evaluation does
+    pub walk-met : booleanAt (fetchedBy handed) 32 s (z .place) ≡ astray → ⊥
+    walk-met e =
+        ended-met (meaning s d n images rows) (x .place + booleanSize (x .boolean))
+        (never s d (w .relations) (w .request) (w .accepted) n x (found .1) images rows) (sym walk-is ∙ e)
+
+    pub walked : settled (booleanAt (fetchedBy handed) 32 s (z .place)) ≡ evaluation s d n images rows
+    walked =
+        ap settled walk-is ∙ settled-ended (meaning s d n images rows) (x .place + booleanSize (x .boolean))
+        ∙ sym (checked ∙ rw (was-due run due))

@@ -1,162 +1,191 @@
 -- Each way through the code of the walk gives what the walk gives there.
-use Prim.Native.Nat.{ℕ, _+_, _-_, _≤_}
+use Prim.Native.Nat.{ℕ, _+_, _-_, _<_, min}
 use mathlib.Core.Path.{_≡_, refl, sym, ap, _∙_}
-use mathlib.Core.List.{List}
 use lib.ListN.{length}
 use Rattle.wire.specs.Words.{byteAt}
-use Rattle.wire.specs.Classes.{Class, due, leftOut, foreign, valueClass, booleanClass}
+use Rattle.wire.specs.Classes.{valueClass, booleanClass}
 use Rattle.wire.specs.declared.codes.Operator.{Operator}
 use Rattle.wire.specs.declared.codes.Comparison.{Comparison}
 use Rattle.wire.specs.declared.codes.TextSearch.{TextSearch}
 use Rattle.wire.specs.declared.codes.Connective.{Connective}
 use Rattle.wire.specs.declared.codes.ReferenceCode.{ReferenceCode}
 use Rattle.wire.specs.declared.codes.ValueCode.{ValueCode}
-use Rattle.wire.specs.declared.codes.ValueCode.the-variants as Value
 use Rattle.wire.specs.declared.codes.BooleanCode.{BooleanCode}
-use Rattle.wire.specs.declared.codes.BooleanCode.the-variants as Boolean
 use Rattle.classes.specs.declared.ValueClass.{ValueClass}
 use Rattle.classes.specs.declared.ValueClass.the-variants as ValueClass
 use Rattle.classes.specs.declared.BooleanClass.{BooleanClass}
 use Rattle.classes.specs.declared.BooleanClass.the-variants as BooleanClass
 use Rattle.classes.specs.Classes.{valueClassOf, booleanClassOf}
-use Rattle.grammar.specs.Tree.{Reference}
 use Rattle.meaning.specs.declared.Truth.{Truth}
 use Rattle.meaning.specs.Data.{Datum, arithmeticOf, negateOf, compareOf, searchOf, betweenOf, missingOf, connected, opposite}
-use Rattle.meaning.specs.Inputs.{Fetched}
-use Rattle.walking.specs.Walk.{Walked, at, fault, astray, _▷_, ended, onClass, literalAt, referenceAt, valueUnder, valueAt, testUnder, booleanUnder, booleanAt}
-use Rattle.walking.proofs.Laws.{second-after, third-after, value-level, value-by, value-past, test-past, boolean-level, boolean-by, boolean-past}
+use Rattle.walking.specs.Walk.{Walked, at, astray, _▷_, ended, onClass, literalAt, referenceAt, valueUnder, booleanUnder}
+use Rattle.walking.proofs.Laws.{second-after, third-after, no-further, value-level, value-by, value-past, value-inside, boolean-level, boolean-by, boolean-past}
+use Rattle.values.specs.declared.Valued.{Valued}
+use Rattle.values.specs.Values.{valued}
+use Rattle.inputs.proofs.LiteralLaws.{no-literal}
+use Rattle.evaluator.specs.declared.forms.OperationCode.{OperationCode}
+use Rattle.evaluator.specs.declared.forms.OperationCode.the-variants as Operation
+use Rattle.evaluator.specs.declared.forms.ValueForm.{ValueForm}
+use Rattle.evaluator.specs.declared.forms.ValueForm.the-variants as ValueForm
+use Rattle.evaluator.specs.declared.forms.PairCode.{PairCode}
+use Rattle.evaluator.specs.declared.forms.PairCode.the-variants as Pair
+use Rattle.evaluator.specs.declared.forms.TestCode.{TestCode}
+use Rattle.evaluator.specs.declared.forms.TestCode.the-variants as Test
+use Rattle.evaluator.specs.declared.forms.LogicCode.{LogicCode}
+use Rattle.evaluator.specs.declared.forms.LogicCode.the-variants as Logic
+use Rattle.evaluator.specs.declared.forms.BooleanForm.{BooleanForm}
+use Rattle.evaluator.specs.Forms.{operationCode, valueCode, pairCode, testCode, logicCode, booleanCode, judged}
+use Rattle.evaluator.specs.Given.{Given, lentOf, fetchedBy, valuesOf, booleansOf}
 
-module _ (g : Reference → Fetched) (s : List ℕ) where
-  -- ---- values
+module _ (g : Given) where
+  abbrev next : ℕ → ℕ
+  next p = min (p + 1) (length (g .request))
 
-  pub no-level : (l p : ℕ) → l ≡ 0 → astray ≡ valueAt g l s p
-  no-level l p e = sym (ap (λ z. valueAt g z s p) e ∙ value-level g s p)
+  -- ---- a value at a place
 
-  pub no-byte : (l p : ℕ) → length s ≤ p → astray ≡ valueAt g l s p
-  no-byte l p h = sym (value-past g s l p h)
+  pub no-level : (l p : ℕ) → l ≡ 0 → astray ≡ valuesOf g l p
+  no-level l p e = sym (ap (λ z. valuesOf g z p) e ∙ value-level (fetchedBy g) (g .request) p)
 
-  module _ (l p b : ℕ) (x : ValueClass) (level : l ≡ 0 → ⊥) (is : b ≡ byteAt s p) (class : valueClassOf x ≡ valueClass b) where
-    by-class : valueAt g l s p ≡ onClass (valueClassOf x) (λ k. valueUnder g (λ q. valueAt g (l - 1) s q) s p k)
-    by-class = value-by g s l p (valueClassOf x) level (class ∙ ap valueClass is)
+  module _ (l p : ℕ) {b : ℕ} (x : ValueClass) (level : l ≡ 0 → ⊥) (is : b ≡ byteAt (g .request) p) (class : valueClassOf x ≡ valueClass b) where
+    by-class : valuesOf g l p ≡ onClass (valueClassOf x) (λ k. valueUnder (fetchedBy g) (valuesOf g (l - 1)) (g .request) p k)
+    by-class = value-by (fetchedBy g) (g .request) l p (valueClassOf x) level (class ∙ ap valueClass is)
 
-    pub no-value : x ≡ ValueClass.LeftOut → astray ≡ valueAt g l s p
+    pub no-value : x ≡ ValueClass.LeftOut → astray ≡ valuesOf g l p
     no-value e = sym (by-class ∙ rw e)
 
-    pub no-code : x ≡ ValueClass.Foreign → astray ≡ valueAt g l s p
+    pub no-code : x ≡ ValueClass.Foreign → astray ≡ valuesOf g l p
     no-code e = sym (by-class ∙ rw e)
 
-    module _ (k : ValueCode) (e : x ≡ ValueClass.Due k) where
-      under : valueAt g l s p ≡ valueUnder g (λ q. valueAt g (l - 1) s q) s p k
-      under = by-class ∙ rw e
+    pub due-value : {k : ValueCode} {r : Walked Datum} → x ≡ ValueClass.Due k →
+        (p < length (g .request) → r ≡ valueUnder (fetchedBy g) (valuesOf g (l - 1)) (g .request) p k) → r ≡ valuesOf g l p
+    due-value {k} e h = h (value-inside (fetchedBy g) (g .request) p k (sym (class ∙ ap valueClass is) ∙ ap valueClassOf e)) ∙ sym (by-class ∙ rw e)
 
-      pub literal-is : (r : Walked Datum) → k ≡ Value.Literal → r ≡ literalAt s (p + 1) → r ≡ valueAt g l s p
+  -- the value after a byte
+  next-value : (l p : ℕ) {q : ℕ} {a : Walked Datum} → q ≡ next p → a ≡ valuesOf g l q → a ≡ valuesOf g l (p + 1)
+  next-value l p n i = i ∙ ap (valuesOf g l) n ∙ no-further (g .request) (valuesOf g l) (value-past (fetchedBy g) (g .request) l) (p + 1)
+
+  -- ---- a value under its code
+
+  module _ (l p : ℕ) where
+    abbrev under : ValueCode → Walked Datum
+    under k = valueUnder (fetchedBy g) (valuesOf g l) (g .request) p k
+
+    module _ {k : ValueCode} (x : ValueForm) (form : valueCode x ≡ k) where
+      pub value-formed : {y : ValueForm} {r : Walked Datum} → x ≡ y → r ≡ under (valueCode y) → r ≡ under k
+      value-formed e h = h ∙ ap under (sym (ap valueCode e) ∙ form)
+
+      pub literal-is : {q : ℕ} {r : Walked Datum} → x ≡ ValueForm.Literal → q ≡ next p → r ≡ literalAt (g .request) q → r ≡ under k
       unfolding valueUnder
-      literal-is r f h = h ∙ sym (under ∙ rw f)
+      literal-is e n h =
+          value-formed e
+          (h ∙ ap (literalAt (g .request)) n ∙ no-further (g .request) (literalAt (g .request)) (λ z m. sym (no-literal (g .request) z m)) (p + 1))
 
-      pub reference-is : (r : Walked Datum) (c : ReferenceCode) → k ≡ Value.Reference c → r ≡ referenceAt g s p c → r ≡ valueAt g l s p
+      pub reference-is : {c : ReferenceCode} {r : Walked Datum} → x ≡ ValueForm.Reference c → r ≡ referenceAt (fetchedBy g) (g .request) p c → r ≡ under k
       unfolding valueUnder
-      reference-is r c f h = h ∙ sym (under ∙ rw f)
+      reference-is e h = value-formed e h
 
-      pub arithmetic-is : (a b r : Walked Datum) (o : Operator) → k ≡ Value.Arithmetic o → a ≡ valueAt g (l - 1) s (p + 1) →
-          b ≡ (a ▷ λ x q. valueAt g (l - 1) s q) → r ≡ (a ▷ λ x q. b ▷ λ y u. ended (arithmeticOf o p x y) u) → r ≡ valueAt g l s p
+    module _ (k : OperationCode) {q : ℕ} {a : Walked Datum} (n : q ≡ next p) (i : a ≡ valuesOf g l q) where
+      pub arithmetic-is : {b : Walked Datum} {o : Operator} {r : Walked Datum} → k ≡ Operation.Arithmetic o → b ≡ (a ▷ λ x u. valuesOf g l u) →
+          r ≡ (a ▷ λ x u. b ▷ λ y e. ended (arithmeticOf o p x y) e) → r ≡ under (operationCode k)
       unfolding valueUnder
-      arithmetic-is a b r o f i j h =
-          h ∙ second-after a b (λ q. valueAt g (l - 1) s q) (λ x y u. ended (arithmeticOf o p x y) u) j
-          ∙ ap (λ z. z ▷ λ x q. valueAt g (l - 1) s q ▷ λ y u. ended (arithmeticOf o p x y) u) i ∙ sym (under ∙ rw f)
+      arithmetic-is {b} {o} f j h =
+          h ∙ second-after a b (valuesOf g l) (λ x y e. ended (arithmeticOf o p x y) e) j
+          ∙ ap (λ z. z ▷ λ x u. valuesOf g l u ▷ λ y e. ended (arithmeticOf o p x y) e) (next-value l p n i) ∙ sym (rw f)
 
-      pub negation-is : (a r : Walked Datum) → k ≡ Value.Negate → a ≡ valueAt g (l - 1) s (p + 1) → r ≡ (a ▷ λ x u. ended (negateOf p x) u) →
-          r ≡ valueAt g l s p
+      pub negation-is : {r : Walked Datum} → k ≡ Operation.Negate → r ≡ (a ▷ λ x e. ended (negateOf p x) e) → r ≡ under (operationCode k)
       unfolding valueUnder
-      negation-is a r f i h = h ∙ ap (λ z. z ▷ λ x u. ended (negateOf p x) u) i ∙ sym (under ∙ rw f)
+      negation-is f h = h ∙ ap (λ z. z ▷ λ x e. ended (negateOf p x) e) (next-value l p n i) ∙ sym (rw f)
 
-  -- ---- tests
+  -- ---- a boolean at a place
 
-  pub no-test : (l p : ℕ) (k : BooleanCode) → length s ≤ p → astray ≡ testUnder (λ q. valueAt g l s q) p k
-  no-test l p k h = sym (test-past g s l p k h)
+  pub no-boolean-level : (l p : ℕ) → l ≡ 0 → astray ≡ booleansOf g l p
+  no-boolean-level l p e = sym (ap (λ z. booleansOf g z p) e ∙ boolean-level (fetchedBy g) (g .request) p)
 
-  module _ (l p : ℕ) (k : BooleanCode) where
-    pub not-connected : (c : Connective) → k ≡ Boolean.Connect c → astray ≡ testUnder (λ q. valueAt g l s q) p k
-    unfolding testUnder
-    not-connected c f = rw f
+  module _ (l p : ℕ) {b : ℕ} (x : BooleanClass) (level : l ≡ 0 → ⊥) (is : b ≡ byteAt (g .request) p) (class : booleanClassOf x ≡ booleanClass b) where
+    by-boolean : booleansOf g l p ≡ onClass (booleanClassOf x) (λ k. booleanUnder (valuesOf g (l - 1)) (booleansOf g (l - 1)) p k)
+    by-boolean = boolean-by (fetchedBy g) (g .request) l p (booleanClassOf x) level (class ∙ ap booleanClass is)
 
-    pub not-opposite : k ≡ Boolean.Not → astray ≡ testUnder (λ q. valueAt g l s q) p k
-    unfolding testUnder
-    not-opposite f = rw f
-
-    module _ (a : Walked Datum) (i : a ≡ valueAt g l s (p + 1)) where
-      pub missing-is : (r : Walked Truth) → k ≡ Boolean.Missing → r ≡ (a ▷ λ x u. at (missingOf x) u) → r ≡ testUnder (λ q. valueAt g l s q) p k
-      unfolding testUnder
-      missing-is r f h = h ∙ ap (λ z. z ▷ λ x u. at (missingOf x) u) i ∙ sym (rw f)
-
-      module _ (b : Walked Datum) (j : b ≡ (a ▷ λ x q. valueAt g l s q)) where
-        pub comparison-is : (r : Walked Truth) (c : Comparison) → k ≡ Boolean.Compare c → r ≡ (a ▷ λ x q. b ▷ λ y u. ended (compareOf c x y) u) →
-            r ≡ testUnder (λ q. valueAt g l s q) p k
-        unfolding testUnder
-        comparison-is r c f h =
-            h ∙ second-after a b (λ q. valueAt g l s q) (λ x y u. ended (compareOf c x y) u) j
-            ∙ ap (λ z. z ▷ λ x q. valueAt g l s q ▷ λ y u. ended (compareOf c x y) u) i ∙ sym (rw f)
-
-        pub search-is : (r : Walked Truth) (t : TextSearch) → k ≡ Boolean.Search t → r ≡ (a ▷ λ x q. b ▷ λ y u. ended (searchOf t x y) u) →
-            r ≡ testUnder (λ q. valueAt g l s q) p k
-        unfolding testUnder
-        search-is r t f h =
-            h ∙ second-after a b (λ q. valueAt g l s q) (λ x y u. ended (searchOf t x y) u) j
-            ∙ ap (λ z. z ▷ λ x q. valueAt g l s q ▷ λ y u. ended (searchOf t x y) u) i ∙ sym (rw f)
-
-        pub between-is : (c : Walked Datum) (r : Walked Truth) → c ≡ (b ▷ λ x q. valueAt g l s q) → k ≡ Boolean.Between →
-            r ≡ (a ▷ λ x q. b ▷ λ y v. c ▷ λ z u. ended (betweenOf x y z) u) → r ≡ testUnder (λ q. valueAt g l s q) p k
-        unfolding testUnder
-        between-is c r m f h =
-            h ∙ third-after a b c (λ q. valueAt g l s q) (λ q. valueAt g l s q) (λ x y z u. ended (betweenOf x y z) u) j m
-            ∙ ap (λ w. w ▷ λ x q. valueAt g l s q ▷ λ y v. valueAt g l s v ▷ λ z u. ended (betweenOf x y z) u) i ∙ sym (rw f)
-
-  -- ---- booleans
-
-  pub no-boolean-level : (l p : ℕ) → l ≡ 0 → astray ≡ booleanAt g l s p
-  no-boolean-level l p e = sym (ap (λ z. booleanAt g z s p) e ∙ boolean-level g s p)
-
-  pub no-boolean-byte : (l p : ℕ) → length s ≤ p → astray ≡ booleanAt g l s p
-  no-boolean-byte l p h = sym (boolean-past g s l p h)
-
-  module _ (l p b : ℕ) (x : BooleanClass) (level : l ≡ 0 → ⊥) (is : b ≡ byteAt s p) (class : booleanClassOf x ≡ booleanClass b) where
-    by-boolean : booleanAt g l s p ≡ onClass (booleanClassOf x) (λ k. booleanUnder (λ q. valueAt g (l - 1) s q) (λ q. booleanAt g (l - 1) s q) p k)
-    by-boolean = boolean-by g s l p (booleanClassOf x) level (class ∙ ap booleanClass is)
-
-    pub no-boolean : x ≡ BooleanClass.LeftOut → astray ≡ booleanAt g l s p
+    pub no-boolean : x ≡ BooleanClass.LeftOut → astray ≡ booleansOf g l p
     no-boolean e = sym (by-boolean ∙ rw e)
 
-    pub no-boolean-code : x ≡ BooleanClass.Foreign → astray ≡ booleanAt g l s p
+    pub no-boolean-code : x ≡ BooleanClass.Foreign → astray ≡ booleansOf g l p
     no-boolean-code e = sym (by-boolean ∙ rw e)
 
-    module _ (k : BooleanCode) (e : x ≡ BooleanClass.Due k) where
-      boolean-under : booleanAt g l s p ≡ booleanUnder (λ q. valueAt g (l - 1) s q) (λ q. booleanAt g (l - 1) s q) p k
-      boolean-under = by-boolean ∙ rw e
+    pub due-boolean : {r : Walked Truth} {k : BooleanCode} → x ≡ BooleanClass.Due k →
+        r ≡ booleanUnder (valuesOf g (l - 1)) (booleansOf g (l - 1)) p k → r ≡ booleansOf g l p
+    due-boolean e h = h ∙ sym (by-boolean ∙ rw e)
 
-      -- a test on values
-      pub compared : (r : Walked Truth) (c : Comparison) → k ≡ Boolean.Compare c → r ≡ testUnder (λ q. valueAt g (l - 1) s q) p k → r ≡ booleanAt g l s p
-      unfolding booleanUnder
-      compared r c f h = h ∙ ap (testUnder (λ q. valueAt g (l - 1) s q) p) f ∙ sym (boolean-under ∙ ap (booleanUnder (λ q. valueAt g (l - 1) s q) (λ q. booleanAt g (l - 1) s q) p) f)
+  -- the boolean after a byte
+  next-boolean : (l p : ℕ) {q : ℕ} {a : Walked Truth} → q ≡ next p → a ≡ booleansOf g l q → a ≡ booleansOf g l (p + 1)
+  next-boolean l p n i = i ∙ ap (booleansOf g l) n ∙ no-further (g .request) (booleansOf g l) (boolean-past (fetchedBy g) (g .request) l) (p + 1)
 
-      pub searched : (r : Walked Truth) (t : TextSearch) → k ≡ Boolean.Search t → r ≡ testUnder (λ q. valueAt g (l - 1) s q) p k → r ≡ booleanAt g l s p
-      unfolding booleanUnder
-      searched r t f h = h ∙ ap (testUnder (λ q. valueAt g (l - 1) s q) p) f ∙ sym (boolean-under ∙ ap (booleanUnder (λ q. valueAt g (l - 1) s q) (λ q. booleanAt g (l - 1) s q) p) f)
+  -- ---- a boolean under its code
 
-      pub set-between : (r : Walked Truth) → k ≡ Boolean.Between → r ≡ testUnder (λ q. valueAt g (l - 1) s q) p k → r ≡ booleanAt g l s p
-      unfolding booleanUnder
-      set-between r f h = h ∙ ap (testUnder (λ q. valueAt g (l - 1) s q) p) f ∙ sym (boolean-under ∙ ap (booleanUnder (λ q. valueAt g (l - 1) s q) (λ q. booleanAt g (l - 1) s q) p) f)
+  module _ (l p : ℕ) where
+    abbrev boolean-under : BooleanCode → Walked Truth
+    boolean-under k = booleanUnder (valuesOf g l) (booleansOf g l) p k
 
-      pub found-missing : (r : Walked Truth) → k ≡ Boolean.Missing → r ≡ testUnder (λ q. valueAt g (l - 1) s q) p k → r ≡ booleanAt g l s p
-      unfolding booleanUnder
-      found-missing r f h = h ∙ ap (testUnder (λ q. valueAt g (l - 1) s q) p) f ∙ sym (boolean-under ∙ ap (booleanUnder (λ q. valueAt g (l - 1) s q) (λ q. booleanAt g (l - 1) s q) p) f)
+    -- a test, and an operator on booleans
+    pub boolean-formed : {k : BooleanCode} (x : BooleanForm) → booleanCode x ≡ k → {y : BooleanForm} {r : Walked Truth} → x ≡ y →
+        r ≡ boolean-under (booleanCode y) → r ≡ boolean-under k
+    boolean-formed x form e h = h ∙ ap boolean-under (sym (ap booleanCode e) ∙ form)
 
-      pub connection-is : (a b r : Walked Truth) (c : Connective) → k ≡ Boolean.Connect c → a ≡ booleanAt g (l - 1) s (p + 1) →
-          b ≡ (a ▷ λ x q. booleanAt g (l - 1) s q) → r ≡ (a ▷ λ x q. b ▷ λ y u. at (connected c x y) u) → r ≡ booleanAt g l s p
+    module _ (k : LogicCode) {q : ℕ} {a : Walked Truth} (n : q ≡ next p) (i : a ≡ booleansOf g l q) where
+      pub connection-is : {b : Walked Truth} {c : Connective} {r : Walked Truth} → k ≡ Logic.Connect c → b ≡ (a ▷ λ x u. booleansOf g l u) →
+          r ≡ (a ▷ λ x u. b ▷ λ y e. at (connected c x y) e) → r ≡ boolean-under (logicCode k)
       unfolding booleanUnder
-      connection-is a b r c f i j h =
-          h ∙ second-after a b (λ q. booleanAt g (l - 1) s q) (λ x y u. at (connected c x y) u) j
-          ∙ ap (λ z. z ▷ λ x q. booleanAt g (l - 1) s q ▷ λ y u. at (connected c x y) u) i ∙ sym (boolean-under ∙ rw f)
+      connection-is {b} {c} f j h =
+          h ∙ second-after a b (booleansOf g l) (λ x y e. at (connected c x y) e) j
+          ∙ ap (λ z. z ▷ λ x u. booleansOf g l u ▷ λ y e. at (connected c x y) e) (next-boolean l p n i) ∙ sym (rw f)
 
-      pub opposite-is : (a r : Walked Truth) → k ≡ Boolean.Not → a ≡ booleanAt g (l - 1) s (p + 1) → r ≡ (a ▷ λ x u. at (opposite x) u) →
-          r ≡ booleanAt g l s p
+      pub opposite-is : {r : Walked Truth} → k ≡ Logic.Not → r ≡ (a ▷ λ x e. at (opposite x) e) → r ≡ boolean-under (logicCode k)
       unfolding booleanUnder
-      opposite-is a r f i h = h ∙ ap (λ z. z ▷ λ x u. at (opposite x) u) i ∙ sym (boolean-under ∙ rw f)
+      opposite-is f h = h ∙ ap (λ z. z ▷ λ x e. at (opposite x) e) (next-boolean l p n i) ∙ sym (rw f)
+
+    -- ---- a test
+
+    module _ (k : TestCode) {q : ℕ} {a : Walked Datum} (n : q ≡ next p) (i : a ≡ valuesOf g l q) where
+      judged-under : (t : PairCode) → (valuesOf g l (p + 1) ▷ λ x u. valuesOf g l u ▷ λ y e. judged (valuesOf g l) t x y e) ≡
+          boolean-under (pairCode t)
+      unfolding booleanUnder
+      judged-under (Pair.Compare c) = refl
+      judged-under (Pair.Search t) = refl
+      judged-under Pair.Between = refl
+
+      pub pair-is : {t : PairCode} {r : Walked Truth} → k ≡ Test.Pair t →
+          r ≡ (a ▷ λ x u. valuesOf g l u ▷ λ y e. judged (valuesOf g l) t x y e) → r ≡ boolean-under (testCode k)
+      pair-is {t} f h =
+          h ∙ ap (λ z. z ▷ λ x u. valuesOf g l u ▷ λ y e. judged (valuesOf g l) t x y e) (next-value l p n i) ∙ judged-under t
+          ∙ ap (λ z. boolean-under (testCode z)) (sym f)
+
+      pub missing-is : {r : Walked Truth} → k ≡ Test.Missing → r ≡ (a ▷ λ x e. at (missingOf x) e) → r ≡ boolean-under (testCode k)
+      unfolding booleanUnder
+      missing-is f h = h ∙ ap (λ z. z ▷ λ x e. at (missingOf x) e) (next-value l p n i) ∙ sym (rw f)
+
+  -- ---- a test after its first value, and between after its second
+
+  module _ (l : ℕ) (k : PairCode) (a : Valued) where
+    abbrev judged-after : Walked Truth
+    judged-after = valued (lentOf g) a ▷ λ x u. valuesOf g l u ▷ λ y e. judged (valuesOf g l) k x y e
+
+    module _ {b : Walked Datum} {r : Walked Truth} (j : b ≡ (valued (lentOf g) a ▷ λ x u. valuesOf g l u)) where
+      by-second : r ≡ (valued (lentOf g) a ▷ λ x u. b ▷ λ y e. judged (valuesOf g l) k x y e) → r ≡ judged-after
+      by-second h = h ∙ second-after (valued (lentOf g) a) b (valuesOf g l) (judged (valuesOf g l) k) j
+
+      pub comparison-is : {c : Comparison} → k ≡ Pair.Compare c →
+          r ≡ (valued (lentOf g) a ▷ λ x u. b ▷ λ y e. ended (compareOf c x y) e) → r ≡ judged-after
+      comparison-is f h = by-second (h ∙ sym (rw f))
+
+      pub search-is : {t : TextSearch} → k ≡ Pair.Search t →
+          r ≡ (valued (lentOf g) a ▷ λ x u. b ▷ λ y e. ended (searchOf t x y) e) → r ≡ judged-after
+      search-is f h = by-second (h ∙ sym (rw f))
+
+      pub between-is : k ≡ Pair.Between →
+          r ≡ (valued (lentOf g) a ▷ λ x u. b ▷ λ y v. valuesOf g l v ▷ λ z e. ended (betweenOf x y z) e) → r ≡ judged-after
+      between-is f h = by-second (h ∙ sym (rw f))
+
+  pub third-is : (l : ℕ) (a b : Valued) {c : Walked Datum} {r : Walked Truth} → c ≡ (valued (lentOf g) b ▷ λ x u. valuesOf g l u) →
+      r ≡ (valued (lentOf g) a ▷ λ x u. valued (lentOf g) b ▷ λ y v. c ▷ λ z e. ended (betweenOf x y z) e) →
+      r ≡ (valued (lentOf g) a ▷ λ x u. valued (lentOf g) b ▷ λ y v. valuesOf g l v ▷ λ z e. ended (betweenOf x y z) e)
+  third-is l a b {c} j h =
+      h ∙ third-after (valued (lentOf g) a) (valued (lentOf g) b) c (valuesOf g l) (λ x y z e. ended (betweenOf x y z) e) j

@@ -1,17 +1,21 @@
 -- What the code of the walk is handed, and what it answers.
-use Prim.Native.Nat.{ℕ, _/_}
+use Prim.Native.Nat.{ℕ, _/_, _<_}
 use mathlib.Core.Path.{_≡_}
 use mathlib.Core.List.{List}
 use lib.ListN.{length}
+use Rattle.wire.specs.declared.codes.ValueCode.{ValueCode}
 use Rattle.wire.specs.declared.codes.BooleanCode.{BooleanCode}
 use Rattle.grammar.specs.Tree.{Reference}
 use Rattle.meaning.specs.declared.Truth.{Truth}
+use Rattle.meaning.specs.Data.{Datum, betweenOf}
 use Rattle.meaning.specs.Inputs.{Fetched}
-use Rattle.walking.specs.Walk.{Walked, _▷_, valueAt, testUnder, booleanAt}
+use Rattle.walking.specs.Walk.{Walked, _▷_, ended, valueUnder, valueAt, booleanUnder, booleanAt}
 use Rattle.values.specs.declared.Valued.{Valued}
 use Rattle.values.specs.declared.Tested.{Tested}
 use Rattle.values.specs.Values.{Lent, lent, valued, tested}
 use Rattle.inputs.specs.Answers.{lentAround}
+use Rattle.evaluator.specs.declared.forms.PairCode.{PairCode}
+use Rattle.evaluator.specs.Forms.{judged}
 
 -- the request, the dictionary, the contexts in scope (their numbers and their relations), the rows of the parameters, the images
 -- and the records
@@ -45,20 +49,42 @@ fetchedBy g =
     lentAround (g .dictionary) (g .numbers) (g .relations) (length (g .numbers)) (g .parameters) (length (g .parameters) / 6) (g .images)
     (g .records)
 
--- a value at a place with so many levels left, and one after another
+-- the values and the booleans at a place, with so many levels left
+abbrev pub valuesOf : Given → ℕ → ℕ → Walked Datum
+valuesOf g levels q = valueAt (fetchedBy g) levels (g .request) q
+
+abbrev pub booleansOf : Given → ℕ → ℕ → Walked Truth
+booleansOf g levels q = booleanAt (fetchedBy g) levels (g .request) q
+
+-- a value at a place, and the value after another
 abbrev pub ValueAt : Given → ℕ → ℕ → Valued → Type 0
-ValueAt g levels p r = valued (lentOf g) r ≡ valueAt (fetchedBy g) levels (g .request) p
+ValueAt g levels p r = valued (lentOf g) r ≡ valuesOf g levels p
 
 abbrev pub ValueAfter : Given → ℕ → Valued → Valued → Type 0
-ValueAfter g levels a r = valued (lentOf g) r ≡ (valued (lentOf g) a ▷ λ x q. valueAt (fetchedBy g) levels (g .request) q)
+ValueAfter g levels a r = valued (lentOf g) r ≡ (valued (lentOf g) a ▷ λ x q. valuesOf g levels q)
 
--- a test under its code at a place, with so many levels left for its values
-abbrev pub TestAt : Given → ℕ → ℕ → BooleanCode → Tested → Type 0
-TestAt g levels p code r = tested r ≡ testUnder (λ q. valueAt (fetchedBy g) levels (g .request) q) p code
+-- what stands under a value's code at a place, and the same where that place is before the end
+abbrev pub ValueUnder : Given → ℕ → ℕ → ValueCode → Valued → Type 0
+ValueUnder g levels p code r = valued (lentOf g) r ≡ valueUnder (fetchedBy g) (valuesOf g levels) (g .request) p code
 
--- a boolean at a place, and one after another
+abbrev pub ValueInside : Given → ℕ → ℕ → ValueCode → Valued → Type 0
+ValueInside g levels p code r = p < length (g .request) → ValueUnder g levels p code r
+
+-- a boolean at a place, the boolean after another, and what stands under a boolean's code
 abbrev pub BooleanAt : Given → ℕ → ℕ → Tested → Type 0
-BooleanAt g levels p r = tested r ≡ booleanAt (fetchedBy g) levels (g .request) p
+BooleanAt g levels p r = tested r ≡ booleansOf g levels p
 
 abbrev pub BooleanAfter : Given → ℕ → Tested → Tested → Type 0
-BooleanAfter g levels a r = tested r ≡ (tested a ▷ λ x q. booleanAt (fetchedBy g) levels (g .request) q)
+BooleanAfter g levels a r = tested r ≡ (tested a ▷ λ x q. booleansOf g levels q)
+
+abbrev pub BooleanUnder : Given → ℕ → ℕ → BooleanCode → Tested → Type 0
+BooleanUnder g levels p code r = tested r ≡ booleanUnder (valuesOf g levels) (booleansOf g levels) p code
+
+-- a test on two values or three, after its first value, and between after its second
+abbrev pub PairAfter : Given → ℕ → Valued → PairCode → Tested → Type 0
+PairAfter g levels a code r =
+    tested r ≡ (valued (lentOf g) a ▷ λ x q. valuesOf g levels q ▷ λ y e. judged (valuesOf g levels) code x y e)
+
+abbrev pub BetweenAfter : Given → ℕ → Valued → Valued → Tested → Type 0
+BetweenAfter g levels a b r =
+    tested r ≡ (valued (lentOf g) a ▷ λ x q. valued (lentOf g) b ▷ λ y u. valuesOf g levels u ▷ λ z e. ended (betweenOf x y z) e)

@@ -7,7 +7,9 @@ use reader::read_noting;
 mod answers;
 mod booleans;
 mod conditions;
+mod forms;
 mod operands;
+mod places;
 mod tests;
 
 // The condition of a number, from 0 in reading order: what it comes out as with these message images and records, or the refusal and its place.

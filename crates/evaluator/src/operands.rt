@@ -1,7 +1,12 @@
-// The walk over the bytes of values: a value at a place, and one after another.
+// The walk over the bytes of values: a value at a place, what stands under its code, and one after another.
 ghost use mathlib.Core.Path.{_≡_};
 ghost use Prim.Native.Nat.{ℕ};
-ghost use Rattle.evaluator.specs.Given.{given, ValueAt, ValueAfter};
+ghost use Rattle.evaluator.specs.Forms.{operationCode};
+ghost use Rattle.evaluator.specs.Given.{given, ValueAt, ValueInside, ValueUnder, ValueAfter};
+use crate::forms::OperationCode;
+use crate::forms::ValueForm;
+use crate::forms::value_form;
+use crate::places::place_after;
 use classes::ValueClass;
 use classes::value_class;
 use inputs::literals::literal;
@@ -32,68 +37,119 @@ pub fn value_at<'a>(
     if levels == 0 {
         return Valued::Stray;
     }
-    if request.len() <= at {
-        return Valued::Stray;
-    }
     let class = value_class(byte_at(request, at));
     match class {
-        ValueClass::Due(code) => match code {
-            ValueCode::Literal => literal(request, at + 1),
-            ValueCode::Reference(c) => reference(
+        ValueClass::Due(code) => value_under(
+            request,
+            dictionary,
+            numbers,
+            relations,
+            parameters,
+            images,
+            records,
+            levels - 1,
+            at,
+            code,
+        ),
+        ValueClass::LeftOut => Valued::Stray,
+        ValueClass::Foreign => Valued::Stray,
+    }
+}
+
+// The value under a code at a place, with so many levels left for its operands; past the end of the request no code stands.
+fn value_under<'a>(
+    request: &'a [u8],
+    dictionary: &[u8],
+    numbers: &[u32],
+    relations: &[u32],
+    parameters: &[u32],
+    images: &'a [u8],
+    records: &'a [u8],
+    levels: usize,
+    at: usize,
+    code: ValueCode,
+) -> Valued
+    ensures { λ r. ⌜ ValueInside
+        (given (now (request .entry)) (now (dictionary .entry)) (now (numbers .entry)) (now (relations .entry))
+        (now (parameters .entry)) (now (images .entry)) (now (records .entry)))
+        levels at code r ⌝ }
+{
+    let form = value_form(code);
+    match form {
+        ValueForm::Literal => literal(request, place_after(request, at)),
+        ValueForm::Reference(c) => reference(
+            request,
+            dictionary,
+            numbers,
+            relations,
+            numbers.len(),
+            parameters,
+            parameters.len() / 6,
+            images,
+            records,
+            at,
+            c,
+        ),
+        ValueForm::Operation(o) => operation(
+            request,
+            dictionary,
+            numbers,
+            relations,
+            parameters,
+            images,
+            records,
+            levels,
+            at,
+            o,
+        ),
+    }
+}
+
+// An operation whose code stands at a place, with so many levels left for its operands.
+fn operation<'a>(
+    request: &'a [u8],
+    dictionary: &[u8],
+    numbers: &[u32],
+    relations: &[u32],
+    parameters: &[u32],
+    images: &'a [u8],
+    records: &'a [u8],
+    levels: usize,
+    at: usize,
+    code: OperationCode,
+) -> Valued
+    ensures { λ r. ⌜ ValueUnder
+        (given (now (request .entry)) (now (dictionary .entry)) (now (numbers .entry)) (now (relations .entry))
+        (now (parameters .entry)) (now (images .entry)) (now (records .entry)))
+        levels at (operationCode code) r ⌝ }
+{
+    let a = value_at(
+        request,
+        dictionary,
+        numbers,
+        relations,
+        parameters,
+        images,
+        records,
+        levels,
+        place_after(request, at),
+    );
+    match code {
+        OperationCode::Arithmetic(o) => {
+            let b = value_after(
                 request,
                 dictionary,
                 numbers,
                 relations,
-                numbers.len(),
                 parameters,
-                parameters.len() / 6,
                 images,
                 records,
-                at,
-                c,
-            ),
-            ValueCode::Arithmetic(o) => {
-                let a = value_at(
-                    request,
-                    dictionary,
-                    numbers,
-                    relations,
-                    parameters,
-                    images,
-                    records,
-                    levels - 1,
-                    at + 1,
-                );
-                let b = value_after(
-                    request,
-                    dictionary,
-                    numbers,
-                    relations,
-                    parameters,
-                    images,
-                    records,
-                    levels - 1,
-                    a,
-                );
-                arithmetic(o, a, b, at)
-            }
-            ValueCode::Negate => negation(
-                value_at(
-                    request,
-                    dictionary,
-                    numbers,
-                    relations,
-                    parameters,
-                    images,
-                    records,
-                    levels - 1,
-                    at + 1,
-                ),
-                at,
-            ),
-        },
-        ValueClass::LeftOut => Valued::Stray,
-        ValueClass::Foreign => Valued::Stray,
+                levels,
+                a,
+            );
+            arithmetic(o, a, b, at)
+        }
+        OperationCode::Negate => negation(a, at),
     }
 }
 

@@ -1,17 +1,21 @@
 // A test on values: the comparisons, the searches, between and missing.
 ghost use mathlib.Core.Path.{_≡_};
 ghost use Prim.Native.Nat.{ℕ};
-ghost use Rattle.evaluator.specs.Given.{given, TestAt};
+ghost use Rattle.evaluator.specs.Forms.{testCode};
+ghost use Rattle.evaluator.specs.Given.{given, BooleanUnder, PairAfter, BetweenAfter};
+use crate::forms::PairCode;
+use crate::forms::TestCode;
 use crate::operands::value_after;
 use crate::operands::value_at;
+use crate::places::place_after;
 use values::Tested;
+use values::Valued;
 use values::between::between;
 use values::comparison::comparison;
 use values::missing::is_missing;
 use values::search::text_search;
-use wire::codes::BooleanCode;
 
-// A test whose code stands at a place, with so many levels left for its values; and, or and not are none.
+// A test whose code stands at a place, with so many levels left for its values.
 pub fn test<'a>(
     request: &'a [u8],
     dictionary: &[u8],
@@ -22,16 +26,13 @@ pub fn test<'a>(
     records: &'a [u8],
     levels: usize,
     at: usize,
-    code: BooleanCode,
+    code: TestCode,
 ) -> Tested
-    ensures { λ r. ⌜ TestAt
+    ensures { λ r. ⌜ BooleanUnder
         (given (now (request .entry)) (now (dictionary .entry)) (now (numbers .entry)) (now (relations .entry))
         (now (parameters .entry)) (now (images .entry)) (now (records .entry)))
-        levels at code r ⌝ }
+        levels at (testCode code) r ⌝ }
 {
-    if request.len() <= at {
-        return Tested::Stray;
-    }
     let a = value_at(
         request,
         dictionary,
@@ -41,64 +42,100 @@ pub fn test<'a>(
         images,
         records,
         levels,
-        at + 1,
+        place_after(request, at),
     );
     match code {
-        BooleanCode::Compare(c) => {
-            let b = value_after(
-                request,
-                dictionary,
-                numbers,
-                relations,
-                parameters,
-                images,
-                records,
-                levels,
-                a,
-            );
-            comparison(request, images, records, c, a, b)
-        }
-        BooleanCode::Search(t) => {
-            let b = value_after(
-                request,
-                dictionary,
-                numbers,
-                relations,
-                parameters,
-                images,
-                records,
-                levels,
-                a,
-            );
-            text_search(request, images, records, t, a, b)
-        }
-        BooleanCode::Between => {
-            let b = value_after(
-                request,
-                dictionary,
-                numbers,
-                relations,
-                parameters,
-                images,
-                records,
-                levels,
-                a,
-            );
-            let c = value_after(
-                request,
-                dictionary,
-                numbers,
-                relations,
-                parameters,
-                images,
-                records,
-                levels,
-                b,
-            );
-            between(request, images, records, a, b, c)
-        }
-        BooleanCode::Connect(_) => Tested::Stray,
-        BooleanCode::Not => Tested::Stray,
-        BooleanCode::Missing => is_missing(a),
+        TestCode::Pair(k) => pair_after(
+            request,
+            dictionary,
+            numbers,
+            relations,
+            parameters,
+            images,
+            records,
+            levels,
+            a,
+            k,
+        ),
+        TestCode::Missing => is_missing(a),
     }
+}
+
+// The test on two values or three whose first is this one.
+fn pair_after<'a>(
+    request: &'a [u8],
+    dictionary: &[u8],
+    numbers: &[u32],
+    relations: &[u32],
+    parameters: &[u32],
+    images: &'a [u8],
+    records: &'a [u8],
+    levels: usize,
+    a: Valued,
+    code: PairCode,
+) -> Tested
+    ensures { λ r. ⌜ PairAfter
+        (given (now (request .entry)) (now (dictionary .entry)) (now (numbers .entry)) (now (relations .entry))
+        (now (parameters .entry)) (now (images .entry)) (now (records .entry)))
+        levels a code r ⌝ }
+{
+    let b = value_after(
+        request,
+        dictionary,
+        numbers,
+        relations,
+        parameters,
+        images,
+        records,
+        levels,
+        a,
+    );
+    match code {
+        PairCode::Compare(c) => comparison(request, images, records, c, a, b),
+        PairCode::Search(t) => text_search(request, images, records, t, a, b),
+        PairCode::Between => between_after(
+            request,
+            dictionary,
+            numbers,
+            relations,
+            parameters,
+            images,
+            records,
+            levels,
+            a,
+            b,
+        ),
+    }
+}
+
+// Between, whose first two values are these.
+fn between_after<'a>(
+    request: &'a [u8],
+    dictionary: &[u8],
+    numbers: &[u32],
+    relations: &[u32],
+    parameters: &[u32],
+    images: &'a [u8],
+    records: &'a [u8],
+    levels: usize,
+    a: Valued,
+    b: Valued,
+) -> Tested
+    ensures { λ r. ⌜ BetweenAfter
+        (given (now (request .entry)) (now (dictionary .entry)) (now (numbers .entry)) (now (relations .entry))
+        (now (parameters .entry)) (now (images .entry)) (now (records .entry)))
+        levels a b r ⌝ }
+{
+    let c = value_after(
+        request,
+        dictionary,
+        numbers,
+        relations,
+        parameters,
+        images,
+        records,
+        levels,
+        b,
+    );
+    between(request, images, records, a, b, c)
 }

@@ -1,21 +1,19 @@
 -- Each way through the walk, a law each.
-use Prim.Native.Nat.{ℕ, zero, suc, _+_, _-_, _≤_}
+use Prim.Native.Nat.{ℕ, zero, suc, _-_, _≤_, _<_, min}
 use mathlib.Core.Path.{_≡_, refl, sym, ap, _∙_}
 use mathlib.Core.List.{List}
-use native.Mathlib.Omega.{arith}
+use native.Mathlib.Omega.{arith, min-cases}
 use lib.ListN.{length}
 use Rattle.wire.specs.Lists.{among, anyOf}
 use Rattle.wire.specs.Words.{byteAt}
 use Rattle.wire.proofs.Past.{past}
-use Rattle.wire.specs.Classes.{Class, due, leftOut, foreign, classify, valueClass, booleanClass}
+use Rattle.wire.specs.Classes.{Class, due, foreign, classify, valueClass, booleanClass}
 use Rattle.wire.specs.declared.codes.ValueCode.{ValueCode}
 use Rattle.wire.specs.declared.codes.BooleanCode.{BooleanCode}
-use Rattle.wire.specs.declared.codes.BooleanCode.the-variants as Boolean
 use Rattle.grammar.specs.Tree.{Reference}
-use Rattle.meaning.specs.declared.Truth.{Truth}
-use Rattle.meaning.specs.Data.{Datum}
+use Rattle.grammar.proofs.StepLaws.{absurd-eq}
 use Rattle.meaning.specs.Inputs.{Fetched}
-use Rattle.walking.specs.Walk.{Walked, at, fault, astray, _▷_, onClass, valueUnder, valueAt, testUnder, booleanUnder, booleanAt}
+use Rattle.walking.specs.Walk.{Walked, at, fault, astray, _▷_, onClass, valueUnder, valueAt, booleanUnder, booleanAt}
 
 -- what follows the first is worked out from where the first ends
 pub second-after : {A B C : Type 0} (x : Walked A) (y : Walked B) (next : ℕ → Walked B) (k : A → B → ℕ → Walked C) →
@@ -24,12 +22,17 @@ second-after (at a q) y next k h = ap (λ z. z ▷ λ b e. k a b e) h
 second-after (fault f p) y next k h = refl
 second-after astray y next k h = refl
 
-pub third-after : {A B C D : Type 0} (x : Walked A) (y : Walked B) (z : Walked C) (next : ℕ → Walked B) (last : ℕ → Walked C)
-    (k : A → B → C → ℕ → Walked D) → y ≡ (x ▷ λ a q. next q) → z ≡ (y ▷ λ b q. last q) →
-    (x ▷ λ a q. y ▷ λ b u. z ▷ λ c e. k a b c e) ≡ (x ▷ λ a q. next q ▷ λ b u. last u ▷ λ c e. k a b c e)
-third-after (at a q) y z next last k h i = second-after y z last (k a) i ∙ ap (λ w. w ▷ λ b u. last u ▷ λ c e. k a b c e) h
-third-after (fault f p) y z next last k h i = refl
-third-after astray y z next last k h i = refl
+pub third-after : {A B C D : Type 0} (x : Walked A) (y : Walked B) (z : Walked C) (last : ℕ → Walked C) (k : A → B → C → ℕ → Walked D) →
+    z ≡ (y ▷ λ b q. last q) → (x ▷ λ a q. y ▷ λ b u. z ▷ λ c e. k a b c e) ≡ (x ▷ λ a q. y ▷ λ b u. last u ▷ λ c e. k a b c e)
+third-after (at a q) y z last k h = second-after y z last (k a) h
+third-after (fault f p) y z last k h = refl
+third-after astray y z last k h = refl
+
+-- what is astray past the end is the same at the end and after it
+pub no-further : {A : Type 0} (s : List ℕ) (f : ℕ → Walked A) → ((q : ℕ) → length s ≤ q → f q ≡ astray) → (p : ℕ) →
+    f (min p (length s)) ≡ f p
+no-further s f h p =
+    min-cases p (length s) (f (min p (length s)) ≡ f p) (λ k e. ap f e) (λ k e. ap f e ∙ h (length s) (omega arith) ∙ sym (h p k))
 
 -- 0 is no code
 zero-value : valueClass 0 ≡ foreign
@@ -56,15 +59,11 @@ module _ (g : Reference → Fetched) (s : List ℕ) where
   value-past zero p h = refl
   value-past (suc l) p h = ap (λ c. onClass c (λ k. valueUnder g (λ q. valueAt g l s q) s p k)) (ap valueClass (sym (past s p h)) ∙ zero-value)
 
-  -- a test past the end
-  pub test-past : (l p : ℕ) (code : BooleanCode) → length s ≤ p → testUnder (λ q. valueAt g l s q) p code ≡ astray
-  unfolding testUnder
-  test-past l p (Boolean.Compare c) h = rw (value-past l (p + 1) (omega arith))
-  test-past l p (Boolean.Search t) h = rw (value-past l (p + 1) (omega arith))
-  test-past l p Boolean.Between h = rw (value-past l (p + 1) (omega arith))
-  test-past l p (Boolean.Connect c) h = refl
-  test-past l p Boolean.Not h = refl
-  test-past l p Boolean.Missing h = rw (value-past l (p + 1) (omega arith))
+  -- a code that is due stands before the end
+  pub value-inside : (p : ℕ) (k : ValueCode) → valueClass (byteAt s p) ≡ due k → p < length s
+  value-inside p k e =
+      let n : length s ≤ p → ⊥ = λ h. let z = ap valueClass (past s p h) in let y = zero-value in absurd-eq (cc) in
+      omega (arith, n)
 
   pub boolean-level : (p : ℕ) → booleanAt g 0 s p ≡ astray
   unfolding booleanAt

@@ -30,7 +30,7 @@ use Rattle.meaning.specs.declared.Truth.{Truth}
 use Rattle.meaning.specs.Data.{Result, is, refused, stray, _>>=_, Datum, arithmeticOf, negateOf, compareOf, searchOf, betweenOf, missingOf, connected, opposite}
 use Rattle.meaning.specs.Inputs.{Fetched, literalValue}
 use Rattle.meaning.specs.Meaning.{fetchedAt, size, booleanSize, valueOf, truthOf}
-use Rattle.walking.specs.Walk.{Walked, at, fault, astray, _▷_, ended, onClass, numberAt, literalUnder, literalAt, referenceAt, valueUnder, valueAt, testUnder, booleanUnder, booleanAt}
+use Rattle.walking.specs.Walk.{Walked, at, fault, astray, _▷_, ended, onClass, numberAt, literalUnder, literalAt, referenceAt, valueUnder, valueAt, booleanUnder, booleanAt}
 
 -- ---- one after another
 
@@ -197,7 +197,7 @@ module _ (s : List ℕ) where
 
     pub boolean-walk : (b : Tree.Boolean) (l p : ℕ) (post : List ℕ) → booleanDepth b ≤ l → drop p s ≡ booleanBytes b ++ post →
         booleanAt g l s p ≡ ended (truthOf g p b) (p + booleanSize b)
-    unfolding booleanDepth booleanBytes truthOf testUnder booleanUnder booleanClass classify
+    unfolding booleanDepth booleanBytes truthOf booleanUnder booleanClass classify
     boolean-walk (compare c v w) n p post h e =
         boolean-code n p (comparisonCode c) (Boolean.Compare c) _ e (comparison-due c) (omega arith)
         ∙ two-values v w (n - 1) (p + 1) post (compareOf c) (omega arith) (omega arith) (next p (comparisonCode c) _ e)

@@ -82,24 +82,15 @@ unfoldable pub valueAt : (Reference → Fetched) → ℕ → List ℕ → ℕ �
 valueAt g zero s p = astray
 valueAt g (suc l) s p = onClass (valueClass (byteAt s p)) (λ k. valueUnder g (λ q. valueAt g l s q) s p k)
 
--- a test on values under its code at p; `and`, `or` and `not` are none
-unfoldable pub testUnder : (ℕ → Walked Datum) → ℕ → BooleanCode → Walked Truth
-testUnder values p (Boolean.Compare c) = values (p + 1) ▷ (λ x q. values q ▷ (λ y e. ended (compareOf c x y) e))
-testUnder values p (Boolean.Search t) = values (p + 1) ▷ (λ x q. values q ▷ (λ y e. ended (searchOf t x y) e))
-testUnder values p Boolean.Between =
-    values (p + 1) ▷ (λ x q. values q ▷ (λ y r. values r ▷ (λ z e. ended (betweenOf x y z) e)))
-testUnder values p (Boolean.Connect c) = astray
-testUnder values p Boolean.Not = astray
-testUnder values p Boolean.Missing = values (p + 1) ▷ (λ x e. at (missingOf x) e)
-
 -- what stands under a boolean's code at p; `values` gives the values and `inner` the booleans one level down
 unfoldable pub booleanUnder : (ℕ → Walked Datum) → (ℕ → Walked Truth) → ℕ → BooleanCode → Walked Truth
-booleanUnder values inner p (Boolean.Compare c) = testUnder values p (Boolean.Compare c)
-booleanUnder values inner p (Boolean.Search t) = testUnder values p (Boolean.Search t)
-booleanUnder values inner p Boolean.Between = testUnder values p Boolean.Between
+booleanUnder values inner p (Boolean.Compare c) = values (p + 1) ▷ (λ x q. values q ▷ (λ y e. ended (compareOf c x y) e))
+booleanUnder values inner p (Boolean.Search t) = values (p + 1) ▷ (λ x q. values q ▷ (λ y e. ended (searchOf t x y) e))
+booleanUnder values inner p Boolean.Between =
+    values (p + 1) ▷ (λ x q. values q ▷ (λ y r. values r ▷ (λ z e. ended (betweenOf x y z) e)))
 booleanUnder values inner p (Boolean.Connect c) = inner (p + 1) ▷ (λ x q. inner q ▷ (λ y e. at (connected c x y) e))
 booleanUnder values inner p Boolean.Not = inner (p + 1) ▷ (λ x e. at (opposite x) e)
-booleanUnder values inner p Boolean.Missing = testUnder values p Boolean.Missing
+booleanUnder values inner p Boolean.Missing = values (p + 1) ▷ (λ x e. at (missingOf x) e)
 
 unfoldable pub booleanAt : (Reference → Fetched) → ℕ → List ℕ → ℕ → Walked Truth
 booleanAt g zero s p = astray

@@ -2,8 +2,7 @@ use mathlib.Core.Path.{sym, ap, _∙_}
 use native.Mathlib.Omega.{arith}
 use lib.Seq.{length-take-le}
 use Rattle.evaluator.specs.AfterReading.{settled}
-use Rattle.evaluator.proofs.Outcomes.{no-condition, wrong-images, count-few, relations-long, numbers-long, wrong-records, rows-fit, walk-met, walked}
-use lib.ListN.{length-set}
+use Rattle.evaluator.proofs.Outcomes.{Ready, no-condition, wrong-images, relations-fit, numbers-fit, wrong-records, rows-fit, walk-met, walked}
 use borrow.Author.Needs.{needs}
 use Rattle.evaluator.proofs.conditions.evaluate_read.Statement.{statement}
 use Rattle.evaluator.proofs.conditions.evaluate_read.Tie as tie
@@ -31,7 +30,7 @@ returns c =
     let args′ = c .before .before .before .before .before .before .before .before .before .args in
     let number-at′ = c .before .number-at in
     let if1′ = c .if1 in
-    no-condition (pre′) (args′ .number) (args′ .images .now) (args′ .run .now) (number-at′ .result) (number-at′ .ensures) (if1′ .taken)
+    no-condition pre′ (args′ .number) (args′ .images .now) (args′ .run .now) (number-at′ .result) (number-at′ .ensures) (if1′ .taken)
 
 -- src/conditions.rt:33:9
 image-bytes-requires : tie.Need-image-bytes-requires
@@ -46,7 +45,8 @@ returns-2 c =
     let if1′ = c .before .before .if1 in
     let image-bytes′ = c .before .image-bytes in
     let if2′ = c .if2 in
-    wrong-images (pre′) (args′ .number) (args′ .images .now) (args′ .run .now) (number-at′ .result) (number-at′ .ensures) (if1′ .left) (image-bytes′ .result) (image-bytes′ .ensures) (if2′ .taken)
+    wrong-images pre′ (args′ .number) (args′ .images .now) (args′ .run .now) (number-at′ .result) (number-at′ .ensures) (if1′ .left)
+    (image-bytes′ .result) (image-bytes′ .ensures) (if2′ .taken)
 
 -- src/conditions.rt:44:9
 slice-aggregate-in-scope : tie.Need-slice-aggregate-in-scope
@@ -60,29 +60,42 @@ slice-aggregate-in-scope-2 c = search needs
 in-scope-requires : tie.Need-in-scope-requires
 in-scope-requires c κs = search needs
 
+-- what holds once the contexts in scope are laid
+abbrev ready : (c : tie.After-in-scope) →
+    let start′ = c .before .before .before .before .before .before .before .before .before .before .before .before .before .before in
+    Ready (start′ .pre) (start′ .args .number) (start′ .args .images .now) (start′ .args .run .now)
+ready c =
+    let number-at′ = c .before .before .before .before .before .before .number-at in
+    let if1′ = c .before .before .before .before .before .if1 in
+    let image-bytes′ = c .before .before .before .before .image-bytes in
+    let if2′ = c .before .before .before .if2 in
+    let in-scope′ = c .in-scope in
+    record {
+      place = number-at′ .result;
+      there = number-at′ .ensures;
+      some-place = if1′ .left;
+      exact = if2′ .left ∙ image-bytes′ .ensures;
+      numbers = _;
+      relations = _;
+      numbers′ = _;
+      relations′ = _;
+      count = in-scope′ .result;
+      laid = in-scope′ .ensures;
+      numbers-room = omega arith;
+      relations-room = omega arith;
+    }
+
 -- src/conditions.rt:47:55
 array-share-prefix-relations : tie.Need-array-share-prefix-relations
 array-share-prefix-relations c =
-    let pre′ = c .before .before .before .before .before .before .before .before .before .before .before .before .before .before .before .before .pre in
-    let args′ = c .before .before .before .before .before .before .before .before .before .before .before .before .before .before .before .before .args in
-    let number-at′ = c .before .before .before .before .before .before .before .before .number-at in
-    let if1′ = c .before .before .before .before .before .before .before .if1 in
-    let image-bytes′ = c .before .before .before .before .before .before .image-bytes in
-    let if2′ = c .before .before .before .before .before .if2 in
-    let in-scope′ = c .before .before .in-scope in
-    let few = count-few (pre′) (args′ .number) (args′ .images .now) (args′ .run .now) (number-at′ .result) (number-at′ .ensures) (if1′ .left) (image-bytes′ .result) (image-bytes′ .ensures) (if2′ .left) (in-scope′ .ensures) (omega arith) (omega arith) in let l = relations-long (pre′) (args′ .number) (args′ .images .now) (args′ .run .now) (number-at′ .result) (number-at′ .ensures) (if1′ .left) (image-bytes′ .result) (image-bytes′ .ensures) (if2′ .left) (in-scope′ .ensures) (omega arith) (omega arith) in let k = numbers-long (pre′) (args′ .number) (args′ .images .now) (args′ .run .now) (number-at′ .result) (number-at′ .ensures) (if1′ .left) (image-bytes′ .result) (image-bytes′ .ensures) (if2′ .left) (in-scope′ .ensures) (omega arith) (omega arith) in omega (arith, few, l)
+    let ready′ = ready (c .before .before) in
+    relations-fit ready′
 
 -- src/conditions.rt:47:55
 slice-aggregate-records : tie.Need-slice-aggregate-records
 slice-aggregate-records c =
-    let pre′ = c .before .before .before .before .before .before .before .before .before .before .before .before .before .before .before .before .before .pre in
-    let args′ = c .before .before .before .before .before .before .before .before .before .before .before .before .before .before .before .before .before .args in
-    let number-at′ = c .before .before .before .before .before .before .before .before .before .number-at in
-    let if1′ = c .before .before .before .before .before .before .before .before .if1 in
-    let image-bytes′ = c .before .before .before .before .before .before .before .image-bytes in
-    let if2′ = c .before .before .before .before .before .before .if2 in
-    let in-scope′ = c .before .before .before .in-scope in
-    let few = count-few (pre′) (args′ .number) (args′ .images .now) (args′ .run .now) (number-at′ .result) (number-at′ .ensures) (if1′ .left) (image-bytes′ .result) (image-bytes′ .ensures) (if2′ .left) (in-scope′ .ensures) (omega arith) (omega arith) in let l = relations-long (pre′) (args′ .number) (args′ .images .now) (args′ .run .now) (number-at′ .result) (number-at′ .ensures) (if1′ .left) (image-bytes′ .result) (image-bytes′ .ensures) (if2′ .left) (in-scope′ .ensures) (omega arith) (omega arith) in let k = numbers-long (pre′) (args′ .number) (args′ .images .now) (args′ .run .now) (number-at′ .result) (number-at′ .ensures) (if1′ .left) (image-bytes′ .result) (image-bytes′ .ensures) (if2′ .left) (in-scope′ .ensures) (omega arith) (omega arith) in sym (length-take-le _ _ (omega (arith, few, l)))
+    let ready′ = ready (c .before .before .before) in
+    sym (length-take-le _ _ (relations-fit ready′))
 
 -- src/conditions.rt:47:9
 records-requires : tie.Need-records-requires
@@ -95,50 +108,26 @@ enum-told c = search needs
 -- src/conditions.rt:52:13
 array-share-prefix-numbers : tie.Need-array-share-prefix-numbers
 array-share-prefix-numbers c =
-    let pre′ = c .before .before .before .before .before .before .before .before .before .before .before .before .before .before .before .before .before .before .before .before .pre in
-    let args′ = c .before .before .before .before .before .before .before .before .before .before .before .before .before .before .before .before .before .before .before .before .args in
-    let number-at′ = c .before .before .before .before .before .before .before .before .before .before .before .before .number-at in
-    let if1′ = c .before .before .before .before .before .before .before .before .before .before .before .if1 in
-    let image-bytes′ = c .before .before .before .before .before .before .before .before .before .before .image-bytes in
-    let if2′ = c .before .before .before .before .before .before .before .before .before .if2 in
-    let in-scope′ = c .before .before .before .before .before .before .in-scope in
-    let few = count-few (pre′) (args′ .number) (args′ .images .now) (args′ .run .now) (number-at′ .result) (number-at′ .ensures) (if1′ .left) (image-bytes′ .result) (image-bytes′ .ensures) (if2′ .left) (in-scope′ .ensures) (omega arith) (omega arith) in let l = relations-long (pre′) (args′ .number) (args′ .images .now) (args′ .run .now) (number-at′ .result) (number-at′ .ensures) (if1′ .left) (image-bytes′ .result) (image-bytes′ .ensures) (if2′ .left) (in-scope′ .ensures) (omega arith) (omega arith) in let k = numbers-long (pre′) (args′ .number) (args′ .images .now) (args′ .run .now) (number-at′ .result) (number-at′ .ensures) (if1′ .left) (image-bytes′ .result) (image-bytes′ .ensures) (if2′ .left) (in-scope′ .ensures) (omega arith) (omega arith) in omega (arith, few, k)
+    let ready′ = ready (c .before .before .before .before .before .before) in
+    numbers-fit ready′
 
 -- src/conditions.rt:52:13
 slice-aggregate-boolean-at : tie.Need-slice-aggregate-boolean-at
 slice-aggregate-boolean-at c =
-    let pre′ = c .before .before .before .before .before .before .before .before .before .before .before .before .before .before .before .before .before .before .before .before .before .pre in
-    let args′ = c .before .before .before .before .before .before .before .before .before .before .before .before .before .before .before .before .before .before .before .before .before .args in
-    let number-at′ = c .before .before .before .before .before .before .before .before .before .before .before .before .before .number-at in
-    let if1′ = c .before .before .before .before .before .before .before .before .before .before .before .before .if1 in
-    let image-bytes′ = c .before .before .before .before .before .before .before .before .before .before .before .image-bytes in
-    let if2′ = c .before .before .before .before .before .before .before .before .before .before .if2 in
-    let in-scope′ = c .before .before .before .before .before .before .before .in-scope in
-    let few = count-few (pre′) (args′ .number) (args′ .images .now) (args′ .run .now) (number-at′ .result) (number-at′ .ensures) (if1′ .left) (image-bytes′ .result) (image-bytes′ .ensures) (if2′ .left) (in-scope′ .ensures) (omega arith) (omega arith) in let l = relations-long (pre′) (args′ .number) (args′ .images .now) (args′ .run .now) (number-at′ .result) (number-at′ .ensures) (if1′ .left) (image-bytes′ .result) (image-bytes′ .ensures) (if2′ .left) (in-scope′ .ensures) (omega arith) (omega arith) in let k = numbers-long (pre′) (args′ .number) (args′ .images .now) (args′ .run .now) (number-at′ .result) (number-at′ .ensures) (if1′ .left) (image-bytes′ .result) (image-bytes′ .ensures) (if2′ .left) (in-scope′ .ensures) (omega arith) (omega arith) in sym (length-take-le _ _ (omega (arith, few, k)))
+    let ready′ = ready (c .before .before .before .before .before .before .before) in
+    sym (length-take-le _ _ (numbers-fit ready′))
 
 -- src/conditions.rt:53:13
 array-share-prefix-relations-2 : tie.Need-array-share-prefix-relations-2
 array-share-prefix-relations-2 c =
-    let pre′ = c .before .before .before .before .before .before .before .before .before .before .before .before .before .before .before .before .before .before .before .before .before .pre in
-    let args′ = c .before .before .before .before .before .before .before .before .before .before .before .before .before .before .before .before .before .before .before .before .before .args in
-    let number-at′ = c .before .before .before .before .before .before .before .before .before .before .before .before .before .number-at in
-    let if1′ = c .before .before .before .before .before .before .before .before .before .before .before .before .if1 in
-    let image-bytes′ = c .before .before .before .before .before .before .before .before .before .before .before .image-bytes in
-    let if2′ = c .before .before .before .before .before .before .before .before .before .before .if2 in
-    let in-scope′ = c .before .before .before .before .before .before .before .in-scope in
-    let few = count-few (pre′) (args′ .number) (args′ .images .now) (args′ .run .now) (number-at′ .result) (number-at′ .ensures) (if1′ .left) (image-bytes′ .result) (image-bytes′ .ensures) (if2′ .left) (in-scope′ .ensures) (omega arith) (omega arith) in let l = relations-long (pre′) (args′ .number) (args′ .images .now) (args′ .run .now) (number-at′ .result) (number-at′ .ensures) (if1′ .left) (image-bytes′ .result) (image-bytes′ .ensures) (if2′ .left) (in-scope′ .ensures) (omega arith) (omega arith) in let k = numbers-long (pre′) (args′ .number) (args′ .images .now) (args′ .run .now) (number-at′ .result) (number-at′ .ensures) (if1′ .left) (image-bytes′ .result) (image-bytes′ .ensures) (if2′ .left) (in-scope′ .ensures) (omega arith) (omega arith) in omega (arith, few, l)
+    let ready′ = ready (c .before .before .before .before .before .before .before) in
+    relations-fit ready′
 
 -- src/conditions.rt:53:13
 slice-aggregate-boolean-at-2 : tie.Need-slice-aggregate-boolean-at-2
 slice-aggregate-boolean-at-2 c =
-    let pre′ = c .before .before .before .before .before .before .before .before .before .before .before .before .before .before .before .before .before .before .before .before .before .before .pre in
-    let args′ = c .before .before .before .before .before .before .before .before .before .before .before .before .before .before .before .before .before .before .before .before .before .before .args in
-    let number-at′ = c .before .before .before .before .before .before .before .before .before .before .before .before .before .before .number-at in
-    let if1′ = c .before .before .before .before .before .before .before .before .before .before .before .before .before .if1 in
-    let image-bytes′ = c .before .before .before .before .before .before .before .before .before .before .before .before .image-bytes in
-    let if2′ = c .before .before .before .before .before .before .before .before .before .before .before .if2 in
-    let in-scope′ = c .before .before .before .before .before .before .before .before .in-scope in
-    let few = count-few (pre′) (args′ .number) (args′ .images .now) (args′ .run .now) (number-at′ .result) (number-at′ .ensures) (if1′ .left) (image-bytes′ .result) (image-bytes′ .ensures) (if2′ .left) (in-scope′ .ensures) (omega arith) (omega arith) in let l = relations-long (pre′) (args′ .number) (args′ .images .now) (args′ .run .now) (number-at′ .result) (number-at′ .ensures) (if1′ .left) (image-bytes′ .result) (image-bytes′ .ensures) (if2′ .left) (in-scope′ .ensures) (omega arith) (omega arith) in let k = numbers-long (pre′) (args′ .number) (args′ .images .now) (args′ .run .now) (number-at′ .result) (number-at′ .ensures) (if1′ .left) (image-bytes′ .result) (image-bytes′ .ensures) (if2′ .left) (in-scope′ .ensures) (omega arith) (omega arith) in sym (length-take-le _ _ (omega (arith, few, l)))
+    let ready′ = ready (c .before .before .before .before .before .before .before .before) in
+    sym (length-take-le _ _ (relations-fit ready′))
 
 -- src/conditions.rt:54:27
 mul-boolean-at : tie.Need-mul-boolean-at
@@ -147,14 +136,8 @@ mul-boolean-at c = search needs
 -- src/conditions.rt:54:13
 slice-aggregate-boolean-at-3 : tie.Need-slice-aggregate-boolean-at-3
 slice-aggregate-boolean-at-3 c =
-    let pre′ = c .before .before .before .before .before .before .before .before .before .before .before .before .before .before .before .before .before .before .before .before .before .before .before .pre in
-    let args′ = c .before .before .before .before .before .before .before .before .before .before .before .before .before .before .before .before .before .before .before .before .before .before .before .args in
-    let number-at′ = c .before .before .before .before .before .before .before .before .before .before .before .before .before .before .before .number-at in
-    let if1′ = c .before .before .before .before .before .before .before .before .before .before .before .before .before .before .if1 in
-    let image-bytes′ = c .before .before .before .before .before .before .before .before .before .before .before .before .before .image-bytes in
-    let if2′ = c .before .before .before .before .before .before .before .before .before .before .before .before .if2 in
-    let in-scope′ = c .before .before .before .before .before .before .before .before .before .in-scope in
-    sym (length-take-le _ _ (rows-fit (pre′) (args′ .number) (args′ .images .now) (args′ .run .now) (number-at′ .result) (number-at′ .ensures) (if1′ .left) (image-bytes′ .result) (image-bytes′ .ensures) (if2′ .left) (in-scope′ .ensures) (omega arith) (omega arith)))
+    let ready′ = ready (c .before .before .before .before .before .before .before .before .before) in
+    sym (length-take-le _ _ (rows-fit ready′))
 
 -- src/conditions.rt:49:39
 boolean-at-requires : tie.Need-boolean-at-requires
@@ -163,17 +146,11 @@ boolean-at-requires c κs = search needs
 -- src/conditions.rt:49:29
 answer-of-requires : tie.Need-answer-of-requires
 answer-of-requires c κs =
-    let pre′ = c .before .before .before .before .before .before .before .before .before .before .before .before .before .before .before .before .before .before .before .before .before .before .before .before .pre in
-    let args′ = c .before .before .before .before .before .before .before .before .before .before .before .before .before .before .before .before .before .before .before .before .before .before .before .before .args in
-    let number-at′ = c .before .before .before .before .before .before .before .before .before .before .before .before .before .before .before .before .number-at in
-    let if1′ = c .before .before .before .before .before .before .before .before .before .before .before .before .before .before .before .if1 in
-    let image-bytes′ = c .before .before .before .before .before .before .before .before .before .before .before .before .before .before .image-bytes in
-    let if2′ = c .before .before .before .before .before .before .before .before .before .before .before .before .before .if2 in
-    let in-scope′ = c .before .before .before .before .before .before .before .before .before .before .in-scope in
+    let ready′ = ready (c .before .before .before .before .before .before .before .before .before .before) in
     let enum-told′ = c .before .before .before .before .enum-told in
     let records′ = c .before .before .before .before .before .before .records in
     let boolean-at′ = c .boolean-at in
-    λ e. walk-met (pre′) (args′ .number) (args′ .images .now) (args′ .run .now) (number-at′ .result) (number-at′ .ensures) (if1′ .left) (image-bytes′ .result) (image-bytes′ .ensures) (if2′ .left) (in-scope′ .ensures) (omega arith) (omega arith) (sym (enum-told′ .given .1) ∙ records′ .ensures) (sym (boolean-at′ .ensures) ∙ e)
+    λ e. walk-met ready′ (sym (enum-told′ .given .1) ∙ records′ .ensures) (sym (boolean-at′ .ensures) ∙ e)
 
 -- src/conditions.rt:60:28
 enum-known-answer : tie.Need-enum-known-answer
@@ -182,32 +159,20 @@ enum-known-answer c = search needs
 -- src/conditions.rt:14:1
 returns-3 : tie.Need-returns-3
 returns-3 c =
-    let answer-of′ = c .answer-of in
-    let boolean-at′ = c .before .boolean-at in
-    let pre′ = c .before .before .before .before .before .before .before .before .before .before .before .before .before .before .before .before .before .before .before .before .before .before .before .before .before .pre in
-    let args′ = c .before .before .before .before .before .before .before .before .before .before .before .before .before .before .before .before .before .before .before .before .before .before .before .before .before .args in
-    let number-at′ = c .before .before .before .before .before .before .before .before .before .before .before .before .before .before .before .before .before .number-at in
-    let if1′ = c .before .before .before .before .before .before .before .before .before .before .before .before .before .before .before .before .if1 in
-    let image-bytes′ = c .before .before .before .before .before .before .before .before .before .before .before .before .before .before .before .image-bytes in
-    let if2′ = c .before .before .before .before .before .before .before .before .before .before .before .before .before .before .if2 in
-    let in-scope′ = c .before .before .before .before .before .before .before .before .before .before .before .in-scope in
+    let ready′ = ready (c .before .before .before .before .before .before .before .before .before .before .before) in
     let enum-told′ = c .before .before .before .before .before .enum-told in
     let records′ = c .before .before .before .before .before .before .before .records in
-    answer-of′ .ensures ∙ ap settled (boolean-at′ .ensures) ∙ walked (pre′) (args′ .number) (args′ .images .now) (args′ .run .now) (number-at′ .result) (number-at′ .ensures) (if1′ .left) (image-bytes′ .result) (image-bytes′ .ensures) (if2′ .left) (in-scope′ .ensures) (omega arith) (omega arith) (sym (enum-told′ .given .1) ∙ records′ .ensures)
+    let boolean-at′ = c .before .boolean-at in
+    let answer-of′ = c .answer-of in
+    answer-of′ .ensures ∙ ap settled (boolean-at′ .ensures) ∙ walked ready′ (sym (enum-told′ .given .1) ∙ records′ .ensures)
 
 -- src/conditions.rt:14:1
 returns-4 : tie.Need-returns-4
 returns-4 c =
-    let pre′ = c .before .before .before .before .before .before .before .before .before .before .before .before .before .before .before .before .before .before .before .before .before .pre in
-    let args′ = c .before .before .before .before .before .before .before .before .before .before .before .before .before .before .before .before .before .before .before .before .before .args in
-    let number-at′ = c .before .before .before .before .before .before .before .before .before .before .before .before .before .number-at in
-    let if1′ = c .before .before .before .before .before .before .before .before .before .before .before .before .if1 in
-    let image-bytes′ = c .before .before .before .before .before .before .before .before .before .before .before .image-bytes in
-    let if2′ = c .before .before .before .before .before .before .before .before .before .before .if2 in
-    let in-scope′ = c .before .before .before .before .before .before .before .in-scope in
+    let ready′ = ready (c .before .before .before .before .before .before .before) in
     let answer′ = c .before .answer in
     let records′ = c .before .before .before .records in
-    wrong-records (pre′) (args′ .number) (args′ .images .now) (args′ .run .now) (number-at′ .result) (number-at′ .ensures) (if1′ .left) (image-bytes′ .result) (image-bytes′ .ensures) (if2′ .left) (in-scope′ .ensures) (omega arith) (omega arith) _ (sym (answer′ .given .1) ∙ records′ .ensures)
+    wrong-records ready′ _ (sym (answer′ .given .1) ∙ records′ .ensures)
 
 pub evaluate-read-spec : {M : Type 1} → statement M
 evaluate-read-spec =

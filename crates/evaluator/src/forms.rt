@@ -1,0 +1,74 @@
+// What a code asks for, by its operands.
+ghost use mathlib.Core.Path.{_≡_};
+ghost use Rattle.evaluator.specs.Forms.{valueCode, booleanCode};
+use wire::codes::BooleanCode;
+use wire::codes::Comparison;
+use wire::codes::Connective;
+use wire::codes::Operator;
+use wire::codes::ReferenceCode;
+use wire::codes::TextSearch;
+use wire::codes::ValueCode;
+
+// An operator on values.
+pub enum OperationCode {
+    Arithmetic(Operator),
+    Negate,
+}
+
+// What a value is, by its code.
+pub enum ValueForm {
+    Literal,
+    Reference(ReferenceCode),
+    Operation(OperationCode),
+}
+
+// A test on two values, and between on three.
+pub enum PairCode {
+    Compare(Comparison),
+    Search(TextSearch),
+    Between,
+}
+
+// A test on values.
+pub enum TestCode {
+    Pair(PairCode),
+    Missing,
+}
+
+// An operator on booleans.
+pub enum LogicCode {
+    Connect(Connective),
+    Not,
+}
+
+// What a boolean is, by its code.
+pub enum BooleanForm {
+    Test(TestCode),
+    Logic(LogicCode),
+}
+
+// The form of a value's code.
+pub fn value_form(code: ValueCode) -> ValueForm
+    ensures { λ r. ⌜ valueCode r ≡ code ⌝ }
+{
+    match code {
+        ValueCode::Literal => ValueForm::Literal,
+        ValueCode::Reference(c) => ValueForm::Reference(c),
+        ValueCode::Arithmetic(o) => ValueForm::Operation(OperationCode::Arithmetic(o)),
+        ValueCode::Negate => ValueForm::Operation(OperationCode::Negate),
+    }
+}
+
+// The form of a boolean's code.
+pub fn boolean_form(code: BooleanCode) -> BooleanForm
+    ensures { λ r. ⌜ booleanCode r ≡ code ⌝ }
+{
+    match code {
+        BooleanCode::Compare(c) => BooleanForm::Test(TestCode::Pair(PairCode::Compare(c))),
+        BooleanCode::Search(t) => BooleanForm::Test(TestCode::Pair(PairCode::Search(t))),
+        BooleanCode::Between => BooleanForm::Test(TestCode::Pair(PairCode::Between)),
+        BooleanCode::Connect(c) => BooleanForm::Logic(LogicCode::Connect(c)),
+        BooleanCode::Not => BooleanForm::Logic(LogicCode::Not),
+        BooleanCode::Missing => BooleanForm::Test(TestCode::Missing),
+    }
+}
