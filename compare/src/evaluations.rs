@@ -8,7 +8,10 @@ use second::hex;
 
 const DICTIONARY: &str = include_str!("../../second/tests/real/dictionary.hex");
 const CONDITIONS: &str = include_str!("../../second/tests/real/conditions.jsonl");
-const AGREED: &str = include_str!("../../second/tests/agreed/evaluations.txt");
+const AGREED: [&str; 2] = [
+    include_str!("../../second/tests/agreed/evaluations.txt"),
+    include_str!("../../second/tests/agreed/no-01.txt"),
+];
 
 /// What an evaluation takes.
 struct Input {
@@ -58,7 +61,13 @@ fn part<'a>(line: &'a str, key: &str) -> &'a str {
     &rest[..rest.find('"').unwrap_or(0)]
 }
 
-/// The conditions of a real implementation, each with its answer.
+/// The answer due to a condition of a real implementation: its own, or that of document 02's request No. 1.
+fn due(line: &str) -> String {
+    let changed = part(line, "no-01");
+    if changed.is_empty() { part(line, "answer") } else { changed }.to_string()
+}
+
+/// The conditions of a real implementation, each with the answer due.
 fn real() -> Vec<(Input, String)> {
     let dictionary = hex::read(DICTIONARY.trim()).expect("hex digits");
     let bytes = |text: &str| hex::read(text).expect("hex digits");
@@ -69,7 +78,7 @@ fn real() -> Vec<(Input, String)> {
                 ["request", "messages", "records"].map(|key| bytes(part(line, key)));
             let dictionary = dictionary.clone();
             let input = Input { dictionary, request, condition: 0, messages, records };
-            (input, part(line, "answer").to_string())
+            (input, due(line))
         })
         .collect()
 }
@@ -78,7 +87,8 @@ fn real() -> Vec<(Input, String)> {
 fn agreed() -> Vec<(Input, String)> {
     let bytes = |text: &str| hex::read(text).expect("hex digits");
     AGREED
-        .lines()
+        .iter()
+        .flat_map(|text| text.lines())
         .filter_map(|line| {
             let (input, answer) = line.split_once(" = ")?;
             let words: Vec<&str> = input.split(' ').collect();

@@ -4,7 +4,9 @@ use second::cases;
 use second::generate::Case;
 use second::hex;
 
-const EVALUATIONS: &str = include_str!("agreed/evaluations.txt");
+/// The files, each with its number of evaluations.
+const FILES: [(&str, usize); 2] =
+    [(include_str!("agreed/evaluations.txt"), 166), (include_str!("agreed/no-01.txt"), 28)];
 
 /// The case of a line, whose outcome stands behind ` = `.
 fn case(line: &str) -> Option<Case> {
@@ -24,11 +26,11 @@ fn case(line: &str) -> Option<Case> {
 
 #[test]
 fn evaluations_agree() {
-    let mut count = 0;
-    for line in EVALUATIONS.lines() {
-        let case = case(line).expect("an evaluation");
-        assert_eq!(cases::line(&case), line);
-        count += 1;
+    for (evaluations, count) in FILES {
+        for line in evaluations.lines() {
+            let case = case(line).expect("an evaluation");
+            assert_eq!(cases::line(&case), line);
+        }
+        assert_eq!(evaluations.lines().count(), count);
     }
-    assert_eq!(count, 166);
 }

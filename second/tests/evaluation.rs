@@ -122,6 +122,46 @@ fn missing_operands_come_before_the_operation() {
     assert_eq!(test(&op(61, &[&[24, 0, 1, 0]])), Ok(False));
 }
 
+/// The outcome of a between of three shorts, each there or missing.
+fn between(values: [Option<i16>; 3]) -> Result<Answer, (u32, usize)> {
+    // A message of three shorts, each with its flag behind it.
+    let message = [&[4, 0, 6, 0], [7, 0].repeat(6).as_slice()].concat();
+    let boolean = op(56, &[&[41, 0, 0, 0, 1, 0], &[41, 0, 2, 0, 3, 0], &[41, 0, 4, 0, 5, 0]]);
+    let image = |value: Option<i16>| {
+        let flag = i16::from(value.is_none());
+        [value.unwrap_or(7).to_le_bytes(), flag.to_le_bytes()].concat()
+    };
+    let request = request(&[&message, &[8], &boolean, &[2, 255, 255]]);
+    outcome(&request, &[], &values.map(image).concat(), &[])
+}
+
+#[test]
+fn between_is_geq_with_the_second_and_leq_with_the_third() {
+    let beside = |second, third| [5, 7, 9].map(|first| between([Some(first), second, third]));
+    // Document 02: 5 is not between 7 and a limit never set.
+    assert_eq!(beside(Some(7), None), [False, Missing, Missing].map(Ok));
+    assert_eq!(beside(None, Some(7)), [Missing, Missing, False].map(Ok));
+    assert_eq!(beside(None, None), [Missing; 3].map(Ok));
+    assert_eq!(beside(Some(7), Some(7)), [False, True, False].map(Ok));
+    assert_eq!(beside(Some(7), Some(9)), [False, True, True].map(Ok));
+    assert_eq!(beside(Some(5), Some(7)), [True, True, False].map(Ok));
+    assert_eq!(beside(Some(9), Some(5)), [False; 3].map(Ok));
+    for second in [None, Some(5), Some(9)] {
+        for third in [None, Some(5), Some(9)] {
+            assert_eq!(between([None, second, third]), Ok(Missing));
+        }
+    }
+}
+
+#[test]
+fn a_refusal_in_any_value_of_a_between_stands() {
+    let [one, five, seven] = [1, 5, 7].map(|number| short(0, number));
+    let quotient = op(37, &[&one, &short(0, 0)]);
+    assert_eq!(plain(&op(56, &[&five, &seven, &quotient])), Err((25, 14)));
+    assert_eq!(plain(&op(56, &[&five, &quotient, &one])), Err((25, 9)));
+    assert_eq!(plain(&op(56, &[&quotient, &five, &quotient])), Err((25, 4)));
+}
+
 #[test]
 fn malformed_texts_are_refused_where_they_are_read() {
     let dictionary = [relation(1, "R"), field(0, 37, 0, 3, "V"), field(1, 40, 0, 3, "C")].concat();

@@ -75,7 +75,8 @@ fn answers_agree() {
         let [request, messages, records] =
             ["request", "messages", "records"].map(|member| bytes(&case[member]));
         let answer = evaluate(&request, &dictionary, 0, &messages, &records).expect("an answer");
-        assert_eq!(answer_name(answer), case["answer"], "{line}");
+        let due = case.get("no-01").unwrap_or(&case["answer"]);
+        assert_eq!(answer_name(answer), due, "{line}");
         count += 1;
     }
     assert_eq!(count, 480);

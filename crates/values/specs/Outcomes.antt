@@ -4,11 +4,12 @@ use mathlib.Core.Path.{_≡_}
 use Rattle.wire.specs.declared.codes.Operator.{Operator}
 use Rattle.wire.specs.declared.codes.Comparison.{Comparison}
 use Rattle.wire.specs.declared.codes.TextSearch.{TextSearch}
+use Rattle.wire.specs.declared.codes.Connective.the-variants.{And}
 use Rattle.decimal.specs.declared.Computed.{Computed}
 use Rattle.meaning.specs.declared.Truth.{Truth}
 use Rattle.meaning.specs.declared.Kind.{Kind}
 use Rattle.meaning.specs.Data.{Result, is, stray, _>>=_, absent, result, lacking, arithmeticPair, arithmeticOf, negateOf}
-use Rattle.meaning.specs.Data.{compareOf, searchPair, searchOf, betweenOf, strictly, missingOf}
+use Rattle.meaning.specs.Data.{compareOf, searchPair, searchOf, betweenOf, missingOf, connected}
 use Rattle.walking.specs.Walk.{ended}
 use Rattle.values.specs.declared.Position.{Position}
 use Rattle.values.specs.declared.Value.{Value}
@@ -30,7 +31,7 @@ ComparedOf m c x y r = outcome r ≡ compareOf c (datum m x) (datum m y)
 
 -- both comparisons of between, the first stray met before all else
 abbrev pub bothOf : Result Truth → Result Truth → Result Truth
-bothOf u v = u >>= (λ a. v >>= (λ b. is (strictly a b)))
+bothOf u v = u >>= (λ a. v >>= (λ b. is (connected And a b)))
 
 abbrev pub BothComparisons : Outcome → Outcome → Outcome → Type 0
 BothComparisons a b r = outcome r ≡ bothOf (outcome a) (outcome b)

@@ -1,6 +1,4 @@
-// Between: whether the first of three values is neither below the second nor above the third.
-ghost use mathlib.Core.Path.{_≡_};
-ghost use Rattle.meaning.specs.Data as Data;
+// Between: geq of the first two of three values and leq of the first and the third, joined by and.
 ghost use Rattle.values.specs.Values.{lent};
 ghost use Rattle.values.specs.Outcomes.{BothComparisons, BetweenOf};
 ghost use Rattle.values.specs.Promises.{Between};
@@ -8,35 +6,21 @@ use crate::Tested;
 use crate::Value;
 use crate::Valued;
 use crate::comparison::comparison_of;
+use crate::logic::connection;
 use crate::operands::Operands;
 use crate::operands::in_order;
 use crate::outcomes::Outcome;
 use crate::outcomes::ended;
-use meaning::Truth;
 use wire::codes::Comparison;
+use wire::codes::Connective;
 
-// Missing where either is; else both.
-fn strictly(a: Truth, b: Truth) -> Truth
-    ensures { λ r. ⌜ r ≡ Data.strictly a b ⌝ }
-{
-    match a {
-        Truth::True => b,
-        Truth::False => match b {
-            Truth::True => Truth::False,
-            Truth::False => Truth::False,
-            Truth::Missing => Truth::Missing,
-        },
-        Truth::Missing => Truth::Missing,
-    }
-}
-
-// Of the two comparisons; the first stray met stands.
+// The two comparisons joined by and; the first stray met stands.
 fn both_comparisons(a: Outcome, b: Outcome) -> Outcome
     ensures { λ r. ⌜ BothComparisons a b r ⌝ }
 {
     match a {
         Outcome::Is(s) => match b {
-            Outcome::Is(t) => Outcome::Is(strictly(s, t)),
+            Outcome::Is(t) => Outcome::Is(connection(Connective::And, s, t)),
             Outcome::Stray => Outcome::Stray,
         },
         Outcome::Stray => Outcome::Stray,

@@ -40,7 +40,7 @@ fn either(a: Truth, b: Truth) -> Truth
     }
 }
 
-fn connection(c: Connective, a: Truth, b: Truth) -> Truth
+pub(crate) fn connection(c: Connective, a: Truth, b: Truth) -> Truth
     ensures { λ r. ⌜ r ≡ Data.connected c a b ⌝ }
 {
     match c {

@@ -89,7 +89,8 @@ fn refused_values(sheet: &mut Sheet) -> [Vec<u8>; 3] {
     ]
 }
 
-/// A refused value before and after a missing one, in tests and in arithmetic, and under missing.
+/// A refused value before and after a missing one, in tests and in arithmetic, under missing, and
+/// in a between that is false by its other end.
 pub fn refusals() -> Vec<Case> {
     let mut cases = Vec::new();
     for at in 0..3 {
@@ -97,7 +98,7 @@ pub fn refusals() -> Vec<Case> {
         let values = refused_values(&mut sheet);
         let (refused, other) = (&values[at], &values[(at + 1) % 3]);
         let absent = sheet.missing(Where::Field, &long(0, 3));
-        let one = assemble::short(0, 1);
+        let [one, five] = [1, 5].map(|number| assemble::short(0, number));
         let test = |code: u8, operands: &[&[u8]]| operator(code, operands);
         let sum = |left: &[u8], right: &[u8]| operator(SUBTRACT, &[left, right]);
         for boolean in [
@@ -112,7 +113,9 @@ pub fn refusals() -> Vec<Case> {
             test(BETWEEN, &[&absent, &absent, refused]),
             test(BETWEEN, &[&absent, refused, other]),
             test(BETWEEN, &[refused, &one, other]),
-            test(BETWEEN, &[&short(0, 5).literal(), &one, refused]),
+            test(BETWEEN, &[&five, &one, refused]),
+            test(BETWEEN, &[&one, &five, refused]),
+            test(BETWEEN, &[&five, refused, &one]),
         ] {
             cases.push(sheet.case(&boolean));
         }
@@ -120,7 +123,8 @@ pub fn refusals() -> Vec<Case> {
     cases
 }
 
-/// A malformed text before and after a missing one.
+/// A malformed text before and after a missing one, and as the third value of a between that is
+/// false by its second.
 pub fn malformed() -> Vec<Case> {
     let mut cases = Vec::new();
     for (turn, stored) in [varying(3, b"ab"), cstring(b"ab")].iter().enumerate() {
@@ -128,13 +132,14 @@ pub fn malformed() -> Vec<Case> {
             let mut sheet = Sheet::default();
             let absent = sheet.missing([Where::Flagged, Where::Field][turn], stored);
             let refused = sheet.there(place, stored);
-            let letter = assemble::text(b"a");
+            let [letter, next] = [b"a", b"b"].map(|bytes| assemble::text(bytes));
             for boolean in [
                 operator(CONTAINING, &[&absent, &refused]),
                 operator(STARTING, &[&refused, &absent]),
                 operator(EQL, &[&refused, &refused]),
                 operator(BETWEEN, &[&letter, &absent, &refused]),
                 operator(BETWEEN, &[&absent, &refused, &letter]),
+                operator(BETWEEN, &[&letter, &next, &refused]),
                 operator(MISSING, &[&refused]),
             ] {
                 cases.push(sheet.case(&boolean));

@@ -75,6 +75,8 @@ fn families() -> Vec<Vec<Case>> {
         logic::refusals(),
         between::missing(),
         between::ends(),
+        between::missing_ends(),
+        between::unset_limits(),
         dates::comparisons(),
         numbers::signs(),
         numbers::readings(),

@@ -9,8 +9,8 @@ enum-known-a c = search needs
 enum-known-b : tie.Need-enum-known-b
 enum-known-b c = search needs
 
-strictly-requires : tie.Need-strictly-requires
-strictly-requires c κs = search needs
+connection-requires : tie.Need-connection-requires
+connection-requires c κs = search needs
 
 enum-told : tie.Need-enum-told
 enum-told c = search needs
@@ -20,10 +20,10 @@ enum-told-2 c = search needs
 
 returns : tie.Need-returns
 returns c =
-    let strictly′ = c .strictly in
+    let connection′ = c .connection in
     let a′ = c .before .before .before .before .before .a in
     let b′ = c .before .before .b in
-    rw (strictly′ .ensures, a′ .given .1, b′ .given .1)
+    rw (connection′ .ensures, a′ .given .1, b′ .given .1)
 
 returns-2 : tie.Need-returns-2
 returns-2 c = search needs
@@ -37,7 +37,7 @@ both-comparisons-spec =
     (tie.spec
     enum-known-a
     enum-known-b
-    strictly-requires
+    connection-requires
     enum-told
     enum-told-2
     returns
