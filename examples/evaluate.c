@@ -15,6 +15,7 @@ static const uint8_t dictionary[] = {
 
 int main(void) {
     static const char *const words[] = {"false", "true", "missing"};
+    static const char *const causes[] = {"", ", by the bit", ", by the reading", ", by the flag", ", of nothing"};
     static const unsigned heats[] = {301, 300, 65534, 65535};
     const uint8_t image[2] = {0, 0};
     for (size_t i = 0; i < sizeof heats / sizeof heats[0]; i++) {
@@ -23,7 +24,7 @@ int main(void) {
         if (blr_answer(given) == BLR_REFUSED)
             printf("%u refused %u at %llu\n", heats[i], blr_number(given), (unsigned long long)blr_place(given));
         else
-            printf("%u %s\n", heats[i], words[blr_answer(given)]);
+            printf("%u %s%s\n", heats[i], words[blr_answer(given)], causes[blr_cause(given)]);
     }
     return 0;
 }

@@ -56,10 +56,18 @@ uint32_t blr_read(const uint8_t *request, size_t request_length,
 #define BLR_MISSING 2
 #define BLR_REFUSED 3
 
+/* Why an answer is missing: the missing bit of a field, a reading of 65535, the flag of a parameter, or a statistic of
+ * nothing, which no request holds yet. */
+#define BLR_CAUSE_BIT 1
+#define BLR_CAUSE_READING 2
+#define BLR_CAUSE_FLAG 3
+#define BLR_CAUSE_NOTHING 4
+
 /* Evaluates a condition of a request, by its number (from 0 in reading order), with the images of all messages in
  * declaration order, joined, and one record for each context in scope in declaration order, joined.
  *
- * Gives one number: blr_answer of it is one of the four above; of a refusal blr_number is the number, 2 to 16 or 20 to 25,
+ * Gives one number: blr_answer of it is one of the four answers above; of a missing one blr_cause is the cause, that of the
+ * first missing operand in reading order, and of every other 0; of a refusal blr_number is the number, 2 to 16 or 20 to 25,
  * and blr_place the place: in the dictionary for 3, in the images for 21, in the records for 22, otherwise in the
  * request. A place of 281474976710655 stands for that and every greater one.
  *
@@ -72,7 +80,12 @@ uint64_t blr_evaluate(const uint8_t *request, size_t request_length,
                       const uint8_t *records, size_t records_length);
 
 static inline unsigned blr_answer(uint64_t evaluation) { return (unsigned)(evaluation & 0xff); }
-static inline unsigned blr_number(uint64_t evaluation) { return (unsigned)(evaluation >> 8 & 0xff); }
+static inline unsigned blr_cause(uint64_t evaluation) {
+    return blr_answer(evaluation) == BLR_MISSING ? (unsigned)(evaluation >> 8 & 0xff) : 0;
+}
+static inline unsigned blr_number(uint64_t evaluation) {
+    return blr_answer(evaluation) == BLR_REFUSED ? (unsigned)(evaluation >> 8 & 0xff) : 0;
+}
 static inline uint64_t blr_place(uint64_t evaluation) { return evaluation >> 16; }
 
 #ifdef __cplusplus

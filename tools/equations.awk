@@ -28,13 +28,14 @@ function numbers(t,    n, a, i, s) {
     return "(" s "[]" ")"
 }
 
-# what stands right of the sign of equality
+# what stands right of the sign of equality; a missing answer without its cause stands for any
 function answer(t,    a, p) {
     split(t, a, " ")
     if (a[1] == "refused") return "refusal " a[2] " " a[3]
     if (a[1] == "true") return "isTrue"
     if (a[1] == "false") return "isFalse"
-    if (a[1] == "missing") return "isMissing"
+    if (t == "missing") return "isMissing Cause.Bit"
+    if (a[1] == "missing") return "isMissing Cause." toupper(substr(a[2], 1, 1)) substr(a[2], 2)
     split(t, p, "|")
     return "rows " numbers(p[2]) " " numbers(p[3]) " " numbers(p[4])
 }
@@ -50,7 +51,8 @@ function open_file(crate,    proofs, name) {
     print "use mathlib.Core.Path.{_≡_, refl}" > file[crate]
     print "use mathlib.Core.List.{List, [], _∷_, _++_}" > file[crate]
     print "use lib.ListN.{replicate}" > file[crate]
-    print "use Rattle.examples.proofs.Answers.{Answer, rows, isTrue, isFalse, isMissing, refusal, readAnswer, evaluateAnswer}" > file[crate]
+    print "use Rattle.records.specs.declared.missing.Cause.the-variants as Cause" > file[crate]
+    print "use Rattle.examples.proofs.Answers.{Answer, rows, isTrue, isFalse, isMissing, anyCause, refusal, readAnswer, evaluateAnswer}" > file[crate]
 }
 
 {
@@ -60,6 +62,7 @@ function open_file(crate,    proofs, name) {
     right = substr($0, k + 3)
     if ($1 == "read") left = "readAnswer " list($3) " " list($2) " " $4 " " $5 " " $6
     else left = "evaluateAnswer " list($3) " " list($2) " " $4 " " list($5) " " list($6)
+    if (right == "missing") left = "anyCause (" left ")"
     print "" > file[crate]
     print "case" NR " : " left " ≡ " answer(right) > file[crate]
     print "unfolding readAnswer evaluateAnswer" > file[crate]

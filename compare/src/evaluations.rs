@@ -1,16 +1,17 @@
 //! Evaluations, valid and damaged: the proved evaluator against the second program's.
 
 use crate::proved;
-use second::cases::answer_name;
+use second::cases::answer_and_cause;
 use second::evaluator;
 use second::generate::{self, Case, Size};
 use second::hex;
 
 const DICTIONARY: &str = include_str!("../../second/tests/real/dictionary.hex");
 const CONDITIONS: &str = include_str!("../../second/tests/real/conditions.jsonl");
-const AGREED: [&str; 2] = [
+const AGREED: [&str; 3] = [
     include_str!("../../second/tests/agreed/evaluations.txt"),
     include_str!("../../second/tests/agreed/no-01.txt"),
+    include_str!("../../second/tests/agreed/no-03.txt"),
 ];
 
 /// What an evaluation takes.
@@ -28,7 +29,7 @@ impl Input {
         let Input { dictionary, request, condition, messages, records } = self;
         let proved = proved::evaluate(request, dictionary, *condition, messages, records);
         let plain = evaluator::evaluate(request, dictionary, *condition, messages, records)
-            .map(|answer| answer_name(answer).to_string())
+            .map(|answer| answer_and_cause(answer).to_string())
             .unwrap_or_else(|refusal| format!("refused {} {}", refusal.number, refusal.place));
         (proved, plain)
     }
@@ -103,23 +104,32 @@ fn agreed() -> Vec<(Input, String)> {
         .collect()
 }
 
-/// What comes up: three answers, and the refusals by their numbers.
+/// Whether an outcome is the one due, which may be `missing` without a cause.
+fn is_due(outcome: &str, due: &str) -> bool {
+    outcome == due || due == "missing" && outcome.starts_with("missing ")
+}
+
+/// What generated cases come out as: true, false, missing by each cause, and the refusals by their numbers.
+const OUTCOMES: usize = 29;
+
 fn outcome(text: &str) -> usize {
     match text {
         "true" => 0,
         "false" => 1,
-        "missing" => 26,
+        "missing bit" => 26,
+        "missing reading" => 27,
+        "missing flag" => 28,
         _ => text.split(' ').nth(1).and_then(|word| word.parse().ok()).unwrap_or(17),
     }
 }
 
 /// Runs so many generated cases, the real conditions and those agreed on, and gives the number of differences.
 pub fn run(seed: u64, count: usize) -> usize {
-    let (mut differences, mut outcomes) = (0, [0usize; 27]);
+    let (mut differences, mut outcomes) = (0, [0usize; OUTCOMES]);
     let mut note = |input: &Input, due: Option<&str>| {
         let (proved, plain) = input.outcomes();
-        outcomes[outcome(&plain)] += 1;
-        if proved != plain || due.is_some_and(|due| due != plain) {
+        outcomes[outcome(&plain)] += usize::from(due.is_none());
+        if proved != plain || due.is_some_and(|due| !is_due(&plain, due)) {
             differences += 1;
             println!("differs: {}: {proved}, {plain}, {}", input.text(), due.unwrap_or("-"));
         }
@@ -132,7 +142,7 @@ pub fn run(seed: u64, count: usize) -> usize {
         note(input, Some(answer));
     }
     let unseen: Vec<usize> =
-        (0..27).filter(|n| !(17..20).contains(n) && outcomes[*n] == 0).collect();
+        (0..OUTCOMES).filter(|n| !(17..20).contains(n) && outcomes[*n] == 0).collect();
     println!(
         "evaluations: {count} cases, {} real ones and {} agreed on, {differences} differences",
         real.len(),

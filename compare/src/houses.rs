@@ -4,7 +4,7 @@ use crate::proved;
 use second::dictionary::{Dictionary, Relation};
 use second::generate::rng::Rng;
 use second::generate::{data, dictionaries, Size};
-use second::record;
+use second::record::{self, Cause};
 
 /// The places of the entries of kind 1 in a proper dictionary, in order.
 fn relation_places(bytes: &[u8]) -> Vec<usize> {
@@ -120,7 +120,17 @@ fn records(rng: &mut Rng, bytes: &[u8], dictionary: &Dictionary) -> Option<Strin
     missing(bytes, &relations, &starts, &run, split.ok()?)
 }
 
-/// Which fields of proper records are missing, and where each stands.
+/// The number that the exports give to the cause of a missing field; no field is missing by a flag.
+fn number(cause: Option<Cause>) -> u32 {
+    match cause {
+        None => 0,
+        Some(Cause::Bit) => 1,
+        Some(Cause::Reading) => 2,
+        Some(Cause::Flag) => unreachable!("a field without a flag"),
+    }
+}
+
+/// Which fields of proper records are missing and by which cause, and where each stands.
 fn missing(
     bytes: &[u8],
     relations: &[&Relation],
@@ -134,7 +144,7 @@ fn missing(
             let start = *start as usize;
             let one = proved::field(bytes, start, field_place(bytes, start, field), run, at, field);
             let other = (
-                record::is_missing(relation, entry, field),
+                number(record::cause(relation, entry, field)),
                 relation.field_offset(field),
                 relation.entry_length(),
             );

@@ -83,7 +83,7 @@ extern "C" {
         run_length: usize,
         place: usize,
         field: usize,
-    ) -> bool;
+    ) -> u32;
     fn house_offset(bytes: *const u8, length: usize, relation: usize, field: usize) -> usize;
     fn house_length(bytes: *const u8, length: usize, relation: usize) -> usize;
 }
@@ -202,7 +202,8 @@ pub fn records(bytes: &[u8], relations: &[u32], run: &[u8]) -> Option<usize> {
     }
 }
 
-/// Of a field in the record at a place: whether it is missing, its offset, and the length of the record.
+/// Of a field in the record at a place: 0 if it is there, 1 or 2 if it is missing by its bit or as a reading; its offset; and
+/// the length of the record.
 pub fn field(
     bytes: &[u8],
     relation: usize,
@@ -210,7 +211,7 @@ pub fn field(
     run: &[u8],
     place: usize,
     field: usize,
-) -> (bool, usize, usize) {
+) -> (u32, usize, usize) {
     let (pointer, length) = (bytes.as_ptr(), bytes.len());
     unsafe {
         (
@@ -276,7 +277,7 @@ pub fn evaluation(
     }
 }
 
-/// What an evaluation comes out as: an answer, or a refusal with its number and its place.
+/// What an evaluation comes out as: an answer, a missing one with its cause, or a refusal with its number and its place.
 pub fn evaluate(
     request: &[u8],
     dictionary: &[u8],
@@ -288,7 +289,17 @@ pub fn evaluate(
     match given & 0xff {
         0 => "false".to_string(),
         1 => "true".to_string(),
-        2 => "missing".to_string(),
+        2 => format!("missing {}", cause(given >> 8 & 0xff)),
         _ => format!("refused {} {}", given >> 8 & 0xff, given >> 16),
+    }
+}
+
+/// The name of a cause.
+fn cause(number: u64) -> String {
+    match number {
+        1 => "bit".to_string(),
+        2 => "reading".to_string(),
+        3 => "flag".to_string(),
+        other => format!("by {other}"),
     }
 }

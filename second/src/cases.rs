@@ -2,12 +2,14 @@
 //!
 //! `read DICTIONARY REQUEST LENGTHS.. = accepted S P C | rows ; .. | rows ; .. | rows ; ..`,
 //! `evaluate DICTIONARY REQUEST CONDITION MESSAGES RECORDS = true`, or `= refused NUMBER PLACE`.
-//! A table without rows has nothing between its bars.
+//! A table without rows has nothing between its bars. A missing answer stands with its cause:
+//! `= missing bit`, `= missing reading` or `= missing flag`.
 
 use crate::evaluator::{evaluate, Answer};
 use crate::generate::Case;
 use crate::hex;
 use crate::reader;
+use crate::record::Cause;
 use crate::refusal::Refusal;
 
 /// A case and its outcome.
@@ -36,18 +38,28 @@ pub fn outcome(case: &Case) -> String {
         Case::Read { dictionary, request, lengths } => read(dictionary, request, *lengths),
         Case::Evaluate { dictionary, request, condition, messages, records } => {
             let result = evaluate(request, dictionary, *condition, messages, records);
-            result.map(|answer| answer_name(answer).to_string())
+            result.map(|answer| answer_and_cause(answer).to_string())
         }
     };
     result.unwrap_or_else(|refusal| format!("refused {} {}", refusal.number, refusal.place))
 }
 
-/// The name of an answer.
+/// The name of an answer, without its cause.
 pub fn answer_name(answer: Answer) -> &'static str {
     match answer {
         Answer::True => "true",
         Answer::False => "false",
-        Answer::Missing => "missing",
+        Answer::Missing(_) => "missing",
+    }
+}
+
+/// The name of an answer, that of a missing one with its cause.
+pub fn answer_and_cause(answer: Answer) -> &'static str {
+    match answer {
+        Answer::Missing(Cause::Bit) => "missing bit",
+        Answer::Missing(Cause::Reading) => "missing reading",
+        Answer::Missing(Cause::Flag) => "missing flag",
+        Answer::True | Answer::False => answer_name(answer),
     }
 }
 

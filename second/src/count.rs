@@ -12,7 +12,7 @@ use std::fmt::Write;
 pub struct Tally {
     pub reads: usize,
     pub evaluations: usize,
-    /// Outcomes by `accepted`, `true`, `false`, `missing`.
+    /// Outcomes by `accepted`, `true`, `false`, `missing bit`, `missing reading`, `missing flag`.
     pub answers: BTreeMap<String, usize>,
     /// Refusals by number.
     pub refusals: BTreeMap<u32, usize>,
@@ -45,14 +45,15 @@ impl Tally {
         }
     }
 
-    /// Counts an outcome by its first word, a refusal by its number.
+    /// Counts an outcome: a refusal by its number, `accepted` without its rows, an answer as it is.
     fn add_outcome(&mut self, outcome: &str) {
         let mut words = outcome.split(' ');
         let first = words.next().unwrap_or_default();
         let number = words.next().and_then(|word| word.parse().ok());
         match (first, number) {
             ("refused", Some(number)) => *self.refusals.entry(number).or_default() += 1,
-            _ => *self.answers.entry(first.to_string()).or_default() += 1,
+            ("accepted", _) => *self.answers.entry(first.to_string()).or_default() += 1,
+            _ => *self.answers.entry(outcome.to_string()).or_default() += 1,
         }
     }
 

@@ -1,8 +1,8 @@
 //! A second, plain reader and evaluator of BLR requests over a house dictionary.
 //!
-//! It is written from document 01 and request No. 1 of document 02 alone, with vectors and 128-bit
-//! numbers where they make a rule short, so that its results can be compared with those of another
-//! implementation. Places count bytes from the start of the request or of the dictionary.
+//! It is written from document 01 and requests No. 1 and No. 3 of document 02 alone, with vectors
+//! and 128-bit numbers where they make a rule short, so that its results can be compared with those
+//! of another implementation. Places count bytes from the start of the request or of the dictionary.
 
 /// Printing of cases with their outcomes, one a line.
 pub mod cases;
@@ -24,7 +24,7 @@ pub mod hex;
 pub mod listing;
 /// Reading of a request: acceptance with three tables, or a refusal.
 pub mod reader;
-/// Records: kind 3 entries beside a relation of the dictionary.
+/// Records: kind 3 entries beside a relation of the dictionary, and the causes of missing values.
 pub mod record;
 /// The numbers given back, each with a place.
 pub mod refusal;

@@ -66,7 +66,7 @@ impl Between {
     /// The order of the first value and another, if both are there.
     fn order(&self, other: usize) -> Result<Option<Ordering>, u32> {
         Ok(match (self.test(LSS, other)?, self.test(EQL, other)?) {
-            (Answer::Missing, _) => None,
+            (Answer::Missing(_), _) => None,
             (Answer::True, _) => Some(Ordering::Less),
             (_, Answer::True) => Some(Ordering::Equal),
             _ => Some(Ordering::Greater),

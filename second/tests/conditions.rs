@@ -19,8 +19,15 @@ fn conditions_are_reached() {
 fn conditions_have_every_outcome_and_code() {
     let tally = Tally::of(conditions::cases(1, 2000));
     assert_eq!((tally.reads, tally.evaluations), (0, 2000));
-    for answer in ["true", "false", "missing"] {
-        assert!(tally.answers[answer] >= 300, "{answer}: {}", tally.answers[answer]);
+    let least = [
+        ("true", 300),
+        ("false", 300),
+        ("missing bit", 150),
+        ("missing reading", 60),
+        ("missing flag", 150),
+    ];
+    for (answer, least) in least {
+        assert!(tally.answers[answer] >= least, "{answer}: {}", tally.answers[answer]);
     }
     for number in 23..=25 {
         assert!(tally.refusals[&number] >= 100, "refusal {number}");

@@ -4,7 +4,7 @@ mod common;
 
 use common::{bed, beds, entry, field, relation};
 use second::dictionary::Dictionary;
-use second::record;
+use second::record::{self, Cause};
 
 /// The place of the first entry at fault.
 fn fault(entries: &[Vec<u8>]) -> Option<usize> {
@@ -106,13 +106,15 @@ fn a_record_is_an_entry_of_its_relation() {
     let beds = &dictionary.relations[0];
     let good = bed(0, 301, b"N1  ");
     assert!(record::is_proper(beds, &good));
-    assert!(!record::is_missing(beds, &good, 0));
+    assert_eq!(record::cause(beds, &good, 0), None);
     assert_eq!(record::field_bytes(beds, &good, 1), b"N1  ");
     assert!(record::is_proper(beds, &bed(3, 301, b"N1  ")));
     assert!(!record::is_proper(beds, &bed(4, 301, b"N1  ")));
-    assert!(record::is_missing(beds, &bed(1, 301, b"N1  "), 0));
-    assert!(record::is_missing(beds, &bed(0, 65535, b"N1  "), 0));
-    assert!(!record::is_missing(beds, &bed(1, 65535, b"N1  "), 1));
+    assert_eq!(record::cause(beds, &bed(1, 301, b"N1  "), 0), Some(Cause::Bit));
+    assert_eq!(record::cause(beds, &bed(0, 65535, b"N1  "), 0), Some(Cause::Reading));
+    assert_eq!(record::cause(beds, &bed(1, 65535, b"N1  "), 0), Some(Cause::Bit));
+    assert_eq!(record::cause(beds, &bed(1, 65535, b"\xff\xff\xff\xff"), 1), None);
+    assert_eq!(record::cause(beds, &bed(2, 301, b"N1  "), 1), Some(Cause::Bit));
     for (place, byte) in [(0, 12), (0, 14), (1, 1), (2, 2), (3, 1), (4, 2), (5, 1)] {
         let mut wrong = good.clone();
         wrong[place] = byte;

@@ -5,6 +5,10 @@ mod common;
 use common::{bed, beds, entry, field, relation, request};
 use second::evaluator::Answer::{False, Missing, True};
 use second::evaluator::{and, evaluate, not, or, Answer};
+use second::record::Cause;
+
+const BY_BIT: Answer = Missing(Cause::Bit);
+const BY_FLAG: Answer = Missing(Cause::Flag);
 
 /// The outcome as an answer or as number and place.
 fn outcome(
@@ -47,11 +51,11 @@ fn and_or_not_follow_the_table() {
     let table = [
         (True, True, False, True, True),
         (True, False, False, False, True),
-        (True, Missing, False, Missing, True),
+        (True, BY_BIT, False, BY_BIT, True),
         (False, True, True, False, True),
         (False, False, True, False, False),
-        (False, Missing, True, False, Missing),
-        (Missing, Missing, Missing, Missing, Missing),
+        (False, BY_BIT, True, False, BY_BIT),
+        (BY_BIT, BY_BIT, BY_BIT, BY_BIT, BY_BIT),
     ];
     for (left, right, negated, both, either) in table {
         assert_eq!(not(left), negated);
@@ -113,10 +117,10 @@ fn missing_operands_come_before_the_operation() {
     };
     let heat: &[u8] = &[24, 0, 0, 0];
     let zero = short(0, 0);
-    assert_eq!(test(&op(47, &[&op(37, &[heat, &zero]), &zero])), Ok(Missing));
+    assert_eq!(test(&op(47, &[&op(37, &[heat, &zero]), &zero])), Ok(BY_BIT));
     assert_eq!(test(&op(61, &[&op(37, &[heat, &zero])])), Ok(True));
-    assert_eq!(test(&op(56, &[&zero, &zero, heat])), Ok(Missing));
-    assert_eq!(test(&op(59, &[&op(47, &[heat, heat])])), Ok(Missing));
+    assert_eq!(test(&op(56, &[&zero, &zero, heat])), Ok(BY_BIT));
+    assert_eq!(test(&op(59, &[&op(47, &[heat, heat])])), Ok(BY_BIT));
     assert_eq!(test(&op(47, &[heat, &op(37, &[&zero, &zero])])), Err((25, 15)));
     assert_eq!(test(&op(61, &[heat])), Ok(True));
     assert_eq!(test(&op(61, &[&[24, 0, 1, 0]])), Ok(False));
@@ -139,16 +143,16 @@ fn between(values: [Option<i16>; 3]) -> Result<Answer, (u32, usize)> {
 fn between_is_geq_with_the_second_and_leq_with_the_third() {
     let beside = |second, third| [5, 7, 9].map(|first| between([Some(first), second, third]));
     // Document 02: 5 is not between 7 and a limit never set.
-    assert_eq!(beside(Some(7), None), [False, Missing, Missing].map(Ok));
-    assert_eq!(beside(None, Some(7)), [Missing, Missing, False].map(Ok));
-    assert_eq!(beside(None, None), [Missing; 3].map(Ok));
+    assert_eq!(beside(Some(7), None), [False, BY_FLAG, BY_FLAG].map(Ok));
+    assert_eq!(beside(None, Some(7)), [BY_FLAG, BY_FLAG, False].map(Ok));
+    assert_eq!(beside(None, None), [BY_FLAG; 3].map(Ok));
     assert_eq!(beside(Some(7), Some(7)), [False, True, False].map(Ok));
     assert_eq!(beside(Some(7), Some(9)), [False, True, True].map(Ok));
     assert_eq!(beside(Some(5), Some(7)), [True, True, False].map(Ok));
     assert_eq!(beside(Some(9), Some(5)), [False; 3].map(Ok));
     for second in [None, Some(5), Some(9)] {
         for third in [None, Some(5), Some(9)] {
-            assert_eq!(between([None, second, third]), Ok(Missing));
+            assert_eq!(between([None, second, third]), Ok(BY_FLAG));
         }
     }
 }
@@ -176,7 +180,7 @@ fn malformed_texts_are_refused_where_they_are_read() {
     assert_eq!(test(&both, &record(0, b"\x02\0AB?", b"AB\0")), Ok(True));
     assert_eq!(test(&both, &record(0, b"\x04\0AB?", b"AB\0")), Err((23, 11)));
     assert_eq!(test(&both, &record(0, b"\x02\0AB?", b"ABC")), Err((23, 15)));
-    assert_eq!(test(&both, &record(1, b"\x04\0AB?", b"AB\0")), Ok(Missing));
+    assert_eq!(test(&both, &record(1, b"\x04\0AB?", b"AB\0")), Ok(BY_BIT));
     assert_eq!(test(&both, &record(1, b"\x04\0AB?", b"ABC")), Err((23, 15)));
     assert_eq!(test(&op(61, &[&[24, 0, 0, 0]]), &record(0, b"\x04\0AB?", b"AB\0")), Err((23, 11)));
 }

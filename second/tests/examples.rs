@@ -9,6 +9,7 @@ use second::decimal;
 use second::evaluator::{evaluate, Answer};
 use second::listing::listing;
 use second::reader;
+use second::record::Cause;
 use std::cmp::Ordering;
 
 const ROWS: &str = "request 41
@@ -38,8 +39,8 @@ fn heat_is_compared_as_a_reading() {
     assert_eq!(heat(0, 301), Answer::True);
     assert_eq!(heat(0, 300), Answer::False);
     assert_eq!(heat(0, 65534), Answer::True);
-    assert_eq!(heat(0, 65535), Answer::Missing);
-    assert_eq!(heat(1, 301), Answer::Missing);
+    assert_eq!(heat(0, 65535), Answer::Missing(Cause::Reading));
+    assert_eq!(heat(1, 301), Answer::Missing(Cause::Bit));
 }
 
 #[test]

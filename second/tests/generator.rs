@@ -20,8 +20,11 @@ fn reaches_all(tally: &Tally, least: usize) {
         let count = tally.refusals.get(&number).copied().unwrap_or_default();
         assert!(count >= least, "refusal {number} came {count} times");
     }
-    for answer in ["accepted", "true", "false", "missing"] {
+    for answer in ["accepted", "true", "false"] {
         assert!(tally.answers[answer] >= 10, "{answer}");
+    }
+    for answer in ["missing bit", "missing reading", "missing flag"] {
+        assert!(tally.answers[answer] >= 5, "{answer}");
     }
     for focus in foci() {
         assert!(tally.codes.contains_key(&focus), "{focus:?} did not come");

@@ -3,7 +3,8 @@
 mod common;
 
 use common::entry;
-use second::evaluator::{evaluate, Answer};
+use second::cases::answer_name;
+use second::evaluator::evaluate;
 use second::hex;
 use second::listing::listing;
 use std::collections::HashMap;
@@ -80,12 +81,4 @@ fn answers_agree() {
         count += 1;
     }
     assert_eq!(count, 480);
-}
-
-fn answer_name(answer: Answer) -> &'static str {
-    match answer {
-        Answer::True => "true",
-        Answer::False => "false",
-        Answer::Missing => "missing",
-    }
 }

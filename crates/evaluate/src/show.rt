@@ -10,7 +10,7 @@ fn truth(t: Truth) {
     match t {
         Truth::True => text(b"true\n"),
         Truth::False => text(b"false\n"),
-        Truth::Missing => text(b"missing\n"),
+        Truth::Missing(_) => text(b"missing\n"),
     }
 }
 

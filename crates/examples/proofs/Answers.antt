@@ -27,6 +27,8 @@ use Rattle.grammar.specs.Statements
 use Rattle.grammar.specs.Values
 use Rattle.meaning.specs.Data
 use Rattle.meaning.specs.Decoding
+use Rattle.records.specs.declared.missing.Cause.{Cause}
+use Rattle.records.specs.declared.missing.Cause.the-variants as Cause
 use Rattle.meaning.specs.Evaluation
 use Rattle.meaning.specs.House
 use Rattle.meaning.specs.Inputs
@@ -39,7 +41,8 @@ use Rattle.wire.specs.Words
 
 pub data Answer : Type 0 where
   rows : List ℕ → List ℕ → List ℕ → Answer
-  isTrue isFalse isMissing isStray : Answer
+  isTrue isFalse isStray : Answer
+  isMissing : Cause → Answer
   refusal : ℕ → ℕ → Answer
 
 abbrev pub readingAnswer : List ℕ → Read Request → Answer
@@ -51,9 +54,18 @@ readingAnswer d (refused x p) = refusal (number x) p
 abbrev pub truthAnswer : Outcome → Answer
 truthAnswer (answered Truth.True) = isTrue
 truthAnswer (answered Truth.False) = isFalse
-truthAnswer (answered Truth.Missing) = isMissing
+truthAnswer (answered (Truth.Missing w)) = isMissing w
 truthAnswer (Evaluation.refusal x p) = refusal (number x) p
 truthAnswer strayed = isStray
+
+-- an answer of which no cause is told
+abbrev pub anyCause : Answer → Answer
+anyCause (rows s p c) = rows s p c
+anyCause isTrue = isTrue
+anyCause isFalse = isFalse
+anyCause isStray = isStray
+anyCause (isMissing w) = isMissing Cause.Bit
+anyCause (refusal n p) = refusal n p
 
 -- every definition of a file: to unfold one of these is to unfold them all, so that an answer computes
 unfoldable pub openNumber : Unit {0}
@@ -85,7 +97,7 @@ unfolding Record.packed Record.offsetOf Record.recordLength Record.bitAt Record.
 openRecord = tt
 
 unfoldable pub openRecord2 : Unit {0}
-unfolding Record.fieldMissing
+unfolding Record.fieldPresence
 openRecord2 = tt
 
 unfoldable pub openBytes : Unit {0}

@@ -3,6 +3,7 @@ use Prim.Native.Nat.{ℕ}
 use mathlib.Core.Path.{_≡_, refl}
 use mathlib.Core.List.{List, [], _∷_, map}
 use lib.ListN.{set}
+use Rattle.records.specs.declared.missing.Cause.the-variants as Cause
 use Rattle.examples.proofs.Answers.{Answer, rows, isTrue, isFalse, isMissing, refusal, readAnswer, evaluateAnswer}
 
 -- 01: "Request S, 41 bytes in hex"
@@ -44,7 +45,7 @@ expected =
     -- "Byte 0 to 5: 5 at 0. Byte 18 to 1: 11 at 18. Byte 19 to 1: 13 at 16; to 2: 12 at 19. Byte 36 to 5: 9 at 36. Byte 37 to 1: 10 at 37."
     ∷ refusal 5 0 ∷ refusal 11 18 ∷ refusal 13 16 ∷ refusal 12 19 ∷ refusal 9 36 ∷ refusal 10 37
     -- "P: HEAT 301 true, 300 false, 65534 true, 65535 missing, 301 with its bit set missing."
-    ∷ isTrue ∷ isFalse ∷ isTrue ∷ isMissing ∷ isMissing ∷ []
+    ∷ isTrue ∷ isFalse ∷ isTrue ∷ isMissing Cause.Reading ∷ isMissing Cause.Bit ∷ []
 
 -- the examples by reading and evaluation
 pub computed : List Answer

@@ -14,12 +14,14 @@ use Rattle.grammar.specs.declared.Refusal.the-variants as Refusal
 use Rattle.grammar.specs.declared.Reading.{Reading}
 use Rattle.grammar.specs.declared.Reading.the-variants.{Accepted, Refused}
 use Rattle.grammar.proofs.StepLaws.{absurd-eq}
+use Rattle.records.specs.declared.missing.Cause.{Cause}
+use Rattle.records.specs.declared.missing.Cause.the-variants as Cause
 use Rattle.meaning.specs.declared.Truth.{Truth}
 use Rattle.meaning.specs.declared.Evaluation.{Evaluation}
 use Rattle.meaning.specs.declared.Evaluation.the-variants as Evaluation
 use Rattle.meaning.specs.Evaluation.{evaluation}
 use Rattle.meaning.specs.Evaluated.{outcomeOf, Evaluated}
-use Rattle.exports.specs.Exports.{numberGiven, numbersGiven, truthGiven, refusalGiven, outcomeGiven}
+use Rattle.exports.specs.Exports.{numberGiven, numbersGiven, causeGiven, truthGiven, refusalGiven, outcomeGiven}
 
 pub accepted-given : (x : Read Request) (n m k : ℕ) → Accepted n m k ≡ readingOf x → (0 ≡ numberGiven x) × (n ∷ m ∷ k ∷ [] ≡ numbersGiven x)
 accepted-given (read r c) n m k e =
@@ -43,6 +45,12 @@ three-set (x ∷ []) a b c h = absurd (omega arith)
 three-set (x ∷ y ∷ []) a b c h = absurd (omega arith)
 three-set (x ∷ y ∷ z ∷ []) a b c h = refl
 three-set (x ∷ y ∷ z ∷ w ∷ l) a b c h = absurd (omega arith)
+
+-- no number of a cause is above 3
+pub cause-few : (w : Cause) → causeGiven w ≤ 3
+cause-few Cause.Bit = omega arith
+cause-few Cause.Reading = omega arith
+cause-few Cause.Flag = omega arith
 
 -- no number is above 25
 pub number-few : (x : Refusal) → number x ≤ 25

@@ -9,6 +9,8 @@ use Rattle.grammar.specs.Tree.{Request}
 use Rattle.grammar.specs.Sizes.{statementsCount, parameterCount, contextsCount}
 use Rattle.grammar.specs.Reader.{Read, read, refused}
 use Rattle.grammar.specs.Reading.{answer, statementTable, parameterTable, contextTable}
+use Rattle.records.specs.declared.missing.Cause.{Cause}
+use Rattle.records.specs.declared.missing.Cause.the-variants.{Bit, Reading, Flag}
 use Rattle.meaning.specs.declared.Truth.{Truth}
 use Rattle.meaning.specs.declared.Truth.the-variants.{True, False, Missing}
 use Rattle.meaning.specs.Evaluation.{Outcome, answered, refusal, strayed}
@@ -34,11 +36,17 @@ pub record Given (s d st pa ct st′ pa′ ct′ an′ : List ℕ) (r : ℕ) : T
 
 -- ---- evaluation: one number of 64 bits
 
--- the lowest byte: false, true, missing
+-- the number of a cause; 02's No. 9 has a fourth
+abbrev pub causeGiven : Cause → ℕ
+causeGiven Bit = 1
+causeGiven Reading = 2
+causeGiven Flag = 3
+
+-- the lowest byte: false, true, missing; the cause of missing in the next
 abbrev pub truthGiven : Truth → ℕ
 truthGiven False = 0
 truthGiven True = 1
-truthGiven Missing = 2
+truthGiven (Missing w) = 2 + 256 * causeGiven w
 
 -- or 3 for a refusal; then its number in the next byte, and its place in the 48 bits above, which are full for a greater one
 abbrev pub refusalGiven : Refusal → ℕ → ℕ

@@ -2,12 +2,13 @@
 ghost use mathlib.Core.Path.{_≡_};
 ghost use Prim.Native.Nat.{min};
 ghost use Rattle.meaning.specs.Evaluation.{evaluation};
-ghost use Rattle.exports.specs.Exports.{Given, truthGiven, refusalGiven, outcomeGiven};
+ghost use Rattle.exports.specs.Exports.{Given, causeGiven, truthGiven, refusalGiven, outcomeGiven};
 use grammar::Reading;
 use grammar::Refusal;
 use grammar::number_of;
 use meaning::Evaluation;
 use meaning::Truth;
+use records::missing::Cause;
 
 // Reads a request: 0 and the counts of rows, or the number of the refusal and its place.
 #[no_mangle]
@@ -33,14 +34,25 @@ pub extern "C" fn blr_read(
     }
 }
 
-// A truth value as a number.
+// A cause as a number.
+fn cause_number(cause: Cause) -> u64
+    ensures { λ r. ⌜ r ≡ causeGiven cause ⌝ }
+{
+    match cause {
+        Cause::Bit => 1,
+        Cause::Reading => 2,
+        Cause::Flag => 3,
+    }
+}
+
+// A truth value as a number; of missing, with the cause.
 fn truth_number(truth: Truth) -> u64
     ensures { λ r. ⌜ r ≡ truthGiven truth ⌝ }
 {
     match truth {
         Truth::False => 0,
         Truth::True => 1,
-        Truth::Missing => 2,
+        Truth::Missing(w) => 2 + 256 * cause_number(w),
     }
 }
 

@@ -18,7 +18,9 @@ use Rattle.dictionary.specs.declared.lookup.Place.the-variants as Place
 use Rattle.dictionary.specs.declared.field.Index.the-variants as Index
 use Rattle.dictionary.specs.Answers.{placeAnswer}
 use Rattle.dictionary.specs.FieldAnswers.{indexAnswer}
-use Rattle.records.specs.Record.{bitAt, readingMissing, fieldPlace, fieldMissing}
+use Rattle.records.specs.declared.missing.Cause.{Cause}
+use Rattle.records.specs.declared.missing.Presence.the-variants.{There, Missing}
+use Rattle.records.specs.Record.{bitAt, readingMissing, fieldPlace, presenceOf, fieldPresence}
 use Rattle.meaning.specs.Data.{absent}
 use Rattle.meaning.specs.Inputs.{Fetched, value, nothing, onFound, kindHeld, valueAt, fieldIn}
 use Rattle.surroundings.specs.Slots.{Slot}
@@ -70,21 +72,21 @@ module _ (d : List ℕ) (r : ℕ) (s : List ℕ) (p i : ℕ) where
   -- its entry stands at q, its format is f, and its bytes stand at z
   module _ (q : ℕ) (e : getElem? (fieldsOf d r) i ≡ some q) (f : Format) (g : f ≡ entryField d q .format)
       (z : ℕ) (c : z ≡ clamped s (fieldPlace (relationAt d r) p i)) where
-    missing-is : (bitAt s p i || readingMissing (f .type) (wordAt s z)) ≡ fieldMissing (relationAt d r) (entryField d q .format) s p i
-    unfolding fieldMissing
-    missing-is =
-        ap₂ (λ (x : Format) (w : ℕ). bitAt s p i || readingMissing (x .type) w) g
+    presence-is : presenceOf (bitAt s p i) (readingMissing (f .type) (wordAt s z)) ≡ fieldPresence (relationAt d r) (entryField d q .format) s p i
+    unfolding fieldPresence
+    presence-is =
+        ap₂ (λ (x : Format) (w : ℕ). presenceOf (bitAt s p i) (readingMissing (x .type) w)) g
         (ap (wordAt s) c ∙ word-clamped s (fieldPlace (relationAt d r) p i))
 
-    pub field-missing : true ≡ (bitAt s p i || readingMissing (f .type) (wordAt s z)) →
-        value (absent (kindHeld f)) ≡ fieldIn (relationAt d r) s p i
+    pub field-missing : (w : Cause) → Missing w ≡ presenceOf (bitAt s p i) (readingMissing (f .type) (wordAt s z)) →
+        value (absent (kindHeld f) w) ≡ fieldIn (relationAt d r) s p i
     unfolding fieldIn
-    field-missing m = let b = m ∙ missing-is in rw (format-at d r i (some q) e, ← b, g)
+    field-missing w m = let b = m ∙ presence-is in rw (format-at d r i (some q) e, ← b, g)
 
-    pub field-there : false ≡ (bitAt s p i || readingMissing (f .type) (wordAt s z)) → valueAt f s z ≡ fieldIn (relationAt d r) s p i
+    pub field-there : There ≡ presenceOf (bitAt s p i) (readingMissing (f .type) (wordAt s z)) → valueAt f s z ≡ fieldIn (relationAt d r) s p i
     unfolding fieldIn
     field-there m =
-        let b = m ∙ missing-is in
+        let b = m ∙ presence-is in
         rw (format-at d r i (some q) e, ← b, g, c) (value-clamped (entryField d q .format) s (fieldPlace (relationAt d r) p i))
 
 -- ---- a field by its name, and by its id

@@ -1,10 +1,9 @@
 // The fields of records.
 ghost use mathlib.Core.Path.{_≡_};
-ghost use mathlib.Core.Bool.{_||_};
 ghost use Rattle.wire.specs.Words.{wordAt};
 ghost use Rattle.dictionary.specs.Names.{named, numbered};
 ghost use Rattle.dictionary.specs.Walk.{relationAt};
-ghost use Rattle.records.specs.Record.{bitAt, readingMissing, fieldPlace};
+ghost use Rattle.records.specs.Record.{bitAt, readingMissing, fieldPlace, presenceOf};
 ghost use Rattle.meaning.specs.Inputs.{fieldIn};
 ghost use Rattle.surroundings.specs.Around.{slotField, slotValue};
 ghost use Rattle.inputs.specs.Answers.{Gives, clamped, slotsLent};
@@ -18,6 +17,9 @@ use dictionary::field::field_named;
 use dictionary::lookup::Place;
 use records::lengths::Length;
 use records::lengths::offset_within;
+use records::missing::Cause;
+use records::missing::Presence;
+use records::missing::by_reading;
 use records::missing::missing_bit;
 use surroundings::Found;
 use surroundings::scope::slot_of;
@@ -41,16 +43,17 @@ fn field_place(d: &[u8], relation: usize, s: &[u8], p: usize, i: usize) -> usize
     }
 }
 
-// "A field is missing if its bit is set, or if it is a reading of 65535." Field i has its bytes at a place, in the record at p.
-fn is_missing(t: FieldType, s: &[u8], p: usize, i: usize, at: usize) -> bool
-    ensures { λ r. ⌜ r ≡ (bitAt (now (s .entry)) p i || readingMissing t (wordAt (now (s .entry)) at)) ⌝ }
+// "A field is missing if its bit is set, or if it is a reading of 65535."; "bit before reading where both hold". Field i has its bytes at
+// a place, in the record at p.
+fn presence(t: FieldType, s: &[u8], p: usize, i: usize, at: usize) -> Presence
+    ensures { λ r. ⌜ r ≡ presenceOf (bitAt (now (s .entry)) p i) (readingMissing t (wordAt (now (s .entry)) at)) ⌝ }
 {
     if missing_bit(s, p, i) {
-        return true;
+        return Presence::Missing(Cause::Bit);
     }
     match t {
-        FieldType::Plain(_) => false,
-        FieldType::Reading => word_at(s, at) == 65535,
+        FieldType::Plain(_) => Presence::There,
+        FieldType::Reading => by_reading(word_at(s, at) == 65535),
     }
 }
 
@@ -64,10 +67,10 @@ fn field_in(d: &[u8], relation: usize, s: &[u8], p: usize, i: usize) -> Fetched
             let x = described(d, q);
             let t = x.data_type;
             let at = field_place(d, relation, s, p, i);
-            if is_missing(t, s, p, i, at) {
-                return Fetched::Value(Value::Missing(kind_held(x)));
+            match presence(t, s, p, i, at) {
+                Presence::Missing(w) => Fetched::Value(Value::Missing(kind_held(x), w)),
+                Presence::There => value_at(x, Source::Records, s, at),
             }
-            value_at(x, Source::Records, s, at)
         }
         Place::Unknown => Fetched::Nothing,
     }

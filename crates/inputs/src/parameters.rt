@@ -12,6 +12,7 @@ use crate::Fetched;
 use crate::stored::kind_held;
 use crate::stored::value_at;
 use dictionary::field::Description;
+use records::missing::Cause;
 use surroundings::Parameter;
 use surroundings::images::parameter_of;
 use values::Source;
@@ -51,7 +52,7 @@ fn flag_in(v: Value) -> Flag
         Value::Number(a) => { if a.value == 0 { Flag::Zero } else { Flag::Set } }
         Value::Text(_) => Flag::Nothing,
         Value::Date(_) => Flag::Nothing,
-        Value::Missing(_) => Flag::Nothing,
+        Value::Missing(_, _) => Flag::Nothing,
     }
 }
 
@@ -72,7 +73,7 @@ fn unless_set(flag: Flag, x: Description, images: &[u8], p: usize) -> Fetched
 {
     match flag {
         Flag::Zero => value_at(x, Source::Images, images, p),
-        Flag::Set => Fetched::Value(Value::Missing(kind_held(x))),
+        Flag::Set => Fetched::Value(Value::Missing(kind_held(x), Cause::Flag)),
         Flag::Nothing => Fetched::Nothing,
     }
 }

@@ -23,6 +23,9 @@ use Rattle.dictionary.specs.declared.lookup.Place.{Place}
 use Rattle.dictionary.specs.declared.lookup.Place.the-variants.{At, Unknown}
 use Rattle.records.specs.declared.lengths.Length.{Length}
 use Rattle.records.specs.declared.lengths.Length.the-variants as Length
+use Rattle.records.specs.declared.missing.Cause.the-variants as Cause
+use Rattle.records.specs.declared.missing.Presence.{Presence}
+use Rattle.records.specs.declared.missing.Presence.the-variants.{There, Missing}
 use Rattle.records.specs.declared.proper.RunAnswer.{RunAnswer}
 use Rattle.records.specs.declared.proper.RunAnswer.the-variants.{AsDue, WrongAt}
 use Rattle.text.specs.declared.Part.{Part}
@@ -100,6 +103,12 @@ isDue (WrongAt p) = false
 abbrev pub wrongOf : RunAnswer → ℕ
 wrongOf AsDue = 0
 wrongOf (WrongAt p) = p
+
+abbrev pub presenceGiven : Presence → ℕ
+presenceGiven There = 0
+presenceGiven (Missing Cause.Bit) = 1
+presenceGiven (Missing Cause.Reading) = 2
+presenceGiven (Missing Cause.Flag) = 3
 
 abbrev pub lengthOf : Length → ℕ
 lengthOf (Length.Is n) = n

@@ -6,13 +6,15 @@ ghost use Rattle.dictionary.specs.Dictionary.{dictionary as checked};
 ghost use Rattle.dictionary.specs.Names.{named, numbered};
 ghost use Rattle.dictionary.specs.Walk.{relationPlace, relationAt, entryField};
 ghost use Rattle.dictionary.specs.Answers.{answerOf, placeAnswer};
-ghost use Rattle.records.specs.Record.{offsetOf, recordLength, fieldMissing};
+ghost use Rattle.records.specs.Record.{offsetOf, recordLength, fieldPresence};
 ghost use Rattle.records.specs.Record.{records as recordRun};
 ghost use Rattle.records.specs.Answers.{lengthAnswer, runAnswer};
-ghost use Rattle.leaf_exports.specs.Exports.{isProper, faultOf, placeOr, isDue, wrongOf, lengthOf};
+ghost use Rattle.leaf_exports.specs.Exports.{isProper, faultOf, placeOr, isDue, wrongOf, presenceGiven, lengthOf};
 use dictionary::check::Answer;
 use dictionary::lookup::Place;
 use records::lengths::Length;
+use records::missing::Cause;
+use records::missing::Presence;
 use records::proper::RunAnswer;
 
 #[no_mangle]
@@ -85,6 +87,20 @@ pub extern "C" fn house_records_wrong(d: &[u8], relations: &[u32], s: &[u8]) -> 
     }
 }
 
+fn presence_number(p: Presence) -> u32
+    ensures { λ r. ⌜ r ≡ presenceGiven p ⌝ }
+{
+    match p {
+        Presence::There => 0,
+        Presence::Missing(w) => match w {
+            Cause::Bit => 1,
+            Cause::Reading => 2,
+            Cause::Flag => 3,
+        },
+    }
+}
+
+// 0 of a field that is there, and otherwise the number of the cause.
 #[no_mangle]
 pub extern "C" fn house_missing(
     d: &[u8],
@@ -93,10 +109,10 @@ pub extern "C" fn house_missing(
     s: &[u8],
     p: usize,
     i: usize,
-) -> bool
-    ensures { λ r. ⌜ r ≡ fieldMissing (relationAt (now (d .entry)) relation) ((entryField (now (d .entry)) entry) .format) (now (s .entry)) p i ⌝ }
+) -> u32
+    ensures { λ r. ⌜ r ≡ presenceGiven (fieldPresence (relationAt (now (d .entry)) relation) ((entryField (now (d .entry)) entry) .format) (now (s .entry)) p i) ⌝ }
 {
-    records::missing::field_missing(d, relation, entry, s, p, i)
+    presence_number(records::missing::field_presence(d, relation, entry, s, p, i))
 }
 
 fn length_of(n: Length) -> usize

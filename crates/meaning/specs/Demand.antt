@@ -107,7 +107,8 @@ pub record AsMeant (s d : List ℕ) (n : ℕ) (images rows : List ℕ) (r : Eval
   pub meant : outcomeOf r ≡ outcome (meaning s d n images rows)
   pub not-stray : NotStray (meaning s d n images rows)
 
--- "Two sets of records that differ only inside fields missing in both get the same answer."
+-- "Two sets of records that differ only inside fields missing in both get the same answer."; 02, No. 3: "now covers the cause too": an
+-- answer that is missing holds its cause
 pub record SameAnswer (s d : List ℕ) (n : ℕ) (images rows rows′ : List ℕ) (r r′ : Evaluation) : Type 0 where
   pub same-meaning : meaning s d n images rows ≡ meaning s d n images rows′
   pub same-answer : r ≡ r′

@@ -20,7 +20,10 @@ use Rattle.text.specs.Value.{textPart, partOf, kept}
 use Rattle.dictionary.specs.Format.{Format, textBytes}
 use Rattle.dictionary.specs.Dictionary.{Relation}
 use Rattle.dictionary.specs.Names.{Name, fieldOf, formatOf}
-use Rattle.records.specs.Record.{recordLength, fieldPlace, fieldMissing}
+use Rattle.records.specs.declared.missing.Cause.the-variants as Cause
+use Rattle.records.specs.declared.missing.Presence.{Presence}
+use Rattle.records.specs.declared.missing.Presence.the-variants.{There, Missing}
+use Rattle.records.specs.Record.{recordLength, fieldPlace, fieldPresence}
 use Rattle.grammar.specs.Tree.{Descriptor, Message, Literal, Reference, field, parameter, parameter2}
 use Rattle.grammar.specs.Names.{Context, Scope, descriptorFormat}
 use Rattle.grammar.specs.Sizes.{descriptorsSize, messageSize}
@@ -72,9 +75,9 @@ unfoldable pub kindHeld : Format → Kind
 kindHeld f = typeKind (f .type)
 
 -- 01: "The value of a missing field or parameter2 isn't read."
-abbrev pub unlessMissing : Bool → Format → List ℕ → ℕ → Fetched
-unlessMissing true f s p = value (absent (kindHeld f))
-unlessMissing false f s p = valueAt f s p
+abbrev pub unlessMissing : Presence → Format → List ℕ → ℕ → Fetched
+unlessMissing (Missing w) f s p = value (absent (kindHeld f) w)
+unlessMissing There f s p = valueAt f s p
 
 abbrev pub numeral : Width → ℕ → ℤ
 numeral Short n = signed 2 n
@@ -97,7 +100,7 @@ recordPlace xs k = sumOf (λ x. lengthOf (x .relation)) (take k xs)
 
 -- field i of a relation, in the record at p
 unfoldable pub fieldIn : Relation → List ℕ → ℕ → ℕ → Fetched
-fieldIn r s p i = onFound (formatOf r i) (λ f. unlessMissing (fieldMissing r f s p i) f s (fieldPlace r p i))
+fieldIn r s p i = onFound (formatOf r i) (λ f. unlessMissing (fieldPresence r f s p i) f s (fieldPlace r p i))
 
 -- the field that a name says, of a context's relation if that is known
 abbrev pub fieldNamed : Option Relation → Name → List ℕ → ℕ → Fetched
@@ -135,13 +138,14 @@ abbrev pub flagged : Fetched → (Bool → Fetched) → Fetched
 flagged (value (number a)) f = f (isZero (a .value))
 flagged (value (text t)) f = nothing
 flagged (value (date d g)) f = nothing
-flagged (value (absent k)) f = nothing
+flagged (value (absent k w)) f = nothing
 flagged malformed f = nothing
 flagged nothing f = nothing
 
+-- the flag is zero, or is the cause
 abbrev pub unlessFlagged : Format → List ℕ → ℕ → Bool → Fetched
 unlessFlagged f s p true = valueAt f s p
-unlessFlagged f s p false = value (absent (kindHeld f))
+unlessFlagged f s p false = value (absent (kindHeld f) Cause.Flag)
 
 -- ---- what a reference names
 

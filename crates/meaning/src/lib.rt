@@ -1,11 +1,12 @@
 // The meaning of a condition: the types that its definitions and the evaluator share.
 use grammar::Refusal;
+use records::missing::Cause;
 
-// What a condition comes out as.
+// What a condition comes out as; missing, with the cause.
 pub enum Truth {
     True,
     False,
-    Missing,
+    Missing(Cause),
 }
 
 // The kind of a value.

@@ -6,6 +6,7 @@ use Rattle.wire.specs.declared.codes.Comparison.{Comparison}
 use Rattle.wire.specs.declared.codes.TextSearch.{TextSearch}
 use Rattle.wire.specs.declared.codes.Connective.the-variants.{And}
 use Rattle.decimal.specs.declared.Computed.{Computed}
+use Rattle.records.specs.declared.missing.Cause.{Cause}
 use Rattle.meaning.specs.declared.Truth.{Truth}
 use Rattle.meaning.specs.declared.Kind.{Kind}
 use Rattle.meaning.specs.Data.{Result, is, stray, _>>=_, absent, result, lacking, arithmeticPair, arithmeticOf, negateOf}
@@ -39,8 +40,8 @@ BothComparisons a b r = outcome r ≡ bothOf (outcome a) (outcome b)
 abbrev pub BetweenOf : Lent → Value → Value → Value → Outcome → Type 0
 BetweenOf m x y z r = outcome r ≡ betweenOf (datum m x) (datum m y) (datum m z)
 
-abbrev pub MissingText : Kind → Outcome → Type 0
-MissingText k r = (t : TextSearch) → outcome r ≡ searchPair t (lacking k)
+abbrev pub MissingText : Kind → Cause → Outcome → Type 0
+MissingText k w r = (t : TextSearch) → outcome r ≡ searchPair t (lacking k w)
 
 abbrev pub SearchedOf : Lent → TextSearch → Value → Value → Outcome → Type 0
 SearchedOf m t x y r = outcome r ≡ searchOf t (datum m x) (datum m y)
@@ -53,10 +54,10 @@ MissingOf x r = (m : Lent) → r ≡ missingOf (datum m x)
 abbrev pub Given : Computed → ℕ → Position → Valued → Type 0
 Given a place end r = (m : Lent) → valued m r ≡ ended (result place a) (end .at)
 
--- a missing operand of arithmetic or negation, by its kind
-pub record MissingNumber (k : Kind) (end : Position) (r : Valued) : Type 0 where
-  pub operand : (m : Lent) (o : Operator) (p : ℕ) → valued m r ≡ ended (arithmeticPair o p (lacking k)) (end .at)
-  pub negated : (m : Lent) (p : ℕ) → valued m r ≡ ended (negateOf p (absent k)) (end .at)
+-- a missing operand of arithmetic or negation, by its kind and cause
+pub record MissingNumber (k : Kind) (w : Cause) (end : Position) (r : Valued) : Type 0 where
+  pub operand : (m : Lent) (o : Operator) (p : ℕ) → valued m r ≡ ended (arithmeticPair o p (lacking k w)) (end .at)
+  pub negated : (m : Lent) (p : ℕ) → valued m r ≡ ended (negateOf p (absent k w)) (end .at)
 
 abbrev pub CalculatedOf : Operator → Value → Value → ℕ → Position → Valued → Type 0
 CalculatedOf o x y place end r = (m : Lent) → valued m r ≡ ended (arithmeticOf o place (datum m x) (datum m y)) (end .at)

@@ -12,7 +12,7 @@ abbrev pub pairIn : Lent → Pair → Data.Pair
 pairIn m (Pair.Numbers a b) = Data.numbers a b
 pairIn m (Pair.Texts h k) = Data.texts (textIn m h) (textIn m k)
 pairIn m (Pair.Dates d e) = Data.dates (d .day) (d .fraction) (e .day) (e .fraction)
-pairIn m (Pair.Lacking k) = Data.lacking k
+pairIn m (Pair.Lacking k w) = Data.lacking k w
 pairIn m Pair.Unfit = Data.unfit
 
 abbrev pub OfKind : Value → Kind → Type 0

@@ -42,7 +42,7 @@ abbrev pub datum : Lent → Value → Datum
 datum m (Value.Number a) = number a
 datum m (Value.Text h) = text (textIn m h)
 datum m (Value.Date d) = date (d .day) (d .fraction)
-datum m (Value.Missing k) = absent k
+datum m (Value.Missing k w) = absent k w
 
 abbrev pub valued : Lent → Valued → Walked Datum
 valued m (Valued.Is v e) = at (datum m v) (e .at)

@@ -11,6 +11,7 @@ use crate::pairs::paired;
 use decimal::Computed;
 use meaning::Fault;
 use meaning::Kind;
+use records::missing::Cause;
 use wire::codes::Operator;
 
 // What a computation gives; a refusal is at the operator's place.
@@ -25,11 +26,11 @@ fn given(a: Computed, place: usize, end: Position) -> Valued
 }
 
 // A missing operand, which must be a number.
-fn missing_number(k: Kind, end: Position) -> Valued
-    ensures { λ r. ⌜ MissingNumber k end r ⌝ }
+fn missing_number(k: Kind, w: Cause, end: Position) -> Valued
+    ensures { λ r. ⌜ MissingNumber k w end r ⌝ }
 {
     match k {
-        Kind::Number => Valued::Is(Value::Missing(Kind::Number), end),
+        Kind::Number => Valued::Is(Value::Missing(Kind::Number, w), end),
         Kind::Text => Valued::Stray,
         Kind::Date => Valued::Stray,
     }
@@ -42,7 +43,7 @@ fn arithmetic_of(o: Operator, x: Value, y: Value, place: usize, end: Position) -
         Pair::Numbers(n, k) => given(decimal::compute(o, n, k), place, end),
         Pair::Texts(_, _) => Valued::Stray,
         Pair::Dates(_, _) => Valued::Stray,
-        Pair::Lacking(k) => missing_number(k, end),
+        Pair::Lacking(k, w) => missing_number(k, w, end),
         Pair::Unfit => Valued::Stray,
     }
 }
@@ -65,7 +66,7 @@ fn negation_of(x: Value, place: usize, end: Position) -> Valued
         Value::Number(n) => given(decimal::negate(n), place, end),
         Value::Text(_) => Valued::Stray,
         Value::Date(_) => Valued::Stray,
-        Value::Missing(k) => missing_number(k, end),
+        Value::Missing(k, w) => missing_number(k, w, end),
     }
 }
 

@@ -37,7 +37,7 @@ pub(crate) fn comparison_of<'a>(
             Outcome::Is(truth_of(holds(c, text::order::compare(first, second))))
         }
         Pair::Dates(n, k) => Outcome::Is(truth_of(holds(c, date_order(n, k)))),
-        Pair::Lacking(_) => Outcome::Is(Truth::Missing),
+        Pair::Lacking(_, w) => Outcome::Is(Truth::Missing(w)),
         Pair::Unfit => Outcome::Stray,
     }
 }

@@ -3,6 +3,7 @@ use decimal::Number;
 use meaning::Fault;
 use meaning::Kind;
 use meaning::Truth;
+use records::missing::Cause;
 use wire::codes::TextType;
 
 pub mod arithmetic;
@@ -38,12 +39,12 @@ pub struct Date {
     pub fraction: u32,
 }
 
-// A value: there, or missing, with its kind all the same.
+// A value: there, or missing, with its kind all the same and the cause.
 pub enum Value {
     Number(Number),
     Text(Held),
     Date(Date),
-    Missing(Kind),
+    Missing(Kind, Cause),
 }
 
 // The place after what was worked out.

@@ -18,10 +18,10 @@ fn both(a: Truth, b: Truth) -> Truth
     match a {
         Truth::True => b,
         Truth::False => Truth::False,
-        Truth::Missing => match b {
-            Truth::True => Truth::Missing,
+        Truth::Missing(w) => match b {
+            Truth::True => Truth::Missing(w),
             Truth::False => Truth::False,
-            Truth::Missing => Truth::Missing,
+            Truth::Missing(v) => Truth::Missing(w),
         },
     }
 }
@@ -32,10 +32,10 @@ fn either(a: Truth, b: Truth) -> Truth
     match a {
         Truth::True => Truth::True,
         Truth::False => b,
-        Truth::Missing => match b {
+        Truth::Missing(w) => match b {
             Truth::True => Truth::True,
-            Truth::False => Truth::Missing,
-            Truth::Missing => Truth::Missing,
+            Truth::False => Truth::Missing(w),
+            Truth::Missing(_) => Truth::Missing(w),
         },
     }
 }

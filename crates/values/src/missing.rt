@@ -13,7 +13,7 @@ fn missing_of(x: Value) -> Truth
         Value::Number(_) => Truth::False,
         Value::Text(_) => Truth::False,
         Value::Date(_) => Truth::False,
-        Value::Missing(_) => Truth::True,
+        Value::Missing(_, _) => Truth::True,
     }
 }
 

@@ -11,7 +11,7 @@ fn reversed(a: Truth) -> Truth
     match a {
         Truth::True => Truth::False,
         Truth::False => Truth::True,
-        Truth::Missing => Truth::Missing,
+        Truth::Missing(w) => Truth::Missing(w),
     }
 }
 

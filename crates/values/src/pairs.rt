@@ -1,4 +1,4 @@
-// Two values of one kind, or that one is missing, or that the kinds don't fit.
+// Two values of one kind, or that one is missing, with the cause of the first that is, or that the kinds don't fit.
 ghost use mathlib.Core.Path.{_≡_};
 ghost use Rattle.meaning.specs.Data.{sameKind};
 ghost use Rattle.values.specs.Pairs.{OfKind, OfOneKind, Paired};
@@ -7,12 +7,13 @@ use crate::Held;
 use crate::Value;
 use decimal::Number;
 use meaning::Kind;
+use records::missing::Cause;
 
 pub(crate) enum Pair {
     Numbers(Number, Number),
     Texts(Held, Held),
     Dates(Date, Date),
-    Lacking(Kind),
+    Lacking(Kind, Cause),
     Unfit,
 }
 
@@ -23,7 +24,7 @@ fn kind_of(a: Value) -> Kind
         Value::Number(_) => Kind::Number,
         Value::Text(_) => Kind::Text,
         Value::Date(_) => Kind::Date,
-        Value::Missing(k) => k,
+        Value::Missing(k, _) => k,
     }
 }
 
@@ -58,21 +59,21 @@ fn of_one_kind(a: Value, b: Value) -> Pair
             Value::Number(y) => Pair::Numbers(x, y),
             Value::Text(_) => Pair::Unfit,
             Value::Date(_) => Pair::Unfit,
-            Value::Missing(k) => Pair::Lacking(k),
+            Value::Missing(k, w) => Pair::Lacking(k, w),
         },
         Value::Text(x) => match b {
             Value::Number(_) => Pair::Unfit,
             Value::Text(y) => Pair::Texts(x, y),
             Value::Date(_) => Pair::Unfit,
-            Value::Missing(k) => Pair::Lacking(k),
+            Value::Missing(k, w) => Pair::Lacking(k, w),
         },
         Value::Date(x) => match b {
             Value::Number(_) => Pair::Unfit,
             Value::Text(_) => Pair::Unfit,
             Value::Date(y) => Pair::Dates(x, y),
-            Value::Missing(k) => Pair::Lacking(k),
+            Value::Missing(k, w) => Pair::Lacking(k, w),
         },
-        Value::Missing(k) => Pair::Lacking(k),
+        Value::Missing(k, w) => Pair::Lacking(k, w),
     }
 }
 

@@ -15,15 +15,16 @@ use crate::pairs::paired;
 use crate::texts::text_operand;
 use meaning::Kind;
 use meaning::Truth;
+use records::missing::Cause;
 use wire::codes::TextSearch;
 
 // A missing operand of a search, which must be a text.
-fn missing_text(k: Kind) -> Outcome
-    ensures { λ r. ⌜ MissingText k r ⌝ }
+fn missing_text(k: Kind, w: Cause) -> Outcome
+    ensures { λ r. ⌜ MissingText k w r ⌝ }
 {
     match k {
         Kind::Number => Outcome::Stray,
-        Kind::Text => Outcome::Is(Truth::Missing),
+        Kind::Text => Outcome::Is(Truth::Missing(w)),
         Kind::Date => Outcome::Stray,
     }
 }
@@ -46,7 +47,7 @@ fn text_search_of<'a>(
             Outcome::Is(truth_of(text::search::searched(t, first, second)))
         }
         Pair::Dates(_, _) => Outcome::Stray,
-        Pair::Lacking(k) => missing_text(k),
+        Pair::Lacking(k, w) => missing_text(k, w),
         Pair::Unfit => Outcome::Stray,
     }
 }

@@ -20,7 +20,9 @@ use Rattle.wire.specs.Words.{byteAt, wordAt, longAt, signed}
 use Rattle.dictionary.specs.Format.{Format, held, typeBytes, textBytes}
 use Rattle.dictionary.specs.Dictionary.{Field, Relation}
 use Rattle.dictionary.specs.Names.{Name, fieldOf, formatOf, fieldFormat}
-use Rattle.records.specs.Record.{fieldCount, missingBytes, packed, offsetOf, recordLength, bitAt, fieldPlace, readingMissing, fieldMissing}
+use Rattle.records.specs.Record.{fieldCount, missingBytes, packed, offsetOf, recordLength, bitAt, fieldPlace, readingMissing, fieldMissing, presenceOf, fieldPresence, isMissing}
+use Rattle.records.specs.declared.missing.Presence.{Presence}
+use Rattle.records.specs.declared.missing.Presence.the-variants.{There, Missing}
 use Rattle.grammar.specs.Tree.{Message, Reference, field, parameter, parameter2, Boolean}
 use Rattle.grammar.specs.Names.{Context, Scope}
 use Rattle.grammar.proofs.StepLaws.{absurd-eq}
@@ -112,11 +114,19 @@ module _ (s t : List ℕ) (sized : length s ≡ length t) where
   reading-same (Plain k) n p h = refl
   reading-same Reading n p h = ap (readingMissing Reading) (word-same p (h p (omega arith) (omega arith)) (h (p + 1) (omega arith) (omega arith)))
 
-unless-same : (b : Bool) (f : Format) (s t : List ℕ) (p : ℕ) → typeValue (f .type) (f .scale) (f .size) s p ≡ typeValue (f .type) (f .scale) (f .size) t p →
+unless-same : (b : Presence) (f : Format) (s t : List ℕ) (p : ℕ) → typeValue (f .type) (f .scale) (f .size) s p ≡ typeValue (f .type) (f .scale) (f .size) t p →
     unlessMissing b f s p ≡ unlessMissing b f t p
 unfolding valueAt
-unless-same true f s t p e = refl
-unless-same false f s t p e = e
+unless-same (Missing w) f s t p e = refl
+unless-same There f s t p e = e
+
+-- missing in both, with one bit: by one cause
+both-missing : (b x y : Bool) (f : Format) (s t : List ℕ) (p : ℕ) → isMissing (presenceOf b x) ≡ true → isMissing (presenceOf b y) ≡ true →
+    unlessMissing (presenceOf b x) f s p ≡ unlessMissing (presenceOf b y) f t p
+both-missing true x y f s t p h k = refl
+both-missing false true true f s t p h k = refl
+both-missing false true false f s t p h k = absurd-eq (cc)
+both-missing false false y f s t p h k = absurd-eq (cc)
 
 -- ---- one field
 
@@ -217,27 +227,32 @@ module _ (xs : List Context) (rows rows′ : List ℕ) (w : Alike xs rows rows�
 
   -- so the field gives the same
   field-same : fieldIn r rows P i ≡ fieldIn r rows′ P i
-  unfolding fieldIn valueAt held Both fieldMissing
+  unfolding fieldIn valueAt held Both fieldMissing fieldPresence
   field-same = rw (fieldIn, cf) (go (fieldMissing r f rows P i) refl (fieldMissing r f rows′ P i) refl)
     where
       p : ℕ
       p = fieldPlace r P i
 
+      reading : List ℕ → Bool
+      reading s = readingMissing (f .type) (wordAt s p)
+
       all-same : (Both → ⊥) → (j : ℕ) → p ≤ j → j < p + held f → byteAt rows j ≡ byteAt rows′ j
       all-same not j a b = ⊎-elim (λ e. e) (λ z. absurd (not z)) (inside-field j a b)
 
-      values-same : (Both → ⊥) → unlessMissing (fieldMissing r f rows P i) f rows p ≡ unlessMissing (fieldMissing r f rows′ P i) f rows′ p
+      values-same : (Both → ⊥) → unlessMissing (fieldPresence r f rows P i) f rows p ≡ unlessMissing (fieldPresence r f rows′ P i) f rows′ p
       values-same not =
           let h = all-same not in
-          let m : fieldMissing r f rows P i ≡ fieldMissing r f rows′ P i = missing-same h in
-          ap (λ b. unlessMissing b f rows p) m ∙ unless-same (fieldMissing r f rows′ P i) f rows rows′ p (type-same rows rows′ (w .sized) (f .type) (f .scale) (f .size) p h)
+          let m : fieldPresence r f rows P i ≡ fieldPresence r f rows′ P i = presence-same h in
+          ap (λ b. unlessMissing b f rows p) m ∙ unless-same (fieldPresence r f rows′ P i) f rows rows′ p (type-same rows rows′ (w .sized) (f .type) (f .scale) (f .size) p h)
         where
-          missing-same : ((j : ℕ) → p ≤ j → j < p + held f → byteAt rows j ≡ byteAt rows′ j) → fieldMissing r f rows P i ≡ fieldMissing r f rows′ P i
-          missing-same h = ap₂ (λ x y. x || y) bit-same (reading-same rows rows′ (w .sized) (f .type) (f .size) p h)
+          presence-same : ((j : ℕ) → p ≤ j → j < p + held f → byteAt rows j ≡ byteAt rows′ j) → fieldPresence r f rows P i ≡ fieldPresence r f rows′ P i
+          presence-same h = ap₂ presenceOf bit-same (reading-same rows rows′ (w .sized) (f .type) (f .size) p h)
 
       go : (a : Bool) → fieldMissing r f rows P i ≡ a → (b : Bool) → fieldMissing r f rows′ P i ≡ b →
-          unlessMissing (fieldMissing r f rows P i) f rows p ≡ unlessMissing (fieldMissing r f rows′ P i) f rows′ p
-      go true e true g = rw (e, g)
+          unlessMissing (fieldPresence r f rows P i) f rows p ≡ unlessMissing (fieldPresence r f rows′ P i) f rows′ p
+      go true e true g =
+          ap (λ b. unlessMissing (presenceOf b (reading rows)) f rows p) bit-same
+          ∙ both-missing (bitAt rows′ P i) (reading rows) (reading rows′) f rows rows′ p (sym (ap (λ b. isMissing (presenceOf b (reading rows))) bit-same) ∙ e) g
       go true e false g = values-same (λ z. absurd-eq (let y = z .1 in cc))
       go false e b g = values-same (λ z. absurd-eq (let y = z .0 in cc))
 

@@ -80,35 +80,35 @@ unfolding arithmeticOf pair kind
 arithmetic-kind o p (number n) (number m) h k = computed-kind p (computed o n m)
 arithmetic-kind o p (number n) (text u) h k = absurd-eq (cc)
 arithmetic-kind o p (number n) (date u v) h k = absurd-eq (cc)
-arithmetic-kind o p (number n) (absent j) h k = rw k refl
+arithmetic-kind o p (number n) (absent j w) h k = rw k refl
 arithmetic-kind o p (text t) y h k = absurd-eq (cc)
 arithmetic-kind o p (date t u) y h k = absurd-eq (cc)
-arithmetic-kind o p (absent j) y h k = rw (k, h) refl
+arithmetic-kind o p (absent j w) y h k = rw (k, h) refl
 
 negate-kind : (p : ℕ) (x : Datum) → kind x ≡ Kind.Number → OfKind Kind.Number (negateOf p x)
 unfolding negateOf kind
 negate-kind p (number n) h = computed-kind p (negated n)
 negate-kind p (text t) h = absurd-eq (cc)
 negate-kind p (date t u) h = absurd-eq (cc)
-negate-kind p (absent Kind.Number) h = refl
-negate-kind p (absent Kind.Text) h = absurd-eq (cc)
-negate-kind p (absent Kind.Date) h = absurd-eq (cc)
+negate-kind p (absent Kind.Number w) h = refl
+negate-kind p (absent Kind.Text w) h = absurd-eq (cc)
+negate-kind p (absent Kind.Date w) h = absurd-eq (cc)
 
 compare-met : (c : Comparison) (x y : Datum) → kind x ≡ kind y → NotStray (compareOf c x y)
 unfolding compareOf pair kind
 compare-met c (number n) (number m) h = tt
 compare-met c (number n) (text u) h = absurd-eq (cc)
 compare-met c (number n) (date u v) h = absurd-eq (cc)
-compare-met c (number n) (absent k) h = rw (← h) tt
+compare-met c (number n) (absent k w) h = rw (← h) tt
 compare-met c (text t) (number m) h = absurd-eq (cc)
 compare-met c (text t) (text u) h = tt
 compare-met c (text t) (date u v) h = absurd-eq (cc)
-compare-met c (text t) (absent k) h = rw (← h) tt
+compare-met c (text t) (absent k w) h = rw (← h) tt
 compare-met c (date t u) (number m) h = absurd-eq (cc)
 compare-met c (date t u) (text v) h = absurd-eq (cc)
 compare-met c (date t u) (date v w) h = tt
-compare-met c (date t u) (absent k) h = rw (← h) tt
-compare-met c (absent k) y h = rw (← h, same-self k) tt
+compare-met c (date t u) (absent k w) h = rw (← h) tt
+compare-met c (absent k w) y h = rw (← h, same-self k) tt
 
 search-met : (t : TextSearch) (x y : Datum) → kind x ≡ Kind.Text → kind y ≡ Kind.Text → NotStray (searchOf t x y)
 unfolding searchOf pair kind
@@ -117,8 +117,8 @@ search-met t (date u v) y h k = absurd-eq (cc)
 search-met t (text u) (number m) h k = absurd-eq (cc)
 search-met t (text u) (text v) h k = tt
 search-met t (text u) (date v w) h k = absurd-eq (cc)
-search-met t (text u) (absent j) h k = rw k tt
-search-met t (absent j) y h k = rw (k, h) tt
+search-met t (text u) (absent j w) h k = rw k tt
+search-met t (absent j w) y h k = rw (k, h) tt
 
 between-met : (x y z : Datum) → kind x ≡ kind y → kind x ≡ kind z → NotStray (betweenOf x y z)
 unfolding betweenOf

@@ -18,7 +18,9 @@ use Rattle.text.specs.Value.{textPart}
 use Rattle.dictionary.specs.Format.{Format, textBytes}
 use Rattle.dictionary.specs.Dictionary.{Relation}
 use Rattle.dictionary.specs.Names.{Name, fieldOf, formatOf}
-use Rattle.records.specs.Record.{fieldMissing, fieldPlace}
+use Rattle.records.specs.declared.missing.Presence.{Presence}
+use Rattle.records.specs.declared.missing.Presence.the-variants.{There, Missing}
+use Rattle.records.specs.Record.{fieldPresence, fieldPlace}
 use Rattle.decimal.specs.declared.Number.{Number}
 use Rattle.grammar.specs.Kind as Scaled
 use Rattle.grammar.specs.Kind.{Kind}
@@ -75,10 +77,10 @@ kind-held f = by (f .type)
     by (Plain (Data.Chars t)) = refl
     by Reading = refl
 
-unless-of : (b : Bool) (f : Format) (s : List ℕ) (p : ℕ) → FetchedOf (unscaled (formatKind f)) (unlessMissing b f s p)
+unless-of : (b : Presence) (f : Format) (s : List ℕ) (p : ℕ) → FetchedOf (unscaled (formatKind f)) (unlessMissing b f s p)
 unfolding kind
-unless-of true f s p = kind-held f
-unless-of false f s p = value-of f s p
+unless-of (Missing w) f s p = kind-held f
+unless-of There f s p = value-of f s p
 
 -- a value of a number's type is there
 number-there : (t : FieldType) (scale n : ℕ) (s : List ℕ) (p : ℕ) (z : ℤ) → typeKind t scale ≡ Scaled.Number z →
@@ -111,7 +113,7 @@ module _ (e : Environment) (sc : Scope) (images rows : List ℕ) where
       let b = then-some (contextOf sc c) relationIn (a .0) (a .1) in
       let g = then-some (fieldOf (a .0) n) (formatOf (a .0)) f (a .2) in
       let i = found-index (λ x. eqb (x .number) c) (sc .contexts) (b .0) (b .1) in
-      rw (i .1, i .2, b .2, g .1, g .2) (unless-of (fieldMissing (a .0) f rows (recordPlace (sc .contexts) (i .0)) (g .0)) f rows (fieldPlace (a .0) (recordPlace (sc .contexts) (i .0)) (g .0)))
+      rw (i .1, i .2, b .2, g .1, g .2) (unless-of (fieldPresence (a .0) f rows (recordPlace (sc .contexts) (i .0)) (g .0)) f rows (fieldPlace (a .0) (recordPlace (sc .contexts) (i .0)) (g .0)))
 
   -- ---- parameters
 

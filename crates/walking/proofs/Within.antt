@@ -52,9 +52,9 @@ arithmetic-within o p hi x y h = by (pair x y)
     by (numbers a b) = computed-within p hi (computed o a b) h
     by (texts t u) = tt
     by (dates d f e g) = tt
-    by (lacking Kind.Number) = tt
-    by (lacking Kind.Text) = tt
-    by (lacking Kind.Date) = tt
+    by (lacking Kind.Number w) = tt
+    by (lacking Kind.Text w) = tt
+    by (lacking Kind.Date w) = tt
     by unfit = tt
 
 negate-within : (p hi : ℕ) (x : Datum) → p < hi → Within p hi (negateOf p x)
@@ -62,9 +62,9 @@ unfolding negateOf
 negate-within p hi (number a) h = computed-within p hi (negated a) h
 negate-within p hi (text t) h = tt
 negate-within p hi (date d f) h = tt
-negate-within p hi (absent Kind.Number) h = tt
-negate-within p hi (absent Kind.Text) h = tt
-negate-within p hi (absent Kind.Date) h = tt
+negate-within p hi (absent Kind.Number w) h = tt
+negate-within p hi (absent Kind.Text w) h = tt
+negate-within p hi (absent Kind.Date w) h = tt
 
 -- a test of values refuses nothing itself
 compare-within : (lo hi : ℕ) (c : Comparison) (x y : Datum) → Within lo hi (compareOf c x y)
@@ -75,7 +75,7 @@ compare-within lo hi c x y = by (pair x y)
     by (numbers a b) = tt
     by (texts t u) = tt
     by (dates d f e g) = tt
-    by (lacking k) = tt
+    by (lacking k w) = tt
     by unfit = tt
 
 search-within : (lo hi : ℕ) (t : TextSearch) (x y : Datum) → Within lo hi (searchOf t x y)
@@ -86,9 +86,9 @@ search-within lo hi t x y = by (pair x y)
     by (numbers a b) = tt
     by (texts u v) = tt
     by (dates d f e g) = tt
-    by (lacking Kind.Number) = tt
-    by (lacking Kind.Text) = tt
-    by (lacking Kind.Date) = tt
+    by (lacking Kind.Number w) = tt
+    by (lacking Kind.Text w) = tt
+    by (lacking Kind.Date w) = tt
     by unfit = tt
 
 between-within : (lo hi : ℕ) (x y z : Datum) → Within lo hi (betweenOf x y z)

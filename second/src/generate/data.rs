@@ -39,7 +39,7 @@ pub fn text(rng: &mut Rng, n: usize) -> Vec<u8> {
 
 /// A reading, often one at an end of the range.
 fn reading(rng: &mut Rng) -> u16 {
-    let usual = [0, 1, 3, 30, 300, 301, 65534, 65535];
+    let usual = [0, 1, 3, 30, 300, 65534, 65535, 65535, 65535];
     if rng.one_in(4) {
         return (rng.bits() % 65536) as u16;
     }

@@ -14,11 +14,15 @@ use crate::dictionary::Dictionary;
 use crate::evaluator::{evaluate, Answer};
 use crate::reader;
 use crate::reader::parsed::{Condition, Parsed, Role};
+use crate::record::Cause;
 use crate::refusal::Refusal;
 use crate::wire::{
     ADD, BOOLEANS, CSTRING, DIVIDE, EQL, GEQ, MISSING, MULTIPLY, NEQ, PARAMETER2, SHORT, VALUES,
     VARYING,
 };
+
+/// The causes of a missing answer.
+pub const CAUSES: [Cause; 3] = [Cause::Bit, Cause::Reading, Cause::Flag];
 
 /// An outcome that a case is to have.
 pub type Outcome = Result<Answer, u32>;
@@ -55,9 +59,10 @@ fn until(wanted: Outcome, mut make: impl FnMut() -> Case) -> Case {
     case
 }
 
-/// An evaluation with an answer: true, false, missing in turn.
+/// An evaluation with an answer: true, false, missing in turn, by one cause after another.
 pub fn answered(rng: &mut Rng, size: Size, turn: usize) -> Case {
-    let answers = [Answer::True, Answer::False, Answer::Missing];
+    let cause = CAUSES[(turn / 3 + turn / 72) % 3];
+    let answers = [Answer::True, Answer::False, Answer::Missing(cause)];
     let wanted = answers[(turn + turn / 24) % 3];
     until(Ok(wanted), || proper(rng, size, focus(turn), 12))
 }

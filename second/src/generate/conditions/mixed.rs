@@ -90,7 +90,7 @@ impl Maker<'_> {
         match self.rng.below(5) {
             0 | 1 => short(scale, data::short(self.rng)),
             2 if place == Where::Field => {
-                reading(scale, self.rng.pick(&[0, 30, 300, 32_768, 65_534, 65_535]))
+                reading(scale, self.rng.pick(&[0, 300, 32_768, 65_534, 65_535, 65_535, 65_535]))
             }
             _ => long(scale, data::long(self.rng)),
         }

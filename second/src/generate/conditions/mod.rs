@@ -1,4 +1,5 @@
-//! Evaluations of small conditions that each come out as true, false, missing or one of 23 to 25.
+//! Evaluations of small conditions that each come out as true, false, missing by a cause, or one of
+//! 23 to 25.
 //!
 //! First come those written by hand, one of each family in turn and the same for every seed; the
 //! rest are made at random. Each has a dictionary and messages of what it names and nothing else.
@@ -7,6 +8,8 @@
 mod absent;
 /// Between.
 mod between;
+/// Causes of missing values.
+mod causes;
 /// Dates.
 mod dates;
 /// Records, messages, missing bits, numbers of conditions, statements.
@@ -26,6 +29,7 @@ use super::evaluations::{outcome, Outcome};
 use super::rng::Rng;
 use super::Case;
 use crate::evaluator::Answer;
+use crate::record::Cause;
 use crate::refusal::{MALFORMED_TEXT, OVERFLOW, ZERO_DIVISOR};
 use crate::wire::{EQL, GEQ, GTR, LEQ, LSS, NEQ};
 
@@ -33,13 +37,14 @@ use crate::wire::{EQL, GEQ, GTR, LEQ, LSS, NEQ};
 const COMPARISONS: [u8; 6] = [EQL, NEQ, GTR, GEQ, LSS, LEQ];
 
 /// The outcomes that conditions at random are made for, in turn.
-const WANTED: [Outcome; 9] = [
+const WANTED: [Outcome; 10] = [
     Ok(Answer::True),
     Ok(Answer::False),
-    Ok(Answer::Missing),
+    Ok(Answer::Missing(Cause::Bit)),
+    Ok(Answer::Missing(Cause::Reading)),
     Ok(Answer::True),
     Ok(Answer::False),
-    Ok(Answer::Missing),
+    Ok(Answer::Missing(Cause::Flag)),
     Err(MALFORMED_TEXT),
     Err(OVERFLOW),
     Err(ZERO_DIVISOR),
@@ -95,6 +100,13 @@ fn families() -> Vec<Vec<Case>> {
         absent::refusals(),
         absent::malformed(),
         absent::flags(),
+        causes::alone(),
+        causes::arithmetic(),
+        causes::comparisons(),
+        causes::searches(),
+        causes::betweens(),
+        causes::logic(),
+        causes::settled(),
         layout::streams(),
         layout::contexts(),
         layout::names(),

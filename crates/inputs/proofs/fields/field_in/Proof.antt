@@ -23,59 +23,65 @@ described-requires c κs = search needs
 field-place-requires : tie.Need-field-place-requires
 field-place-requires c κs = search needs
 
-is-missing-requires : tie.Need-is-missing-requires
-is-missing-requires c κs = search needs
+presence-requires : tie.Need-presence-requires
+presence-requires c κs = search needs
+
+enum-known-w : tie.Need-enum-known-w
+enum-known-w c = search needs
 
 kind-held-requires : tie.Need-kind-held-requires
 kind-held-requires c κs = search needs
 
-returns : tie.Need-returns
-returns c m e =
-    let args′ = c .before .before .before .before .before .before .before .before .before .before .before .args in
-    let entry′ = c .before .before .before .before .before .before .entry in
-    let field-entry′ = c .before .before .before .before .before .before .before .before .field-entry in
-    let kind-held′ = c .kind-held in
-    let described′ = c .before .before .before .before .described in
-    let field-place′ = c .before .before .before .field-place in
-    let if1′ = c .before .if1 in
-    let is-missing′ = c .before .before .is-missing in
-    let place = place-some (getElem? (fieldsOf (args′ .d .now) (args′ .relation)) (args′ .i)) (entry′ .given .0 .0)
-    (sym (entry′ .given .1) ∙ field-entry′ .ensures) in
-    ap (λ (k : Kind). value (absent k)) (kind-held′ .ensures) ∙
-    field-missing (args′ .d .now) (args′ .relation) (args′ .s .now) (args′ .p) (args′ .i) (entry′ .given .0 .0) place
-    (formatIs (described′ .result)) (described′ .ensures) (field-place′ .result) (field-place′ .ensures)
-    (sym (if1′ .taken) ∙ is-missing′ .ensures)
+enum-told : tie.Need-enum-told
+enum-told c = search needs
 
 value-at-requires : tie.Need-value-at-requires
 value-at-requires c κs = search needs
 
-enum-told : tie.Need-enum-told
-enum-told c = search needs
+enum-told-2 : tie.Need-enum-told-2
+enum-told-2 c = search needs
+
+returns : tie.Need-returns
+returns c m e =
+    let args′ = c .before .before .before .before .before .before .before .before .before .before .before .before .before .args in
+    let entry′ = c .before .before .before .before .before .before .before .before .entry in
+    let field-entry′ = c .before .before .before .before .before .before .before .before .before .before .field-entry in
+    let kind-held′ = c .kind-held in
+    let described′ = c .before .before .before .before .before .before .described in
+    let field-place′ = c .before .before .before .before .before .field-place in
+    let w′ = c .before .before .w in
+    let presence′ = c .before .before .before .before .presence in
+    let place = place-some (getElem? (fieldsOf (args′ .d .now) (args′ .relation)) (args′ .i)) (entry′ .given .0 .0)
+    (sym (entry′ .given .1) ∙ field-entry′ .ensures) in
+    ap (λ (k : Kind). value (absent k (w′ .given .0 .0))) (kind-held′ .ensures) ∙
+    field-missing (args′ .d .now) (args′ .relation) (args′ .s .now) (args′ .p) (args′ .i) (entry′ .given .0 .0) place
+    (formatIs (described′ .result)) (described′ .ensures) (field-place′ .result) (field-place′ .ensures)
+    (w′ .given .0 .0) (sym (w′ .given .1) ∙ presence′ .ensures)
 
 returns-2 : tie.Need-returns-2
 returns-2 c m e =
-    let args′ = c .before .before .before .before .before .before .before .before .before .before .before .args in
-    let entry′ = c .before .before .before .before .before .before .entry in
-    let field-entry′ = c .before .before .before .before .before .before .before .before .field-entry in
+    let args′ = c .before .before .before .before .before .before .before .before .before .before .before .before .args in
+    let entry′ = c .before .before .before .before .before .before .before .entry in
+    let field-entry′ = c .before .before .before .before .before .before .before .before .before .field-entry in
     let value-at′ = c .value-at in
-    let described′ = c .before .before .before .before .described in
-    let field-place′ = c .before .before .before .field-place in
-    let if1′ = c .before .if1 in
-    let is-missing′ = c .before .before .is-missing in
+    let described′ = c .before .before .before .before .before .described in
+    let field-place′ = c .before .before .before .before .field-place in
+    let enum-told′ = c .before .enum-told in
+    let presence′ = c .before .before .before .presence in
     let place = place-some (getElem? (fieldsOf (args′ .d .now) (args′ .relation)) (args′ .i)) (entry′ .given .0 .0)
     (sym (entry′ .given .1) ∙ field-entry′ .ensures) in
     value-at′ .ensures m e ∙
     field-there (args′ .d .now) (args′ .relation) (args′ .s .now) (args′ .p) (args′ .i) (entry′ .given .0 .0) place
     (formatIs (described′ .result)) (described′ .ensures) (field-place′ .result) (field-place′ .ensures)
-    (sym (if1′ .left) ∙ is-missing′ .ensures)
+    (sym (enum-told′ .given .1) ∙ presence′ .ensures)
 
 returns-3 : tie.Need-returns-3
 returns-3 c m e =
     let args′ = c .before .before .before .before .before .args in
-    let enum-told′ = c .enum-told in
+    let enum-told2′ = c .enum-told2 in
     let field-entry′ = c .before .before .field-entry in
     no-field (args′ .d .now) (args′ .relation) (args′ .s .now) (args′ .p) (args′ .i)
-    (place-none (getElem? (fieldsOf (args′ .d .now) (args′ .relation)) (args′ .i)) (sym (enum-told′ .given .1) ∙ field-entry′ .ensures))
+    (place-none (getElem? (fieldsOf (args′ .d .now) (args′ .relation)) (args′ .i)) (sym (enum-told2′ .given .1) ∙ field-entry′ .ensures))
 
 pub field-in-spec : {M : Type 1} → statement M
 field-in-spec =
@@ -85,10 +91,12 @@ field-in-spec =
     enum-known-entry
     described-requires
     field-place-requires
-    is-missing-requires
+    presence-requires
+    enum-known-w
     kind-held-requires
-    returns
-    value-at-requires
     enum-told
+    value-at-requires
+    enum-told-2
+    returns
     returns-2
     returns-3)

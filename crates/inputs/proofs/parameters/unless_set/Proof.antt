@@ -1,6 +1,7 @@
 -- `inputs::parameters::unless_set` meets its contract. Assumes nothing.
 use mathlib.Core.Path.{ap}
 use Rattle.meaning.specs.declared.Kind.{Kind}
+use Rattle.records.specs.declared.missing.Cause.the-variants as Cause
 use Rattle.meaning.specs.Data.{absent}
 use Rattle.meaning.specs.Inputs.{value}
 use borrow.Author.Needs.{needs}
@@ -32,7 +33,7 @@ returns-2 : tie.Need-returns-2
 returns-2 c m e =
     let enum-told2′ = c .before .enum-told2 in
     let kind-held′ = c .kind-held in
-    rw (enum-told2′ .given .1) (ap (λ (k : Kind). value (absent k)) (kind-held′ .ensures))
+    rw (enum-told2′ .given .1) (ap (λ (k : Kind). value (absent k Cause.Flag)) (kind-held′ .ensures))
 
 returns-3 : tie.Need-returns-3
 returns-3 c m e =

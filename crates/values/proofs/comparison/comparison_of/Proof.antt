@@ -50,11 +50,11 @@ holds-requires-3 c κs = search needs
 truth-of-requires-3 : tie.Need-truth-of-requires-3
 truth-of-requires-3 c κs = search needs
 
+enum-known-w : tie.Need-enum-known-w
+enum-known-w c = search needs
+
 enum-told : tie.Need-enum-told
 enum-told c = search needs
-
-enum-told-2 : tie.Need-enum-told-2
-enum-told-2 c = search needs
 
 returns : tie.Need-returns
 unfolding compareOf
@@ -106,20 +106,20 @@ returns-3 c =
 returns-4 : tie.Need-returns-4
 unfolding compareOf
 returns-4 c =
-    let args′ = c .before .before .before .before .before .before .args in
-    let paired′ = c .before .before .paired in
-    let enum-told′ = c .enum-told in
+    let args′ = c .before .before .before .before .before .before .before .args in
+    let paired′ = c .before .before .before .paired in
+    let w′ = c .before .w in
     let m = lent (args′ .request .now) (args′ .images .now) (args′ .records .now) in
-    rw (compareOf, ← paired′ .ensures m, enum-told′ .given .1)
+    rw (compareOf, ← paired′ .ensures m, w′ .given .1)
 
 returns-5 : tie.Need-returns-5
 unfolding compareOf
 returns-5 c =
     let args′ = c .before .before .before .before .before .before .args in
     let paired′ = c .before .before .paired in
-    let enum-told2′ = c .enum-told2 in
+    let enum-told′ = c .enum-told in
     let m = lent (args′ .request .now) (args′ .images .now) (args′ .records .now) in
-    rw (compareOf, ← paired′ .ensures m, enum-told2′ .given .1)
+    rw (compareOf, ← paired′ .ensures m, enum-told′ .given .1)
 
 pub comparison-of-spec : {M : Type 1} → statement M
 comparison-of-spec =
@@ -140,8 +140,8 @@ comparison-of-spec =
     date-order-requires
     holds-requires-3
     truth-of-requires-3
+    enum-known-w
     enum-told
-    enum-told-2
     returns
     returns-2
     returns-3
