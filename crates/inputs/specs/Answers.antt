@@ -1,5 +1,5 @@
 -- What the code's answers stand for, beside the slices that were lent.
-use Prim.Native.Nat.{ℕ, _+_, _-_, _≤_, min}
+use Prim.Native.Nat.{ℕ, _+_, _-_, _≤_, _<_, min}
 use mathlib.Core.Path.{_≡_}
 use mathlib.Core.Bool.{Bool, true, false, cond}
 use mathlib.Core.List.{List}
@@ -21,7 +21,9 @@ use Rattle.walking.specs.Walk as Walk
 use Rattle.values.specs.declared.Source.{Source}
 use Rattle.values.specs.declared.Held.{Held}
 use Rattle.values.specs.declared.Date.{Date}
-use Rattle.values.specs.Values.{Lent, sourceIn, datum}
+use Rattle.values.specs.declared.Valued.{Valued}
+use Rattle.values.specs.declared.Valued.the-variants as Valued
+use Rattle.values.specs.Values.{Lent, sourceIn, datum, valued}
 use Rattle.surroundings.specs.Slots.{Slot}
 use Rattle.surroundings.specs.Parameters.{parameterFrom}
 use Rattle.surroundings.specs.Around.{rowValue, around}
@@ -99,3 +101,8 @@ referenceEnd s p Field = p + 3 + byteAt s (p + 2)
 referenceEnd s p Fid = p + 4
 referenceEnd s p Parameter = p + 4
 referenceEnd s p Parameter2 = p + 6
+
+-- the reference whose code stands at p of the request; past its end no code stands
+pub record Referred (m : Lent) (g : Reference → Inputs.Fetched) (p : ℕ) (c : ReferenceCode) (r : Valued) : Type 0 where
+  pub inside : p < length (m .request) → valued m r ≡ Walk.referenceAt g (m .request) p c
+  pub past : length (m .request) ≤ p → r ≡ Valued.Stray

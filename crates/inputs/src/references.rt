@@ -3,9 +3,9 @@ ghost use mathlib.Core.Path.{_≡_};
 ghost use Prim.Native.Nat.{_<_};
 ghost use lib.ListN.{length};
 ghost use Rattle.meaning.specs.Meaning.{fetchedAt};
-ghost use Rattle.walking.specs.Walk.{ended, referenceAt};
+ghost use Rattle.walking.specs.Walk.{ended};
 ghost use Rattle.values.specs.Values.{Lent, lent, valued};
-ghost use Rattle.inputs.specs.Answers.{fetchedIn, lentAround, referenceIn, referenceEnd};
+ghost use Rattle.inputs.specs.Answers.{fetchedIn, lentAround, referenceIn, referenceEnd, Referred};
 use crate::Fetched;
 use crate::fields::by_id;
 use crate::fields::by_name;
@@ -112,11 +112,10 @@ pub fn reference(
     at: usize,
     code: ReferenceCode,
 ) -> Valued
-    ensures { λ r. ⌜ (at < length (now (request .entry)) →
-        valued (lent (now (request .entry)) (now (images .entry)) (now (records .entry))) r ≡
-        referenceAt (lentAround (now (dictionary .entry)) (now (numbers .entry)) (now (relations .entry)) count
+    ensures { λ r. ⌜ Referred (lent (now (request .entry)) (now (images .entry)) (now (records .entry)))
+        (lentAround (now (dictionary .entry)) (now (numbers .entry)) (now (relations .entry)) count
         (now (parameters .entry)) rows (now (images .entry)) (now (records .entry)))
-        (now (request .entry)) at code) ⌝ }
+        at code r ⌝ }
 {
     if request.len() <= at {
         return Valued::Stray;

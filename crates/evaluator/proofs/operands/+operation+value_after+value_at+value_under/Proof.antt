@@ -298,7 +298,7 @@ value-under-returns-2 t c =
     let value-form′ = c .before .before .before .before .value-form in
     let form′ = c .before .before .form in
     let reference′ = c .reference in
-    λ h. reference-is _ _ _ _ (value-form′ .ensures) (form′ .given .1) (reference′ .ensures h)
+    λ h. reference-is _ _ _ _ (value-form′ .ensures) (form′ .given .1) (reference′ .ensures .inside h)
 
 -- src/operands.rt:60:1
 value-under-returns-3 : (t : ℕ) → value-under-lts.Need-returns-3 (value-under-calls t) (value-under-at t) value-under.Post
