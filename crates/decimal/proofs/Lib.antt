@@ -1,5 +1,6 @@
 -- Laws that belong to no one function.
 pub mod Table
+pub mod Tens
 pub mod Bits
 pub mod Fitted
 pub mod Signed
@@ -8,3 +9,6 @@ pub mod Quotient
 pub mod Ranges
 pub mod Differences
 pub mod Ordered
+pub mod Parts
+pub mod Working
+pub mod Worked

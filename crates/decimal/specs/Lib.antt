@@ -2,4 +2,4 @@
 pub mod Number
 pub mod Signs
 pub mod Sums
-pub mod Orders
+pub mod Comparing

@@ -90,17 +90,9 @@ pub fn compute(o: Operator, a: Number, b: Number) -> Computed
     }
 }
 
-// The exact order of two numbers.
+// The exact order of two numbers: that of their whole parts, and where these are equal that of their fractions.
 pub fn compare(a: Number, b: Number) -> Order
     ensures { λ r. ⌜ r ≡ compared a b ⌝ }
 {
-    let x = a.value;
-    let y = b.value;
-    let p = places::places_in(a);
-    let q = places::places_in(b);
-    if p <= q {
-        order::raised_order(x, q - p, y)
-    } else {
-        order::reverse(order::raised_order(y, p - q, x))
-    }
+    order::by_parts(a, b)
 }

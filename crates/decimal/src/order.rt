@@ -1,61 +1,57 @@
-// The order of values over the powers of ten.
+// The order of two numbers: that of their whole parts, and where these are equal that of their fractions.
 ghost use mathlib.Core.Path.{_≡_};
 ghost use Prim.Native.Nat.{_*_, _^_, _≤_, _<_};
 ghost use lib.IntN.{pos, _*ℤ_};
+ghost use lib.Signed.{quotZ, remZ};
 ghost use Rattle.decimal.specs.Number.{orderℤ};
-ghost use Rattle.decimal.specs.Orders.{orderℕ, reversed, bySigns};
-use super::powers::power;
-use super::sign::is_negative;
-use super::sign::magnitude;
+ghost use Rattle.decimal.specs.Comparing.{byParts};
+use super::Number;
+use super::places::places_in;
+use super::powers::powers_for;
 use wire::order::Order;
 
-// The order of m * p and n, with no product.
-fn quotient_order(m: u64, p: u64, n: u64) -> Order
-    requires { ⌜ 0 < p ⌝ }
-    ensures { λ r. ⌜ r ≡ orderℕ (m * p) n ⌝ }
+fn value_order(x: i64, y: i64) -> Order
+    ensures { λ r. ⌜ r ≡ orderℤ x y ⌝ }
 {
-    let q = n / p;
-    if m < q {
+    if x < y {
         return Order::Less;
     }
-    if q < m {
+    if y < x {
         return Order::Greater;
     }
-    if n % p == 0 {
-        Order::Equal
-    } else {
-        Order::Less
-    }
+    Order::Equal
 }
 
-pub(crate) fn reverse(o: Order) -> Order
-    ensures { λ r. ⌜ r ≡ reversed o ⌝ }
+// The whole part, cut toward zero. The power is ten to the value's places.
+fn whole(x: i64, power: u64) -> i64
+    requires { ⌜ (0 < power) × (power ≤ 10 ^ 18) ⌝ }
+    ensures { λ r. ⌜ r ≡ quotZ x (pos power) ⌝ }
 {
-    match o {
-        Order::Less => Order::Greater,
-        Order::Equal => Order::Equal,
-        Order::Greater => Order::Less,
-    }
+    x / (power as i64)
 }
 
-// The order of two values by their signs, given that of their magnitudes.
-fn by_signs(s: bool, t: bool, magnitudes: Order) -> Order
-    ensures { λ r. ⌜ r ≡ bySigns s t magnitudes ⌝ }
+// What the whole part leaves, with the value's sign, times ten to the places that are lacking. It is below the power, and so the product
+// below 10^18.
+fn fraction(x: i64, power: u64, lacking: u64) -> i64
+    requires { ⌜ (0 < power) × (power ≤ 10 ^ 18) × (power * lacking ≤ 10 ^ 18) ⌝ }
+    ensures { λ r. ⌜ r ≡ remZ x (pos power) *ℤ pos lacking ⌝ }
 {
-    if s {
-        if t { reverse(magnitudes) } else { Order::Less }
-    } else if t {
-        Order::Greater
-    } else {
-        magnitudes
-    }
+    x % (power as i64) * (lacking as i64)
 }
 
-// The order of x * 10^k and y.
-pub(crate) fn raised_order(x: i64, k: usize, y: i64) -> Order
-    requires { ⌜ k ≤ 18 ⌝ }
-    ensures { λ r. ⌜ r ≡ orderℤ (x *ℤ pos (10 ^ k)) y ⌝ }
+// First the whole parts; where these are equal, the fractions at the larger count of places.
+pub(crate) fn by_parts(a: Number, b: Number) -> Order
+    ensures { λ r. ⌜ r ≡ byParts a b ⌝ }
 {
-    let o = quotient_order(magnitude(x), power(k), magnitude(y));
-    by_signs(is_negative(x), is_negative(y), o)
+    let x = a.value;
+    let y = b.value;
+    let t = powers_for(places_in(a), places_in(b));
+    match value_order(whole(x, t.first), whole(y, t.second)) {
+        Order::Less => Order::Less,
+        Order::Equal => value_order(
+            fraction(x, t.first, t.first_lacks),
+            fraction(y, t.second, t.second_lacks),
+        ),
+        Order::Greater => Order::Greater,
+    }
 }

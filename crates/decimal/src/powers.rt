@@ -1,6 +1,7 @@
 // The powers of ten.
 ghost use mathlib.Core.Path.{_≡_};
-ghost use Prim.Native.Nat.{_≤_, _^_};
+ghost use Prim.Native.Nat.{_-_, _≤_, _^_, max};
+use super::places::larger;
 
 const POWERS: [u64; 19] = [
     1,
@@ -29,4 +30,28 @@ pub(crate) fn power(k: usize) -> u64
     ensures { λ r. ⌜ r ≡ 10 ^ k ⌝ }
 {
     POWERS[k]
+}
+
+// Ten to the places of two numbers, and to the places that each lacks of the larger count.
+pub(crate) struct PlacePowers {
+    pub first: u64,
+    pub first_lacks: u64,
+    pub second: u64,
+    pub second_lacks: u64,
+}
+
+// The compiler copies the table to the stack wherever it is read: one copy serves all four.
+pub(crate) fn powers_for(p: usize, q: usize) -> PlacePowers
+    requires { ⌜ (p ≤ 18) × (q ≤ 18) ⌝ }
+    ensures { λ r. ⌜ (r .first ≡ 10 ^ p) × (r .«first_lacks» ≡ 10 ^ (max p q - p)) ⌝ }
+    ensures { λ r. ⌜ (r .second ≡ 10 ^ q) × (r .«second_lacks» ≡ 10 ^ (max p q - q)) ⌝ }
+{
+    let powers = POWERS;
+    let most = larger(p, q);
+    PlacePowers {
+        first: powers[p],
+        first_lacks: powers[most - p],
+        second: powers[q],
+        second_lacks: powers[most - q],
+    }
 }
