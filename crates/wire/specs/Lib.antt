@@ -2,4 +2,5 @@
 pub mod Words
 pub mod Lists
 pub mod Codes
+pub mod Limits
 pub mod Classes

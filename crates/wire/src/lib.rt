@@ -2,5 +2,6 @@
 pub mod blr;
 pub mod bytes;
 pub mod codes;
+pub mod limits;
 pub mod numbers;
 pub mod order;
