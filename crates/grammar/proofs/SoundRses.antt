@@ -1,9 +1,9 @@
 -- Streams, rses and headings that were read: their bytes are those of the grammar, and the rules allow them.
-use Prim.Native.Nat.{ℕ, zero, suc, _+_, _<_, _≤_}
-use mathlib.Core.Path.{_≡_, refl, sym, ap}
+use Prim.Native.Nat.{ℕ, zero, suc, _+_, _*_, _<_, _≤_}
+use mathlib.Core.Path.{_≡_, refl, sym, ap, _∙_}
 use mathlib.Core.Bool.{Bool, true, false, not as negation}
 use mathlib.Core.List.{List, [], _∷_, _++_}
-use native.Mathlib.Nat.{add-zero, zero-add}
+use native.Mathlib.Nat.{zero-add, add-comm, mul-zero, mul-suc}
 use native.Mathlib.Omega.{arith}
 use lib.ListN.{length, drop}
 use borrow.Author.Tests.{not-true}
@@ -18,20 +18,42 @@ use Rattle.dictionary.specs.Names.{Name, named, numbered, relationOf}
 use Rattle.grammar.specs.declared.Cursor.{Cursor}
 use Rattle.grammar.specs.declared.Refusal.the-variants.{NotDue, BadContext}
 use Rattle.grammar.specs.Tree.{Stream, Heading, receive, send, label, Value, Boolean, Keys, Clauses, Rse, rse}
-use Rattle.grammar.specs.Bytes.{streamOf, streamBytes, streamsBytes, headBytes, headingBytes, booleanBytes, keysBytes, keyCount, clausesBytes, rseBytes}
+use Rattle.grammar.specs.Bytes.{streamOf, streamBytes, streamsBytes, headBytes, headingBytes, valueBytes, booleanBytes, keysBytes, keyCount, clausesBytes, rseBytes}
 use Rattle.grammar.specs.Names.{Environment, Scope, underStreams}
 use Rattle.grammar.specs.Scope.{inScope, ofFor, declared, updating, StreamScoped, StreamsScoped, Exchanged, HeadingScoped}
-use Rattle.grammar.specs.Sizes.{booleanDepth, keysDepth, clausesDepth, rseDepth, rseContexts, headingContexts, countInRange, StreamsInRange, SortInRange}
-use Rattle.grammar.specs.Rules.{BooleanAllowed, KeysAllowed, ClausesAllowed, RseAllowed}
+use Rattle.grammar.specs.Sizes.{valueDepth, booleanDepth, keysDepth, clausesDepth, rseDepth, valueContexts, booleanContexts, keysContexts, clausesContexts, rseContexts, headingContexts, countInRange, StreamsInRange, SortInRange}
+use Rattle.grammar.specs.Rules.{ValueAllowed, BooleanAllowed, KeysAllowed, ClausesAllowed, RseAllowed}
 use Rattle.grammar.specs.Conditions.{clausesConditions, rseConditions}
 use Rattle.grammar.specs.Reader.{read, Reader, byte, tested, code, coded, opened, noted}
 use Rattle.grammar.specs.Values.{contextByte}
-use Rattle.grammar.specs.Statements.{naming, stream, streams, countByte, rseHead, keys, sort, numberedBoolean, clausesUnder, clauses, exchanged, modifyHeading, receiveHeading, sendHeading, storeHeading, labelHeading}
+use Rattle.grammar.specs.Rses.{naming, stream, streams, countByte, rseHead, keys, sort, numberedBoolean, clausesUnder, clauses}
+use Rattle.grammar.specs.Statements.{exchanged, modifyHeading, receiveHeading, sendHeading, storeHeading, labelHeading}
 use Rattle.grammar.specs.Demands.{Octets}
 use Rattle.grammar.proofs.Went.{Went, Passed, never, undo, same, needed, tested-read, stayed, onward, went-as, coded-onward, byte-went, code-went, opened-went, noted-went}
 use Rattle.grammar.proofs.Codes.{statementCode, streamCode, clauseCode, stream-due, clause-due, direction-due, coded-went}
 use Rattle.grammar.proofs.SoundReferences.{nameBytes, nameCode, naming-went, context-went, message-went}
-use Rattle.grammar.proofs.SoundValues.{ReadsValues, ReadsBooleans}
+
+-- ---- what is asked of the readers of values and booleans; the levels left, l, are one more than those that the value may take
+
+pub record ValueSound (l : ℕ) (e : Environment) (sc : Scope) (s : List ℕ) (c : Cursor) (v : Value) (c′ : Cursor) : Type 0 where
+  pub went : Went s c (valueBytes v) 0 (valueContexts v) 0 c′
+  pub depth : suc (valueDepth v) ≤ l
+  pub allowed : ValueAllowed e sc v
+  pub few : c .contexts ≤ 32 → c′ .contexts ≤ 32
+
+-- a reader of values that is sound
+abbrev pub ReadsValues : ℕ → Environment → Scope → List ℕ → Reader Value → Type 0
+ReadsValues l e sc s reader = (c : Cursor) (v : Value) (c′ : Cursor) → reader s c ≡ read v c′ → ValueSound l e sc s c v c′
+
+-- a boolean; n is 1 if it has a number, and 0 if it has none
+pub record BooleanSound (n l : ℕ) (e : Environment) (sc : Scope) (s : List ℕ) (c : Cursor) (b : Boolean) (c′ : Cursor) : Type 0 where
+  pub went : Went s c (booleanBytes b) 0 (booleanContexts b) n c′
+  pub depth : suc (booleanDepth b) ≤ l
+  pub allowed : BooleanAllowed e sc b
+  pub few : c .contexts ≤ 32 → c′ .contexts ≤ 32
+
+abbrev pub ReadsBooleans : ℕ → ℕ → Environment → Scope → List ℕ → Reader Boolean → Type 0
+ReadsBooleans n l e sc s reader = (c : Cursor) (b : Boolean) (c′ : Cursor) → reader s c ≡ read b c′ → BooleanSound n l e sc s c b c′
 
 -- ---- streams
 
@@ -119,56 +141,62 @@ module _ (s : List ℕ) (octets : Octets s) (d : List Relation) where
 
 -- ---- keys and clauses
 
+one-more : (n m : ℕ) → n + n * m ≡ n * suc m
+one-more n m = add-comm n (n * m) ∙ sym (mul-suc n m)
+
 module _ (l : ℕ) (e : Environment) (sc : Scope) (s : List ℕ) where
   pub record KeysSound (n : ℕ) (c : Cursor) (ks : Keys) (c′ : Cursor) : Type 0 where
-    pub went : Passed s c (keysBytes ks) c′
+    pub went : Went s c (keysBytes ks) 0 (keysContexts ks) 0 c′
     pub many : keyCount ks ≡ n
     pub depth : 0 < l → suc (keysDepth ks) ≤ l
     pub allowed : KeysAllowed e sc ks
+    pub few : c .contexts ≤ 32 → c′ .contexts ≤ 32
 
   -- after the code of a sort
   pub record SortSound (c : Cursor) (ks : Keys) (c′ : Cursor) : Type 0 where
-    pub went : Passed s c (keyCount ks ∷ keysBytes ks) c′
+    pub went : Went s c (keyCount ks ∷ keysBytes ks) 0 (keysContexts ks) 0 c′
     pub ranged : SortInRange ks
     pub depth : 0 < l → suc (keysDepth ks) ≤ l
     pub allowed : KeysAllowed e sc ks
+    pub few : c .contexts ≤ 32 → c′ .contexts ≤ 32
 
-  -- a boolean that has a number
-  pub record NumberedSound (c : Cursor) (b : Boolean) (c′ : Cursor) : Type 0 where
-    pub went : Went s c (booleanBytes b) 0 0 1 c′
-    pub depth : suc (booleanDepth b) ≤ l
-    pub allowed : BooleanAllowed e sc b
-
-  pub record ClausesSound (boolean sort : Bool) (c : Cursor) (cs : Clauses) (c′ : Cursor) : Type 0 where
-    pub went : Went s c (clausesBytes cs) 0 0 (length (clausesConditions sc cs (c .at))) c′
+  -- clauses whose conditions count n each
+  pub record ClausesSound (n : ℕ) (boolean sort : Bool) (c : Cursor) (cs : Clauses) (c′ : Cursor) : Type 0 where
+    pub went : Went s c (clausesBytes cs) 0 (clausesContexts cs) (n * length (clausesConditions sc cs (c .at))) c′
     pub depth : 0 < l → suc (clausesDepth cs) ≤ l
     pub allowed : ClausesAllowed e sc boolean sort cs
+    pub few : c .contexts ≤ 32 → c′ .contexts ≤ 32
 
   -- after the code k, which stands at p
-  pub record ClausesUnderSound (boolean sort : Bool) (k : ClauseCode) (p : ℕ) (c : Cursor) (cs : Clauses) (c′ : Cursor) : Type 0 where
-    pub went : Went s c (drop 1 (clausesBytes cs)) 0 0 (length (clausesConditions sc cs p)) c′
+  pub record ClausesUnderSound (n : ℕ) (boolean sort : Bool) (k : ClauseCode) (p : ℕ) (c : Cursor) (cs : Clauses) (c′ : Cursor)
+      : Type 0 where
+    pub went : Went s c (drop 1 (clausesBytes cs)) 0 (clausesContexts cs) (n * length (clausesConditions sc cs p)) c′
     pub starts : clausesBytes cs ≡ clauseCode k ∷ drop 1 (clausesBytes cs)
     pub depth : 0 < l → suc (clausesDepth cs) ≤ l
     pub allowed : ClausesAllowed e sc boolean sort cs
+    pub few : c .contexts ≤ 32 → c′ .contexts ≤ 32
 
   module _ (operand : Reader Value) (values : ReadsValues l e sc s operand) where
     pub keys-sound : (n : ℕ) (c : Cursor) (ks : Keys) (c′ : Cursor) → keys n operand s c ≡ read ks c′ → KeysSound n c ks c′
-    unfolding keys keysBytes keysDepth keyCount
+    unfolding keys keysBytes keysDepth keyCount keysContexts
     keys-sound zero c ks c′ h = same h (λ ks c′. KeysSound zero c ks c′) (record {
       went = stayed s c;
       many = refl;
       depth = λ d. d;
       allowed = tt;
+      few = λ f. f;
     })
     keys-sound (suc n) c ks c′ h = undo (coded _ s c) _ h (λ k q e₁ w. undo (operand s q) _ w (λ v q₁ e₂ w₁.
         undo (keys n operand s q₁) _ w₁ (λ ks q₂ e₃ w₂.
+        let g = coded-went direction-due s c e₁ in
         let i = values q v q₁ e₂ in
         let j = keys-sound n q₁ ks q₂ e₃ in
         same w₂ (λ ks c′. KeysSound (suc n) c ks c′) (record {
-          went = onward (coded-went direction-due s c e₁) (onward (i .went) (j .went));
+          went = went-as (onward g (onward (i .went) (j .went))) refl (zero-add _) refl;
           many = ap suc (j .many);
           depth = λ d. omega (arith, i .depth, j .depth d);
           allowed = (i .allowed, j .allowed);
+          few = λ f. j .few (i .few (omega (arith, g .declared)));
         }))))
 
     pub sort-sound : (c : Cursor) (ks : Keys) (c′ : Cursor) → sort operand s c ≡ read ks c′ → SortSound c ks c′
@@ -176,79 +204,99 @@ module _ (l : ℕ) (e : Environment) (sc : Scope) (s : List ℕ) where
     sort-sound c ks c′ h = undo (countByte s c) _ h (λ n q e₁ w.
         let j = keys-sound n q ks c′ w in
         let t = rw (sym (j .many)) at (count-went s c e₁) in
-        record { went = onward (t .0) (j .went); ranged = t .1; depth = j .depth; allowed = j .allowed })
+        record {
+          went = went-as (onward (t .0) (j .went)) refl (zero-add _) refl;
+          ranged = t .1;
+          depth = j .depth;
+          allowed = j .allowed;
+          few = λ f. j .few (omega (arith, t .0 .declared));
+        })
 
-  module _ (condition : Reader Boolean) (booleans : ReadsBooleans l e sc s condition) where
-    pub numbered-sound : (c : Cursor) (b : Boolean) (c′ : Cursor) → numberedBoolean condition s c ≡ read b c′ → NumberedSound c b c′
-    unfolding numberedBoolean
-    numbered-sound c b c′ h = undo (noted s c) _ h (λ u q e₁ w.
-        let i = booleans q b c′ w in
-        record { went = onward (noted-went s c e₁) (i .went); depth = i .depth; allowed = i .allowed })
+  -- a boolean that has a number
+  pub numbered-sound : (condition : Reader Boolean) → ReadsBooleans 0 l e sc s condition → ReadsBooleans 1 l e sc s (numberedBoolean condition)
+  unfolding numberedBoolean
+  numbered-sound condition booleans c b c′ h = undo (noted s c) _ h (λ u q e₁ w.
+      let i = booleans q b c′ w in
+      let g = noted-went s c e₁ in
+      record {
+        went = went-as (onward g (i .went)) refl (zero-add _) refl;
+        depth = i .depth;
+        allowed = i .allowed;
+        few = λ f. i .few (omega (arith, g .declared));
+      })
 
-  module _ (condition : Reader Boolean) (operand : Reader Value) where
-    module _ (booleans : ReadsBooleans l e sc s condition) (values : ReadsValues l e sc s operand) where
+  module _ (n : ℕ) (condition : Reader Boolean) (operand : Reader Value) where
+    module _ (booleans : ReadsBooleans n l e sc s condition) (values : ReadsValues l e sc s operand) where
       pub clauses-under-sound : (rest : Bool → Bool → Reader Clauses) →
-          ((b t : Bool) (c : Cursor) (cs : Clauses) (c′ : Cursor) → rest b t s c ≡ read cs c′ → ClausesSound b t c cs c′) →
+          ((b t : Bool) (c : Cursor) (cs : Clauses) (c′ : Cursor) → rest b t s c ≡ read cs c′ → ClausesSound n b t c cs c′) →
           (b t : Bool) (p : ℕ) (k : ClauseCode) (c : Cursor) → c .at ≡ p + 1 → (cs : Clauses) (c′ : Cursor) →
-          clausesUnder rest condition operand b t p k s c ≡ read cs c′ → ClausesUnderSound b t k p c cs c′
-      unfolding clausesUnder clausesBytes clausesDepth clausesConditions
+          clausesUnder rest condition operand b t p k s c ≡ read cs c′ → ClausesUnderSound n b t k p c cs c′
+      unfolding clausesUnder clausesBytes clausesDepth clausesConditions clausesContexts
       clauses-under-sound rest more b t p Clause.Boolean c a cs c′ h = needed (negation b) _ _ _ _ _ h (λ z w.
-          undo (numberedBoolean condition s c) _ w (λ x q e₁ w₁. undo (rest true t s q) _ w₁ (λ cs q₁ e₂ w₂.
-          let i = numbered-sound condition booleans c x q e₁ in
+          undo (condition s c) _ w (λ x q e₁ w₁. undo (rest true t s q) _ w₁ (λ cs q₁ e₂ w₂.
+          let i = booleans c x q e₁ in
           let j = more true t q cs q₁ e₂ in
           let there : q .at ≡ p + 1 + length (booleanBytes x) = omega (arith, i .went .place) in
-          same w₂ (λ cs c′. ClausesUnderSound b t Clause.Boolean p c cs c′) (record {
-            went = went-as (onward (i .went) (j .went)) refl refl (rw there (omega arith));
+          same w₂ (λ cs c′. ClausesUnderSound n b t Clause.Boolean p c cs c′) (record {
+            went = went-as (onward (i .went) (j .went)) refl refl (rw there (one-more n _));
             starts = refl;
             depth = λ d. omega (arith, i .depth, j .depth d);
             allowed = (not-true b z, i .allowed, j .allowed);
+            few = λ f. j .few (i .few f);
           }))))
       clauses-under-sound rest more b t p Clause.Sort c a cs c′ h = needed (negation t) _ _ _ _ _ h (λ z w.
           undo (sort operand s c) _ w (λ ks q e₁ w₁. undo (rest b true s q) _ w₁ (λ cs q₁ e₂ w₂.
           let i = sort-sound operand values c ks q e₁ in
           let j = more b true q cs q₁ e₂ in
           let there : q .at ≡ p + 2 + length (keysBytes ks) = omega (arith, i .went .place) in
-          same w₂ (λ cs c′. ClausesUnderSound b t Clause.Sort p c cs c′) (record {
-            went = went-as (onward (i .went) (j .went)) refl refl (rw there (omega arith));
+          same w₂ (λ cs c′. ClausesUnderSound n b t Clause.Sort p c cs c′) (record {
+            went = went-as (onward (i .went) (j .went)) refl refl (rw there (zero-add _));
             starts = refl;
             depth = λ d. omega (arith, i .depth d, j .depth d);
             allowed = (not-true t z, i .ranged, i .allowed, j .allowed);
+            few = λ f. j .few (i .few f);
           }))))
-      clauses-under-sound rest more b t p Clause.End c a cs c′ h = same h (λ cs c′. ClausesUnderSound b t Clause.End p c cs c′) (record {
-        went = stayed s c;
+      clauses-under-sound rest more b t p Clause.End c a cs c′ h = same h (λ cs c′. ClausesUnderSound n b t Clause.End p c cs c′) (record {
+        went = went-as (stayed s c) refl refl (sym (mul-zero n));
         starts = refl;
         depth = λ d. d;
         allowed = tt;
+        few = λ f. f;
       })
 
-      pub clauses-sound : (n : ℕ) (b t : Bool) (c : Cursor) (cs : Clauses) (c′ : Cursor) →
-          clauses n condition operand b t s c ≡ read cs c′ → ClausesSound b t c cs c′
+      pub clauses-sound : (m : ℕ) (b t : Bool) (c : Cursor) (cs : Clauses) (c′ : Cursor) →
+          clauses m condition operand b t s c ≡ read cs c′ → ClausesSound n b t c cs c′
       unfolding clauses
       clauses-sound zero b t c cs c′ h = never h
-      clauses-sound (suc n) b t c cs c′ h = undo (coded _ s c) _ h (λ k q e₁ w.
+      clauses-sound (suc m) b t c cs c′ h = undo (coded _ s c) _ h (λ k q e₁ w.
           let g = coded-went clause-due s c e₁ in
-          let i = clauses-under-sound (λ b t. clauses n condition operand b t) (clauses-sound n) b t (c .at) k q (g .place) cs c′ w in
-          record { went = coded-onward g (i .starts) (i .went); depth = i .depth; allowed = i .allowed })
+          let i = clauses-under-sound (λ b t. clauses m condition operand b t) (clauses-sound m) b t (c .at) k q (g .place) cs c′ w in
+          record {
+            went = coded-onward g (i .starts) (i .went);
+            depth = i .depth;
+            allowed = i .allowed;
+            few = λ f. i .few (omega (arith, g .declared));
+          })
 
--- ---- a whole rse
+-- ---- a whole rse, whose conditions count n each
 
-pub record RseSound (l : ℕ) (e : Environment) (sc : Scope) (s : List ℕ) (c : Cursor) (r : Rse) (c′ : Cursor) : Type 0 where
-  pub went : Went s c (rseBytes r) 0 (rseContexts r) (length (rseConditions (e .relations) sc r (c .at))) c′
+pub record RseSound (n l : ℕ) (e : Environment) (sc : Scope) (s : List ℕ) (c : Cursor) (r : Rse) (c′ : Cursor) : Type 0 where
+  pub went : Went s c (rseBytes r) 0 (rseContexts r) (n * length (rseConditions (e .relations) sc r (c .at))) c′
   pub depth : 0 < l → suc (rseDepth r) ≤ l
   pub allowed : RseAllowed e sc r
   pub few : c .contexts ≤ 32 → c′ .contexts ≤ 32
 
 -- its head, and its clauses under the contexts of its streams
-pub rse-sound : (l : ℕ) (e : Environment) (sc : Scope) (s : List ℕ) (c : Cursor) (ss : List Stream) (q : Cursor)
+pub rse-sound : (n l : ℕ) (e : Environment) (sc : Scope) (s : List ℕ) (c : Cursor) (ss : List Stream) (q : Cursor)
     (cs : Clauses) (c′ : Cursor) →
-    HeadSound (e .relations) sc s c ss q → ClausesSound l e (underStreams (e .relations) sc ss) s false false q cs c′ →
-    RseSound l e sc s c (rse ss cs) c′
+    HeadSound (e .relations) sc s c ss q → ClausesSound l e (underStreams (e .relations) sc ss) s n false false q cs c′ →
+    RseSound n l e sc s c (rse ss cs) c′
 unfolding rseBytes rseContexts rseConditions rseDepth
-rse-sound l e sc s c ss q cs c′ i j = record {
-  went = went-as (onward (i .went) (j .went)) refl (add-zero _) (rw (i .went .place) (zero-add _));
+rse-sound n l e sc s c ss q cs c′ i j = record {
+  went = went-as (onward (i .went) (j .went)) refl refl (rw (i .went .place) (zero-add _));
   depth = j .depth;
   allowed = (i .ranged, i .scoped, j .allowed);
-  few = λ f. omega (arith, i .few f, j .went .declared);
+  few = λ f. j .few (i .few f);
 }
 
 -- ---- headings: what stands after the code k

@@ -3,7 +3,7 @@ use Prim.Native.Nat.{ℕ, zero, suc, _+_, _-_, _<_, _≤_}
 use mathlib.Core.Path.{_≡_, refl, sym, ap, _∙_}
 use mathlib.Core.Bool.{false, not as negation, _&&_}
 use mathlib.Core.List.{List, [], _∷_, _++_}
-use native.Mathlib.Nat.{zero-add}
+use native.Mathlib.Nat.{add-zero, zero-add}
 use native.Mathlib.Omega.{arith}
 use lib.Dec.{eqb, ltb}
 use lib.ListN.{length, drop, length-append}
@@ -29,8 +29,8 @@ use Rattle.grammar.specs.Demands.{Octets}
 use Rattle.grammar.proofs.Went.{Went, Passed, Within, never, undo, same, needed, either, both, tested-read, peek-read, onward, went-as, went-by, within-onward, within-one, within-none, byte-went, code-went, peeked-went, counted-went}
 use Rattle.grammar.proofs.Codes.{statementCode, statement-due, coded-went}
 use Rattle.grammar.proofs.SoundReferences.{target-sound, context-went}
-use Rattle.grammar.proofs.SoundValues.{ReadsValues, ReadsBooleans, value-sound, boolean-sound}
-use Rattle.grammar.proofs.SoundRses.{HeadingSound, head-sound, numbered-sound, clauses-sound, rse-sound, plain-heading-sound, receive-heading-sound, send-heading-sound, label-heading-sound, modify-heading-sound, store-heading-sound}
+use Rattle.grammar.proofs.SoundValues.{value-sound, boolean-sound}
+use Rattle.grammar.proofs.SoundRses.{ReadsValues, ReadsBooleans, HeadingSound, head-sound, numbered-sound, clauses-sound, rse-sound, plain-heading-sound, receive-heading-sound, send-heading-sound, label-heading-sound, modify-heading-sound, store-heading-sound}
 use Rattle.grammar.proofs.SoundSequences.{ReadsStatements, ReadsReceives, many-sound, many-receives-sound}
 
 -- after the code k, which stands at p, with l levels left there
@@ -64,7 +64,7 @@ first-drop (y ∷ a) b x e = refl
 pub record InnerSound (l : ℕ) (e : Environment) (s : List ℕ) (below : Inner) : Type 0 where
   pub statement : (sc : Scope) → ReadsStatements l e sc s (below .statement sc)
   pub receive : (sc : Scope) (before : List ℕ) → ReadsReceives l e sc s before (below .receive sc before)
-  pub boolean : (sc : Scope) → ReadsBooleans l e sc s (below .boolean sc)
+  pub boolean : (sc : Scope) → ReadsBooleans 0 l e sc s (below .boolean sc)
   pub value : (sc : Scope) → ReadsValues l e sc s (below .value sc)
 
 module _ (s : List ℕ) (octets : Octets s) (e : Environment) (sc : Scope) (p : ℕ) where
@@ -108,11 +108,11 @@ module _ (s : List ℕ) (octets : Octets s) (e : Environment) (sc : Scope) (p : 
         let j = target-sound s octets e sc p q r q₁ e₂ in
         let g = onward (i .went) (j .went) in
         same w₂ (λ t c′. StatementUnderSound l e sc Assignment p s c t c′) (record {
-          went = g;
+          went = went-as g refl (add-zero _) refl;
           starts = refl;
           depth = λ d. i .depth;
           allowed = (i .allowed, j .known, j .target, z);
-          within = within-none g;
+          within = within-onward (within-one (i .went) (i .few)) (within-none (j .went));
         }))))
 
     module _ (c : Cursor) (here : c .at ≡ p + 1) where
@@ -162,16 +162,16 @@ module _ (s : List ℕ) (octets : Octets s) (e : Environment) (sc : Scope) (p : 
       unfolding forUnder underRse statementBytes statementCount contextCount conditions statementDepth
       for-sound t c′ h = undo (rseHead (e .relations) sc s c) _ h (λ ss q e₁ w.
           let sc₁ = underStreams (e .relations) sc ss in
-          undo (clauses 3 (below .boolean sc₁) (below .value sc₁) false false s q) _ w (λ cs q₁ e₂ w₁.
+          undo (clauses 3 (numberedBoolean (below .boolean sc₁)) (below .value sc₁) false false s q) _ w (λ cs q₁ e₂ w₁.
           undo (below .statement sc₁ s q₁) _ w₁ (λ a q₂ e₃ w₂.
-          let i = rse-sound l e sc s c ss q cs q₁ (head-sound s octets (e .relations) sc c ss q e₁)
-          (clauses-sound l e sc₁ s (below .boolean sc₁) (below .value sc₁) (sound .boolean sc₁) (sound .value sc₁)
-          3 false false q cs q₁ e₂) in
+          let i = rse-sound 1 l e sc s c ss q cs q₁ (head-sound s octets (e .relations) sc c ss q e₁)
+          (clauses-sound l e sc₁ s 1 (numberedBoolean (below .boolean sc₁)) (below .value sc₁)
+          (numbered-sound l e sc₁ s (below .boolean sc₁) (sound .boolean sc₁)) (sound .value sc₁) 3 false false q cs q₁ e₂) in
           let j = sound .statement sc₁ q₁ a q₂ e₃ in
           let there : q₁ .at ≡ p + 1 + length (rseBytes (rse ss cs)) = omega (arith, i .went .place) in
           same w₂ (λ t c′. StatementUnderSound l e sc For p s c t c′) (record {
             went = went-as (onward (i .went) (j .went)) (omega arith) refl
-                (rw (here, there, length-append (rseConditions (e .relations) sc (rse ss cs) (p + 1))));
+                (rw (here, there, length-append (rseConditions (e .relations) sc (rse ss cs) (p + 1))) (omega arith));
             starts = refl;
             depth = λ d. omega (arith, i .depth d, j .depth);
             allowed = (i .allowed, j .allowed);
@@ -195,7 +195,7 @@ module _ (s : List ℕ) (octets : Octets s) (e : Environment) (sc : Scope) (p : 
             starts = refl;
             depth = λ d. omega (arith, i .depth, j .depth);
             allowed = (i .allowed, j .allowed);
-            within = within-onward (within-none (i .went)) (within-onward (j .within) (within-none g));
+            within = within-onward (within-one (i .went) (i .few)) (within-onward (j .within) (within-none g));
           })))
           (λ z v. undo (below .statement sc s q₂) _ v (λ d q₃ e₄ v₁.
           let m = sound .statement sc q₁ d q₃ (rw (peek-read s q₁ e₃ .0) at e₄) in
@@ -204,7 +204,7 @@ module _ (s : List ℕ) (octets : Octets s) (e : Environment) (sc : Scope) (p : 
             starts = refl;
             depth = λ d. omega (arith, i .depth, j .depth, m .depth);
             allowed = (i .allowed, j .allowed, m .allowed);
-            within = within-onward (within-none (i .went)) (within-onward (j .within) (m .within));
+            within = within-onward (within-one (i .went) (i .few)) (within-onward (j .within) (m .within));
           }))))))
 
       pub statement-under-sound : (k : StatementCode) (t : Statement) (c′ : Cursor) → statementUnder below e sc p k s c ≡ read t c′ →

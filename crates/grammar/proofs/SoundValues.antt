@@ -1,5 +1,5 @@
 -- Values and booleans that were read: their bytes are those of the grammar, and the rules allow them.
-use Prim.Native.Nat.{ℕ, zero, suc, _<_, _≤_, max}
+use Prim.Native.Nat.{ℕ, zero, suc, _+_, _<_, _≤_, max}
 use mathlib.Core.Path.{_≡_, refl}
 use mathlib.Core.Bool.{Bool, true}
 use mathlib.Core.List.{List, _∷_, _++_}
@@ -19,39 +19,45 @@ use Rattle.grammar.specs.Tree.{Literal, Reference, Value, arithmetic, ne
 use Rattle.grammar.specs.Bytes.{valueBytes, booleanBytes}
 use Rattle.grammar.specs.Names.{Environment, Scope}
 use Rattle.grammar.specs.Kinds.{kindOf, oneKind, bothText, allOneKind}
-use Rattle.grammar.specs.Sizes.{valueDepth, booleanDepth}
+use Rattle.grammar.specs.Sizes.{valueDepth, booleanDepth, valueContexts, booleanContexts}
 use Rattle.grammar.specs.Rules.{ValueAllowed, BooleanAllowed}
 use Rattle.grammar.specs.Reader.{read, onRead, Reader, need, coded}
-use Rattle.grammar.specs.Values.{readLiteral, readReference, valueUnder, readValue, booleanUnder, readBoolean}
+use Rattle.grammar.specs.Values.{readLiteral, readReference, Operands, operands, valueUnder, readValue, booleanUnder, readBoolean}
 use Rattle.grammar.specs.Demands.{Octets}
-use Rattle.grammar.proofs.Went.{Passed, never, undo, same, needed, onward, coded-onward}
+use Rattle.grammar.proofs.Went.{Went, never, undo, same, needed, onward, coded-onward}
 use Rattle.grammar.proofs.Codes.{valueCode, booleanCode, value-due, boolean-due, coded-went}
 use Rattle.grammar.proofs.SoundReferences.{literal-sound, reference-sound}
+use Rattle.grammar.proofs.SoundRses.{ReadsValues, ReadsBooleans}
 
--- ---- values; the levels left, l, are one more than those that the value may take
-
-pub record ValueSound (l : ℕ) (e : Environment) (sc : Scope) (s : List ℕ) (c : Cursor) (v : Value) (c′ : Cursor) : Type 0 where
-  pub went : Passed s c (valueBytes v) c′
-  pub depth : suc (valueDepth v) ≤ l
-  pub allowed : ValueAllowed e sc v
-
--- a reader of values that is sound
-abbrev pub ReadsValues : ℕ → Environment → Scope → List ℕ → Reader Value → Type 0
-ReadsValues l e sc s reader = (c : Cursor) (v : Value) (c′ : Cursor) → reader s c ≡ read v c′ → ValueSound l e sc s c v c′
+-- readers of booleans and values, one level down, that are sound
+pub record OperandsSound (l : ℕ) (e : Environment) (s : List ℕ) (below : Operands) : Type 0 where
+  pub boolean : (sc : Scope) → ReadsBooleans 0 l e sc s (below .boolean sc)
+  pub value : (sc : Scope) → ReadsValues l e sc s (below .value sc)
 
 -- what stands after the code k, with l levels left there
 pub record ValueUnderSound (l : ℕ) (e : Environment) (sc : Scope) (k : ValueCode) (s : List ℕ) (c : Cursor) (v : Value) (c′ : Cursor)
     : Type 0 where
-  pub went : Passed s c (drop 1 (valueBytes v)) c′
+  pub went : Went s c (drop 1 (valueBytes v)) 0 (valueContexts v) 0 c′
   pub starts : valueBytes v ≡ valueCode k ∷ drop 1 (valueBytes v)
   pub depth : 0 < l → valueDepth v ≤ l
   pub allowed : ValueAllowed e sc v
+  pub few : c .contexts ≤ 32 → c′ .contexts ≤ 32
 
-module _ (s : List ℕ) (octets : Octets s) (e : Environment) (sc : Scope) where
-  module _ (inner : Reader Value) (l : ℕ) (values : ReadsValues l e sc s inner) (p : ℕ) where
-    pub value-under-sound : (k : ValueCode) (c : Cursor) (v : Value) (c′ : Cursor) → valueUnder inner e sc p k s c ≡ read v c′ →
+pub record BooleanUnderSound (l : ℕ) (e : Environment) (sc : Scope) (k : BooleanCode) (s : List ℕ) (c : Cursor) (b : Boolean) (c′ : Cursor)
+    : Type 0 where
+  pub went : Went s c (drop 1 (booleanBytes b)) 0 (booleanContexts b) 0 c′
+  pub starts : booleanBytes b ≡ booleanCode k ∷ drop 1 (booleanBytes b)
+  pub depth : 0 < l → booleanDepth b ≤ l
+  pub allowed : BooleanAllowed e sc b
+  pub few : c .contexts ≤ 32 → c′ .contexts ≤ 32
+
+module _ (s : List ℕ) (octets : Octets s) (e : Environment) (below : Operands) (l : ℕ) (sound : OperandsSound l e s below) where
+  module _ (sc : Scope) (p : ℕ) where
+    -- ---- values
+
+    pub value-under-sound : (k : ValueCode) (c : Cursor) (v : Value) (c′ : Cursor) → valueUnder below e sc p k s c ≡ read v c′ →
         ValueUnderSound l e sc k s c v c′
-    unfolding valueUnder valueBytes valueDepth
+    unfolding valueUnder valueBytes valueDepth valueContexts
     value-under-sound Code.Literal c v c′ h = undo (readLiteral s c) _ h (λ x q e₁ w.
         let i = literal-sound s octets c x q e₁ in
         same w (λ v c′. ValueUnderSound l e sc Code.Literal s c v c′) (record {
@@ -59,6 +65,7 @@ module _ (s : List ℕ) (octets : Octets s) (e : Environment) (sc : Scope) where
           starts = refl;
           depth = λ d. omega arith;
           allowed = i .ranged;
+          few = λ f. omega (arith, i .went .declared);
         }))
     value-under-sound (Code.Reference k) c v c′ h = undo (readReference e sc AsValue p k s c) _ h (λ r q e₁ w.
         let i = reference-sound s octets e sc AsValue p k c r q e₁ in
@@ -67,130 +74,139 @@ module _ (s : List ℕ) (octets : Octets s) (e : Environment) (sc : Scope) where
           starts = i .starts;
           depth = λ d. omega arith;
           allowed = (i .known, i .fits);
+          few = λ f. omega (arith, i .went .declared);
         }))
-    value-under-sound (Code.Arithmetic o) c v c′ h = undo (inner s c) _ h (λ a q e₁ w. undo (inner s q) _ w (λ b q₁ e₂ w₁.
-        needed (isSome (kindOf e sc (arithmetic o a b))) _ _ _ _ _ w₁ (λ t w₂.
-        let i = values c a q e₁ in
-        let j = values q b q₁ e₂ in
+    value-under-sound (Code.Arithmetic o) c v c′ h = undo (below .value sc s c) _ h (λ a q e₁ w.
+        undo (below .value sc s q) _ w (λ b q₁ e₂ w₁. needed (isSome (kindOf e sc (arithmetic o a b))) _ _ _ _ _ w₁ (λ t w₂.
+        let i = sound .value sc c a q e₁ in
+        let j = sound .value sc q b q₁ e₂ in
         same w₂ (λ v c′. ValueUnderSound l e sc (Code.Arithmetic o) s c v c′) (record {
           went = onward (i .went) (j .went);
           starts = refl;
           depth = λ d. omega (arith, i .depth, j .depth);
           allowed = (i .allowed, j .allowed, t);
+          few = λ f. j .few (i .few f);
         }))))
-    value-under-sound Code.Negate c v c′ h = undo (inner s c) _ h (λ a q e₁ w.
+    value-under-sound Code.Negate c v c′ h = undo (below .value sc s c) _ h (λ a q e₁ w.
         needed (isSome (kindOf e sc (negate a))) _ _ _ _ _ w (λ t w₁.
-        let i = values c a q e₁ in
+        let i = sound .value sc c a q e₁ in
         same w₁ (λ v c′. ValueUnderSound l e sc Code.Negate s c v c′) (record {
           went = i .went;
           starts = refl;
           depth = λ d. omega (arith, i .depth);
           allowed = (i .allowed, t);
+          few = i .few;
         })))
 
-  pub value-sound : (l : ℕ) → ReadsValues l e sc s (readValue l e sc)
-  unfolding readValue
-  value-sound zero c v c′ h = never h
-  value-sound (suc l) c v c′ h = undo (coded _ s c) _ h (λ k q e₁ w. needed (ltb 0 l) _ _ _ _ _ w (λ t w₁.
-      let i = value-under-sound (readValue l e sc) l (value-sound l) (c .at) k q v c′ w₁ in
-      record {
-        went = coded-onward (coded-went value-due s c e₁) (i .starts) (i .went);
-        depth = omega (arith, i .depth (ltb-true 0 l t));
-        allowed = i .allowed;
-      }))
+    -- ---- booleans
 
--- ---- booleans
-
-pub record BooleanSound (l : ℕ) (e : Environment) (sc : Scope) (s : List ℕ) (c : Cursor) (b : Boolean) (c′ : Cursor) : Type 0 where
-  pub went : Passed s c (booleanBytes b) c′
-  pub depth : suc (booleanDepth b) ≤ l
-  pub allowed : BooleanAllowed e sc b
-
-abbrev pub ReadsBooleans : ℕ → Environment → Scope → List ℕ → Reader Boolean → Type 0
-ReadsBooleans l e sc s reader = (c : Cursor) (b : Boolean) (c′ : Cursor) → reader s c ≡ read b c′ → BooleanSound l e sc s c b c′
-
-pub record BooleanUnderSound (l : ℕ) (e : Environment) (sc : Scope) (k : BooleanCode) (s : List ℕ) (c : Cursor) (b : Boolean) (c′ : Cursor)
-    : Type 0 where
-  pub went : Passed s c (drop 1 (booleanBytes b)) c′
-  pub starts : booleanBytes b ≡ booleanCode k ∷ drop 1 (booleanBytes b)
-  pub depth : booleanDepth b ≤ l
-  pub allowed : BooleanAllowed e sc b
-
-module _ (s : List ℕ) (e : Environment) (sc : Scope) (inner : Reader Boolean) (operand : Reader Value) (l : ℕ) where
-  module _ (booleans : ReadsBooleans l e sc s inner) (values : ReadsValues l e sc s operand) (p : ℕ) where
     -- two values and a test of both
     two-operands : (k : BooleanCode) (made : Value → Value → Boolean) (test : Value → Value → Bool) →
         ((x y : Value) → booleanBytes (made x y) ≡ booleanCode k ∷ valueBytes x ++ valueBytes y) →
         ((x y : Value) → booleanDepth (made x y) ≡ suc (max (valueDepth x) (valueDepth y))) →
+        ((x y : Value) → booleanContexts (made x y) ≡ valueContexts x + valueContexts y) →
         ((x y : Value) → ValueAllowed e sc x → ValueAllowed e sc y → test x y ≡ true → BooleanAllowed e sc (made x y)) →
         (c : Cursor) (b : Boolean) (c′ : Cursor) →
-        onRead (operand s c) (λ x q. onRead (operand s q) (λ y q₁. onRead (need (test x y) Unfit p s q₁) (λ u q₂. read (made x y) q₂)))
-        ≡ read b c′ → BooleanUnderSound l e sc k s c b c′
-    two-operands k made test bytes depths rules c b c′ h = undo (operand s c) _ h (λ x q e₁ w. undo (operand s q) _ w (λ y q₁ e₂ w₁.
-        needed (test x y) _ _ _ _ _ w₁ (λ t w₂.
-        let i = values c x q e₁ in
-        let j = values q y q₁ e₂ in
+        onRead (below .value sc s c) (λ x q. onRead (below .value sc s q) (λ y q₁. onRead (need (test x y) Unfit p s q₁)
+        (λ u q₂. read (made x y) q₂))) ≡ read b c′ → BooleanUnderSound l e sc k s c b c′
+    two-operands k made test bytes depths counts rules c b c′ h = undo (below .value sc s c) _ h (λ x q e₁ w.
+        undo (below .value sc s q) _ w (λ y q₁ e₂ w₁. needed (test x y) _ _ _ _ _ w₁ (λ t w₂.
+        let i = sound .value sc c x q e₁ in
+        let j = sound .value sc q y q₁ e₂ in
         same w₂ (λ b c′. BooleanUnderSound l e sc k s c b c′) (record {
-          went = rw (bytes x y) (onward (i .went) (j .went));
+          went = rw (bytes x y, counts x y) (onward (i .went) (j .went));
           starts = rw (bytes x y);
-          depth = omega (arith, depths x y, i .depth, j .depth);
+          depth = λ d. omega (arith, depths x y, i .depth, j .depth);
           allowed = rules x y (i .allowed) (j .allowed) t;
+          few = λ f. j .few (i .few f);
         }))))
 
     pub boolean-under-sound : (k : BooleanCode) (c : Cursor) (b : Boolean) (c′ : Cursor) →
-        booleanUnder inner operand e sc p k s c ≡ read b c′ → BooleanUnderSound l e sc k s c b c′
-    unfolding booleanUnder booleanBytes booleanDepth
+        booleanUnder below e sc p k s c ≡ read b c′ → BooleanUnderSound l e sc k s c b c′
+    unfolding booleanUnder booleanBytes booleanDepth booleanContexts
     boolean-under-sound (Compare k) c b c′ h = two-operands (Compare k) (compare k) (λ x y. oneKind (kindOf e sc x) (kindOf e sc y))
-        (λ x y. refl) (λ x y. refl) (λ x y a d t. (a, d, t)) c b c′ h
+        (λ x y. refl) (λ x y. refl) (λ x y. refl) (λ x y a d t. (a, d, t)) c b c′ h
     boolean-under-sound (Search k) c b c′ h = two-operands (Search k) (search k) (λ x y. bothText (kindOf e sc x) (kindOf e sc y))
-        (λ x y. refl) (λ x y. refl) (λ x y a d t. (a, d, t)) c b c′ h
-    boolean-under-sound Between c b c′ h =
-        undo (operand s c) _ h (λ x q e₁ w. undo (operand s q) _ w (λ y q₁ e₂ w₁. undo (operand s q₁) _ w₁ (λ z q₂ e₃ w₂.
+        (λ x y. refl) (λ x y. refl) (λ x y. refl) (λ x y a d t. (a, d, t)) c b c′ h
+    boolean-under-sound Between c b c′ h = undo (below .value sc s c) _ h (λ x q e₁ w. undo (below .value sc s q) _ w (λ y q₁ e₂ w₁.
+        undo (below .value sc s q₁) _ w₁ (λ z q₂ e₃ w₂.
         needed (allOneKind (kindOf e sc x) (kindOf e sc y) (kindOf e sc z)) _ _ _ _ _ w₂ (λ t w₃.
-        let i = values c x q e₁ in
-        let j = values q y q₁ e₂ in
-        let k = values q₁ z q₂ e₃ in
+        let i = sound .value sc c x q e₁ in
+        let j = sound .value sc q y q₁ e₂ in
+        let k = sound .value sc q₁ z q₂ e₃ in
         same w₃ (λ b c′. BooleanUnderSound l e sc Between s c b c′) (record {
           went = onward (onward (i .went) (j .went)) (k .went);
           starts = refl;
-          depth = omega (arith, i .depth, j .depth, k .depth);
+          depth = λ d. omega (arith, i .depth, j .depth, k .depth);
           allowed = (i .allowed, j .allowed, k .allowed, t);
+          few = λ f. k .few (j .few (i .few f));
         })))))
-    boolean-under-sound (Connect k) c b c′ h = undo (inner s c) _ h (λ x q e₁ w. undo (inner s q) _ w (λ y q₁ e₂ w₁.
-        let i = booleans c x q e₁ in
-        let j = booleans q y q₁ e₂ in
+    boolean-under-sound (Connect k) c b c′ h = undo (below .boolean sc s c) _ h (λ x q e₁ w.
+        undo (below .boolean sc s q) _ w (λ y q₁ e₂ w₁.
+        let i = sound .boolean sc c x q e₁ in
+        let j = sound .boolean sc q y q₁ e₂ in
         same w₁ (λ b c′. BooleanUnderSound l e sc (Connect k) s c b c′) (record {
           went = onward (i .went) (j .went);
           starts = refl;
-          depth = omega (arith, i .depth, j .depth);
+          depth = λ d. omega (arith, i .depth, j .depth);
           allowed = (i .allowed, j .allowed);
+          few = λ f. j .few (i .few f);
         })))
-    boolean-under-sound Not c b c′ h = undo (inner s c) _ h (λ x q e₁ w.
-        let i = booleans c x q e₁ in
+    boolean-under-sound Not c b c′ h = undo (below .boolean sc s c) _ h (λ x q e₁ w.
+        let i = sound .boolean sc c x q e₁ in
         same w (λ b c′. BooleanUnderSound l e sc Not s c b c′) (record {
           went = i .went;
           starts = refl;
-          depth = i .depth;
+          depth = λ d. i .depth;
           allowed = i .allowed;
+          few = i .few;
         }))
-    boolean-under-sound Missing c b c′ h = undo (operand s c) _ h (λ x q e₁ w.
-        let i = values c x q e₁ in
+    boolean-under-sound Missing c b c′ h = undo (below .value sc s c) _ h (λ x q e₁ w.
+        let i = sound .value sc c x q e₁ in
         same w (λ b c′. BooleanUnderSound l e sc Missing s c b c′) (record {
           went = i .went;
           starts = refl;
-          depth = i .depth;
+          depth = λ d. i .depth;
           allowed = i .allowed;
+          few = i .few;
         }))
 
-module _ (s : List ℕ) (octets : Octets s) (e : Environment) (sc : Scope) where
-  pub boolean-sound : (l : ℕ) → ReadsBooleans l e sc s (readBoolean l e sc)
-  unfolding readBoolean
-  boolean-sound zero c b c′ h = never h
-  boolean-sound (suc l) c b c′ h = undo (coded _ s c) _ h (λ k q e₁ w. needed (ltb 0 l) _ _ _ _ _ w (λ t w₁.
-      let i = boolean-under-sound s e sc (readBoolean l e sc) (readValue l e sc) l (boolean-sound l) (value-sound s octets e sc l)
-      (c .at) k q b c′ w₁ in
-      record {
-        went = coded-onward (coded-went boolean-due s c e₁) (i .starts) (i .went);
-        depth = omega (arith, i .depth);
-        allowed = i .allowed;
-      }))
+-- ---- with the code, by the levels left
+
+module _ (s : List ℕ) (octets : Octets s) (e : Environment) where
+  -- the readers with l levels left
+  abbrev atLevel : ℕ → Operands
+  atLevel l = operands (λ x. readBoolean l e x) (λ x. readValue l e x)
+
+  both-sound : (l : ℕ) → ((sc : Scope) → ReadsBooleans 0 l e sc s (readBoolean l e sc)) →
+      ((sc : Scope) → ReadsValues l e sc s (readValue l e sc)) → OperandsSound l e s (atLevel l)
+  both-sound l booleans values = record { boolean = booleans; value = values }
+
+  mutual
+    unfolding readValue readBoolean
+
+    pub value-sound : (sc : Scope) (l : ℕ) → ReadsValues l e sc s (readValue l e sc)
+    value-sound sc zero c v c′ h = never h
+    value-sound sc (suc l) c v c′ h = undo (coded _ s c) _ h (λ k q e₁ w. needed (ltb 0 l) _ _ _ _ _ w (λ t w₁.
+        let below = both-sound l (λ x c b c′ h. boolean-sound x l c b c′ h) (λ x c v c′ h. value-sound x l c v c′ h) in
+        let g = coded-went value-due s c e₁ in
+        let i = value-under-sound s octets e (atLevel l) l below sc (c .at) k q v c′ w₁ in
+        record {
+          went = coded-onward g (i .starts) (i .went);
+          depth = omega (arith, i .depth (ltb-true 0 l t));
+          allowed = i .allowed;
+          few = λ f. i .few (omega (arith, g .declared));
+        }))
+
+    pub boolean-sound : (sc : Scope) (l : ℕ) → ReadsBooleans 0 l e sc s (readBoolean l e sc)
+    boolean-sound sc zero c b c′ h = never h
+    boolean-sound sc (suc l) c b c′ h = undo (coded _ s c) _ h (λ k q e₁ w. needed (ltb 0 l) _ _ _ _ _ w (λ t w₁.
+        let below = both-sound l (λ x c b c′ h. boolean-sound x l c b c′ h) (λ x c v c′ h. value-sound x l c v c′ h) in
+        let g = coded-went boolean-due s c e₁ in
+        let i = boolean-under-sound s octets e (atLevel l) l below sc (c .at) k q b c′ w₁ in
+        record {
+          went = coded-onward g (i .starts) (i .went);
+          depth = omega (arith, i .depth (ltb-true 0 l t));
+          allowed = i .allowed;
+          few = λ f. i .few (omega (arith, g .declared));
+        }))

@@ -12,6 +12,7 @@ pub mod Rows
 pub mod Conditions
 pub mod Reader
 pub mod Messages
+pub mod Rses
 pub mod Values
 pub mod Statements
 pub mod Reading

@@ -2,7 +2,7 @@
 use Prim.Native.Nat.{ℕ, _+_, _-_, _*_, _<_}
 use mathlib.Core.Path.{_≡_, refl, sym, ap, _∙_}
 use mathlib.Core.Bool.{false}
-use mathlib.Core.List.{List, [], _∷_, _++_, map-append}
+use mathlib.Core.List.{List, [], _∷_, _++_, append-assoc, map-append}
 use native.Mathlib.Omega.{arith}
 use lib.ListN.{length, length-map, length-append}
 use lib.Seq.{sets}
@@ -21,17 +21,18 @@ use Rattle.grammar.specs.Tree.{Heading, loop, handler, rse, for, headed}
 use Rattle.grammar.specs.Bytes.{headBytes, rseBytes, headingBytes, clausesBytes, statementBytes}
 use Rattle.grammar.specs.Names.{Environment, Scope, underStreams, underRse, underHeading}
 use Rattle.grammar.specs.Sizes.{headingContexts}
-use Rattle.grammar.specs.Rows.{size, streamRows, rseRows, headingRows, statementRows, contextRows}
+use Rattle.grammar.specs.Rows.{size, streamRows, clausesRows, rseRows, headingRows, statementRows, contextRows}
 use Rattle.grammar.specs.Conditions.{clausesConditions, rseConditions, conditions}
 use Rattle.grammar.specs.Reader.{read}
 use Rattle.grammar.specs.Values.{readValue, readBoolean}
-use Rattle.grammar.specs.Statements.{rseHead, clauses, forUnder, headedUnder, statementUnder, readStatement}
+use Rattle.grammar.specs.Statements.{rseHead, numberedBoolean, clauses, forUnder, headedUnder, statementUnder, readStatement}
 use Rattle.grammar.specs.Steps.{noKind}
 use Rattle.grammar.specs.Demands.{Octets}
 use Rattle.grammar.proofs.Went.{never}
-use Rattle.grammar.proofs.SoundRses.{HeadingSound, head-sound, clauses-sound, plain-heading-sound, receive-heading-sound, send-heading-sound, label-heading-sound, modify-heading-sound, store-heading-sound}
+use Rattle.grammar.proofs.SoundRses.{HeadingSound, head-sound, numbered-sound, clauses-sound, plain-heading-sound, receive-heading-sound, send-heading-sound, label-heading-sound, modify-heading-sound, store-heading-sound}
 use Rattle.grammar.proofs.SoundValues.{value-sound, boolean-sound}
 use Rattle.grammar.proofs.SoundStatements.{statement-sound}
+use Rattle.grammar.proofs.RowCounts.{clauses-rows}
 use Rattle.scopes.specs.declared.scope.Scope as Scopes
 use Rattle.scopes.specs.Scopes.{scopeOf}
 use Rattle.reader.specs.declared.opening.Opened.{Opened}
@@ -128,8 +129,8 @@ module _ (s : List ℕ) (octets : Octets s) (e : Environment) (sc : Scope) (l p 
     (w : Opens (rseHead (e .relations) sc s c) d ct (c .contexts) (λ ss. streamRows (e .relations) ss (c .at + 2) 0 0) (λ ss. underStreams (e .relations) sc ss)
     length scope ct₁ o) where
   pub for-wrote : {st nd st₁ ct₂ nd₁ st₂ ct₃ nd₂ ct₄ : List ℕ} {a r : Step} →
-      From (o .step) (clauses 3 (readBoolean l e (scopeOf d (o .scope))) (readValue l e (scopeOf d (o .scope))) false false s) noKind
-      (clausesTables (scopeOf d (o .scope))) (tables st ct₁ nd) (tables st₁ ct₂ nd₁) a →
+      From (o .step) (clauses 3 (numberedBoolean (readBoolean l e (scopeOf d (o .scope)))) (readValue l e (scopeOf d (o .scope))) false false s) noKind
+      (clausesTables e (scopeOf d (o .scope))) (tables st ct₁ nd) (tables st₁ ct₂ nd₁) a →
       From a (readStatement l e (scopeOf d (o .scope)) s) noKind
       (λ q t. statementTables (e .relations) (scopeOf d (o .scope)) t (q .at) (q .statements) (c .statements)) (tables st₁ ct₂ nd₁) (tables st₂ ct₃ nd₂) r →
       ct₄ ≡ closedAfter ct₃ (c .contexts) (o .step) r →
@@ -143,12 +144,12 @@ module _ (s : List ℕ) (octets : Octets s) (e : Environment) (sc : Scope) (l p 
       let i = head-sound s octets (e .relations) sc c ss q y .went in
       let w₁ = rw se at (wc .goes Fit.NoKind q oe) in
       let sc₁ = underStreams (e .relations) sc ss in
-      by-read (clauses 3 (readBoolean l e (underStreams (e .relations) sc ss)) (readValue l e (underStreams (e .relations) sc ss)) false false s q)
+      by-read (clauses 3 (numberedBoolean (readBoolean l e (underStreams (e .relations) sc ss))) (readValue l e (underStreams (e .relations) sc ss)) false false s q)
       (λ cs q₁ y₁.
-      let j = clauses-sound l e sc₁ s (readBoolean l e sc₁) (readValue l e sc₁) (boolean-sound s octets e sc₁ l) (value-sound s octets e sc₁ l)
-      3 false false q cs q₁ y₁ .went in
+      let j = clauses-sound l e sc₁ s 1 (numberedBoolean (readBoolean l e sc₁)) (readValue l e sc₁)
+      (numbered-sound l e sc₁ s (readBoolean l e sc₁) (boolean-sound s octets e sc₁ l)) (value-sound s octets e sc₁ l) 3 false false q cs q₁ y₁ .went in
       let ae : a ≡ Step.Next Fit.NoKind q₁ = w₁ .answer ∙ rw y₁ in
-      let ve : tables st₁ ct₂ nd₁ ≡ laid (tables st ct₁ nd) q (clausesTables sc₁ q cs) = rw y₁ at (w₁ .filled) in
+      let ve : tables st₁ ct₂ nd₁ ≡ laid (tables st ct₁ nd) q (clausesTables e sc₁ q cs) = rw y₁ at (w₁ .filled) in
       let w₂ = rw se at (ws .goes Fit.NoKind q₁ ae) in
       by-read (readStatement l e (underStreams (e .relations) sc ss) s q₁)
       (λ t q₂ y₂.
@@ -161,16 +162,20 @@ module _ (s : List ℕ) (octets : Octets s) (e : Environment) (sc : Scope) (l p 
       let same₁ : q₁ .statements ≡ c .statements = omega (arith, i .counted, j .counted) in
       let same₂ : q .conditions ≡ c .conditions = omega (arith, i .noted) in
       let more : q .contexts - c .contexts ≡ length ss = omega (arith, i .declared) in
-      let rows : q₁ .contexts * 5 ≡ c .contexts * 5 + length (streamRows (e .relations) ss (c .at + 2) 0 0) =
-      omega (arith, i .declared, j .declared, stream-rows-length (e .relations) ss (c .at + 2) 0 0) in
+      let own = streamRows (e .relations) ss (c .at + 2) 0 0 in
+      let inner = clausesRows (e .relations) sc₁ cs (q .at) in
+      let last = contextRows (e .relations) sc₁ t (q₁ .at) in
+      let rows : q .contexts * 5 ≡ c .contexts * 5 + length own =
+      omega (arith, i .declared, stream-rows-length (e .relations) ss (c .at + 2) 0 0) in
+      let rows₁ : q₁ .contexts * 5 ≡ q .contexts * 5 + length inner = omega (arith, j .declared, clauses-rows (e .relations) sc₁ cs (q .at)) in
       let marks : q₁ .conditions ≡ q .conditions + length (places (clausesConditions sc₁ cs (q .at))) =
       omega (arith, j .noted, length-map (clausesConditions sc₁ cs (q .at)) (λ x. x .place)) in
-      let below = contextRows (e .relations) sc₁ t (q₁ .at) in
-      let opened : ct₃ ≡ sets ct (c .contexts * 5) (streamRows (e .relations) ss (c .at + 2) 0 0 ++ below) =
-      ap (λ (z : Tables). z .contexts) ue ∙ rw (ap (λ (z : Tables). z .contexts) ve, te, rows)
-      (sym (sets-append (streamRows (e .relations) ss (c .at + 2) 0 0) below ct (c .contexts * 5))) in
-      let shut : ct₄ ≡ sets ct (c .contexts * 5) (streamRows (e .relations) ss (c .at + 2) (q .at) (q₂ .at) ++ below) =
-      ce ∙ rw (oe, re, more, opened) (streams-closed (e .relations) ss (c .at + 2) (q .at) (q₂ .at) ct below (c .contexts)) in
+      let both : ct₃ ≡ sets ct₁ (q .contexts * 5) (inner ++ last) =
+      ap (λ (z : Tables). z .contexts) ue ∙ rw (ap (λ (z : Tables). z .contexts) ve, rows₁) (sym (sets-append inner last ct₁ (q .contexts * 5))) in
+      let opened : ct₃ ≡ sets ct (c .contexts * 5) (own ++ (inner ++ last)) =
+      both ∙ rw (te, rows) (sym (sets-append own (inner ++ last) ct (c .contexts * 5))) in
+      let shut : ct₄ ≡ sets ct (c .contexts * 5) (streamRows (e .relations) ss (c .at + 2) (q .at) (q₂ .at) ++ (inner ++ last)) =
+      ce ∙ rw (oe, re, more, opened) (streams-closed (e .relations) ss (c .at + 2) (q .at) (q₂ .at) ct (inner ++ last) (c .contexts)) in
       let s₁ : st₂ ≡ sets st (c .statements * 4) (statementRows t (q₁ .at) (c .statements) (c .statements)) =
       ap (λ (z : Tables). z .statements) ue ∙ rw (ap (λ (z : Tables). z .statements) ve, same₁) in
       let n₁ : nd₂ ≡ sets nd (c .conditions) (places (clausesConditions sc₁ cs (q .at)) ++ places (conditions (e .relations) sc₁ t (q₁ .at))) =
@@ -187,6 +192,7 @@ module _ (s : List ℕ) (octets : Octets s) (e : Environment) (sc : Scope) (l p 
         head,
         here,
         length-append (headBytes ss) (clausesBytes cs),
+        append-assoc (streamRows (e .relations) ss (p + 1 + 2) (p + 1 + length (headBytes ss)) _) _ _,
         map-append (λ x. x .place) (clausesConditions sc₁ cs (p + 1 + length (headBytes ss))) _,
       ))))
       (λ n k y₂.

@@ -14,12 +14,12 @@ use mathlib.Core.Bool.{Bool}
 use Rattle.wire.specs.Classes.{directionClass}
 use Rattle.grammar.specs.Reader.{Read, read, coded}
 use Rattle.grammar.specs.Values.{readValue, readBoolean}
-use Rattle.grammar.specs.Statements.{keys, clauses, readStatement}
+use Rattle.grammar.specs.Statements.{keys, numberedBoolean, clauses, readStatement}
 use Rattle.grammar.specs.Demands.{Octets}
 use Rattle.grammar.proofs.StepLaws.{step-read}
-use Rattle.grammar.proofs.Went.{Passed, inside}
+use Rattle.grammar.proofs.Went.{Went, Passed, inside}
 use Rattle.grammar.proofs.SoundValues.{value-sound, boolean-sound}
-use Rattle.grammar.proofs.SoundRses.{keys-sound, clauses-sound}
+use Rattle.grammar.proofs.SoundRses.{keys-sound, numbered-sound, clauses-sound}
 use Rattle.grammar.proofs.SoundStatements.{statement-sound}
 use Rattle.grammar.proofs.Codes.{direction-due, coded-went}
 use Rattle.reader.proofs.Laid.{clauses-few, conditions-within}
@@ -55,29 +55,43 @@ passed-onward w f = record {
   more = omega (arith, w .declared);
 }
 
+-- with contexts opened, and no statement or condition
+pub opened-onward : {s : List ℕ} {c q : Cursor} {bs : List ℕ} {n : ℕ} → Went s c bs 0 n 0 q → (c .contexts ≤ 32 → q .contexts ≤ 32) → Fine s c → Onward s c q
+opened-onward w few f = record {
+  fine = record {
+    inside = inside w (f .inside);
+    statements-few = omega (arith, w .counted, f .statements-few);
+    contexts-few = few (f .contexts-few);
+    conditions-few = omega (arith, w .noted, w .place, f .conditions-few);
+  };
+  more = omega (arith, w .declared);
+}
+
 module _ (s : List ℕ) (octets : Octets s) (e : Environment) (sc : Names.Scope) (l : ℕ) where
   pub value-onward : Onwards s (readValue l e sc s)
-  value-onward c v q f h = passed-onward (value-sound s octets e sc l c v q h .went) f
+  value-onward c v q f h = let i = value-sound s octets e sc l c v q h in opened-onward (i .went) (i .few) f
 
   pub boolean-onward : Onwards s (readBoolean l e sc s)
-  boolean-onward c b q f h = passed-onward (boolean-sound s octets e sc l c b q h .went) f
+  boolean-onward c b q f h = let i = boolean-sound s octets e sc l c b q h in opened-onward (i .went) (i .few) f
 
 pub direction-onward : (s : List ℕ) → Onwards s (coded directionClass s)
 direction-onward s c k q f h = passed-onward (coded-went direction-due s c h) f
 
 module _ (s : List ℕ) (octets : Octets s) (e : Environment) (sc : Names.Scope) (l : ℕ) where
   pub keys-onward : (n : ℕ) → Onwards s (keys n (readValue l e sc) s)
-  keys-onward n c ks q f h = passed-onward (keys-sound l e sc s (readValue l e sc) (value-sound s octets e sc l) n c ks q h .went) f
+  keys-onward n c ks q f h =
+      let i = keys-sound l e sc s (readValue l e sc) (value-sound s octets e sc l) n c ks q h in opened-onward (i .went) (i .few) f
 
-  pub clauses-onward : (n : ℕ) (such sorted : Bool) → Onwards s (clauses n (readBoolean l e sc) (readValue l e sc) such sorted s)
+  pub clauses-onward : (n : ℕ) (such sorted : Bool) → Onwards s (clauses n (numberedBoolean (readBoolean l e sc)) (readValue l e sc) such sorted s)
   clauses-onward n such sorted c cs q f h =
-      let w = clauses-sound l e sc s (readBoolean l e sc) (readValue l e sc) (boolean-sound s octets e sc l) (value-sound s octets e sc l)
-      n such sorted c cs q h .went in
+      let i = clauses-sound l e sc s 1 (numberedBoolean (readBoolean l e sc)) (readValue l e sc)
+      (numbered-sound l e sc s (readBoolean l e sc) (boolean-sound s octets e sc l)) (value-sound s octets e sc l) n such sorted c cs q h in
+      let w = i .went in
       record {
         fine = record {
           inside = inside w (f .inside);
           statements-few = omega (arith, w .counted, f .statements-few);
-          contexts-few = omega (arith, w .declared, f .contexts-few);
+          contexts-few = i .few (f .contexts-few);
           conditions-few = omega (arith, w .noted, w .place, f .conditions-few, clauses-few sc cs (c .at));
         };
         more = omega (arith, w .declared);

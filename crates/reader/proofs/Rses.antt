@@ -9,6 +9,7 @@ use lib.Dec.{ltb}
 use lib.ListN.{length, set}
 use borrow.Author.Tests.{ltb-true}
 use Rattle.wire.specs.Classes.{directionClass, clauseClass}
+use Rattle.wire.specs.declared.codes.Direction.{Direction}
 use Rattle.wire.specs.declared.codes.ClauseCode.{ClauseCode}
 use Rattle.wire.specs.declared.codes.ClauseCode.the-variants as Clause
 use Rattle.grammar.specs.declared.Cursor.{Cursor}
@@ -19,8 +20,9 @@ use Rattle.grammar.specs.declared.Step.{Step}
 use Rattle.grammar.specs.declared.Step.the-variants as Step
 use Rattle.grammar.specs.declared.ByteStep.{ByteStep}
 use Rattle.grammar.specs.declared.ByteStep.the-variants as ByteStep
-use Rattle.grammar.specs.Tree.{Value, Boolean, key, Clauses, noClauses, such, sorted}
-use Rattle.grammar.specs.Bytes.{booleanBytes, keysBytes}
+use Rattle.grammar.specs.Tree.{Value, Boolean, noKeys, key, Clauses, noClauses, such, sorted}
+use Rattle.grammar.specs.Bytes.{valueBytes, booleanBytes, keysBytes}
+use Rattle.grammar.specs.Rows.{booleanRows, keysRows, clausesRows}
 use Rattle.grammar.specs.Names.{Environment, Scope}
 use Rattle.grammar.specs.Conditions.{clausesConditions}
 use Rattle.grammar.specs.Reader.{Read, read, refused, onRead, Reader, coded, withCondition}
@@ -32,58 +34,82 @@ use Rattle.grammar.proofs.StepLaws.{absurd-eq, byte-read, byte-refused}
 use Rattle.grammar.proofs.Went.{Passed, undo, same, needed, coded-read, byte-went}
 use Rattle.grammar.proofs.SoundValues.{value-sound, boolean-sound}
 use Rattle.grammar.proofs.SoundRses.{sort-sound, numbered-sound, count-went}
+use Rattle.grammar.proofs.RowCounts.{boolean-rows, keys-rows}
+use Rattle.grammar.proofs.Codes.{direction-due, coded-went}
 use Rattle.reader.specs.declared.heads.ClauseHead.{ClauseHead}
 use Rattle.reader.specs.declared.heads.ClauseHead.the-variants as ClauseHead
-use Rattle.reader.specs.Cycle.{Tables, tables, From, onStep, fromStep, noRows, clauseDue, clauseCoded, clauseHead, clausesTables}
+use Rattle.reader.specs.Cycle.{Tables, tables, nothing, From, onStep, fromStep, noRows, valueFit, valueTables, keysTables, clauseDue, clauseCoded, clauseHead, clausesTables}
 use Rattle.reader.proofs.Steps.{passed-on, started, from-next, stop, fill, likewise}
 use Rattle.reader.proofs.Chains.{from-equal, Counts, wrote-moved, then-wrote, numbered-wrote}
 use Rattle.reader.proofs.Codes.{clause-stands, clause-twice, clause-refused}
-use Rattle.reader.proofs.Values.{three-kept, itself}
+use Rattle.reader.proofs.Laid.{Follows}
+use Rattle.reader.proofs.Values.{Valued, Judged, value-follows, three-wrote, itself}
 
 -- ---- keys
 
-module _ (values : Reader Value) (k : Value → Fit) (s : List ℕ) (n : ℕ) where
-  pub keys-none : {t : Tables} (from : Step) {r : Step} → n ≡ 0 → r ≡ onStep from (λ x c. Step.Next Fit.NoKind c) → From from (keys n values s) noKind noRows t t r
-  unfolding keys
-  keys-none {t} from {r} z e = from-equal from (e ∙ rw z)
+module _ (s : List ℕ) (octets : Octets s) (e : Environment) (sc : Scope) (l : ℕ) (n : ℕ) where
+  -- what the reader of so many keys promises
+  abbrev Keyed : ℕ → Step → Tables → Tables → Step → Type 0
+  Keyed n from = From from (keys n (readValue l e sc) s) noKind (λ c. keysTables e sc (c .at))
 
-  keys-at : (c : Cursor) → (n ≡ 0 → ⊥) → keys n values s c ≡
-      onRead (coded directionClass s c) (λ d q. onRead (values s q) (λ v q₁. onRead (keys (n - 1) values s q₁) (λ ks q₂. read (key d v ks) q₂)))
+  pub keys-none : {t : Tables} (from : Step) {r : Step} → n ≡ 0 → r ≡ onStep from (λ x c. Step.Next Fit.NoKind c) → Keyed n from t t r
+  unfolding keys keysRows
+  keys-none {t} from {r} z i = record {
+    passes = λ m p h. i ∙ rw h;
+    goes = λ f c h. let re : r ≡ Step.Next Fit.NoKind c = i ∙ rw h in rw re (fill {a = noKeys} (rw (z, keys)) refl refl);
+  }
+
+  keys-at : (c : Cursor) → (n ≡ 0 → ⊥) → keys n (readValue l e sc) s c ≡
+      onRead (coded directionClass s c) (λ d q. onRead (readValue l e sc s q) (λ v q₁.
+      onRead (keys (n - 1) (readValue l e sc) s q₁) (λ ks q₂. read (key d v ks) q₂)))
   unfolding keys
   keys-at c z = go n z
     where
-      go : (m : ℕ) → (m ≡ 0 → ⊥) → keys m values s c ≡
-          onRead (coded directionClass s c) (λ d q. onRead (values s q) (λ v q₁. onRead (keys (m - 1) values s q₁) (λ ks q₂. read (key d v ks) q₂)))
+      go : (m : ℕ) → (m ≡ 0 → ⊥) → keys m (readValue l e sc) s c ≡
+          onRead (coded directionClass s c) (λ d q. onRead (readValue l e sc s q) (λ v q₁.
+          onRead (keys (m - 1) (readValue l e sc) s q₁) (λ ks q₂. read (key d v ks) q₂)))
       go zero y = absurd (y refl)
       go (suc m) y = rw (keys, sub-one (suc m))
 
+  direction-follows : (c : Cursor) (d : Direction) (q : Cursor) → coded directionClass s c ≡ read d q → Follows c nothing q
+  direction-follows c d q y =
+      let g = coded-went direction-due s c y in
+      record { statements = omega (arith, g .counted); contexts = omega (arith, g .declared); conditions = omega (arith, g .noted) }
+
   pub keys-on : (from : Step) {t t₁ t₂ : Tables} {d v r : Step} → (n ≡ 0 → ⊥) → d ≡ onStep from (λ f c. stepOf noKind (coded directionClass s c)) →
-      From d (values s) k noRows t t₁ v → From v (keys (n - 1) values s) noKind noRows t₁ t₂ r → From from (keys n values s) noKind noRows t t₂ r
-  keys-on from {t} {t₁} {t₂} {d} {v} {r} z e w w₁ = go from refl
+      Valued e sc l s d t t₁ v → Keyed (n - 1) v t₁ t₂ r → Keyed n from t t₂ r
+  unfolding keysRows
+  keys-on from {t} {t₁} {t₂} {d} {v} {r} z i w w₁ = go from refl
     where
-      ends : (d v r : Step) → From d (values s) k noRows t t₁ v → From v (keys (n - 1) values s) noKind noRows t₁ t₂ r →
+      ends : (d v r : Step) → Valued e sc l s d t t₁ v → Keyed (n - 1) v t₁ t₂ r →
           r ≡ onStep d (λ x p. onStep v (λ y q. onStep r (λ u c. Step.Next u c)))
       ends (Step.Refused m p) v r u u₁ = u₁ .passes m p (u .passes m p refl)
       ends (Step.Next f c) (Step.Refused m p) r u u₁ = u₁ .passes m p refl
       ends (Step.Next f c) (Step.Next g q) r u u₁ = itself r
 
-      go : (x : Step) → from ≡ x → From from (keys n values s) noKind noRows t t₂ r
+      go : (x : Step) → from ≡ x → Keyed n from t t₂ r
       go (Step.Refused m p) h =
-          let de : d ≡ Step.Refused m p = e ∙ rw h in
+          let de : d ≡ Step.Refused m p = i ∙ rw h in
           let re : r ≡ Step.Refused m p = w₁ .passes m p (w .passes m p de) in
           rw re (passed-on h)
       go (Step.Next f c) h =
-          let wa : From (Step.Next f c) (coded directionClass s) noKind noRows t t d = from-equal (Step.Next f c) (e ∙ rw h) in
+          let wa : From (Step.Next f c) (coded directionClass s) noKind noRows t t d = from-equal (Step.Next f c) (i ∙ rw h) in
           started h (likewise (keys-at c z)
-          (three-kept (coded directionClass s) noKind noKind wa (values s) k w (keys (n - 1) values s) noKind w₁
-          (λ d v ks q. read (key d v ks) q) (λ x y u q. Step.Next u q) (λ d v ks q. refl) (ends d v r w w₁)))
+          (three-wrote 0 s noKind (keysTables e sc (c .at)) (coded directionClass s) noKind noRows wa (direction-follows c)
+          (readValue l e sc s) (valueFit e sc) (λ c v. valueTables e sc (c .at) v) w (value-follows s octets e sc l)
+          (keys (n - 1) (readValue l e sc) s) noKind (λ c. keysTables e sc (c .at)) w₁ (λ d v ks. true) key
+          (λ x y u q. Step.Next u q) (λ d v ks q. refl)
+          (λ d q v q₁ ks q₂ y y₁ y₂.
+          let first : q .at ≡ c .at + 1 = coded-went direction-due s c y .place in
+          let there : q₁ .at ≡ c .at + 1 + length (valueBytes v) = omega (arith, first, value-sound s octets e sc l q v q₁ y₁ .went .place) in
+          rw (first, there)) (ends d v r w w₁)))
 
 -- ---- clauses
 
 -- what stands under the code of a clause that may stand
 unfoldable pub clauseRest : (Bool → Bool → Reader Clauses) → Reader Boolean → Reader Value → Bool → Bool → ClauseCode → Reader Clauses
 clauseRest rest booleans values b s Clause.Boolean st c =
-    onRead (numberedBoolean booleans st c) (λ x q. onRead (rest true s st q) (λ cs q₁. read (such x cs) q₁))
+    onRead (booleans st c) (λ x q. onRead (rest true s st q) (λ cs q₁. read (such x cs) q₁))
 clauseRest rest booleans values b s Clause.Sort st c =
     onRead (sort values st c) (λ ks q. onRead (rest b true st q) (λ cs q₁. read (sorted ks cs) q₁))
 clauseRest rest booleans values b s Clause.End st c = read noClauses c
@@ -185,26 +211,30 @@ module _ (s : List ℕ) (octets : Octets s) (e : Environment) (sc : Scope) (l : 
   -- an end
   pub clauses-end : (from : Step) {h : ClauseHead} {q : Cursor} {k : ClauseCode} {t₀ : Tables} →
       h ≡ fromStep from (λ x p. ClauseHead.Refused x p) (λ c. clauseHead (clauseCoded n b t s c)) → h ≡ ClauseHead.Is k q → k ≡ Clause.End →
-      From from (clauses n (readBoolean l e sc) (readValue l e sc) b t s) noKind (clausesTables sc) t₀ t₀ (Step.Next Fit.NoKind q)
-  unfolding clauseRest clausesConditions
+      From from (clauses n (numberedBoolean (readBoolean l e sc)) (readValue l e sc) b t s) noKind (clausesTables e sc) t₀ t₀ (Step.Next Fit.NoKind q)
+  unfolding clauseRest clausesConditions clausesRows
   clauses-end from {h} {q} {k} i j ke = clause-on n b t s from i (j ∙ ap (λ z. ClauseHead.Is z q) ke) (λ f c y d.
-      started y (fill {a = noClauses} (clauses-at (readBoolean l e sc) (readValue l e sc) b t s c n d) refl refl))
+      started y (fill {a = noClauses} (clauses-at (numberedBoolean (readBoolean l e sc)) (readValue l e sc) b t s c n d) refl refl))
 
   -- a boolean, and the clauses after it
   pub clauses-boolean : (from : Step) {h : ClauseHead} {q q₁ : Cursor} {k : ClauseCode} {f₁ : Fit} {st ct nd nd₁ : List ℕ} {t₁ t₂ : Tables} {x r : Step} →
       h ≡ fromStep from (λ x p. ClauseHead.Refused x p) (λ c. clauseHead (clauseCoded n b t s c)) → h ≡ ClauseHead.Is k q → k ≡ Clause.Boolean →
       q₁ ≡ withCondition q → nd₁ ≡ set nd (q .conditions) (q .at) →
-      From (Step.Next f₁ q₁) (readBoolean l e sc s) noKind noRows (tables st ct nd₁) t₁ x →
-      From x (clauses (n - 1) (readBoolean l e sc) (readValue l e sc) true t s) noKind (clausesTables sc) t₁ t₂ r →
-      From from (clauses n (readBoolean l e sc) (readValue l e sc) b t s) noKind (clausesTables sc) (tables st ct nd) t₂ r
-  unfolding clauseRest clausesConditions
+      Judged e sc l s (Step.Next f₁ q₁) (tables st ct nd₁) t₁ x →
+      From x (clauses (n - 1) (numberedBoolean (readBoolean l e sc)) (readValue l e sc) true t s) noKind (clausesTables e sc) t₁ t₂ r →
+      From from (clauses n (numberedBoolean (readBoolean l e sc)) (readValue l e sc) b t s) noKind (clausesTables e sc) (tables st ct nd) t₂ r
+  unfolding clauseRest clausesConditions clausesRows
   clauses-boolean from {h} {q} i j ke qe ne w w₁ = clause-on n b t s from i (j ∙ ap (λ z. ClauseHead.Is z q) ke) (λ f c y d.
       let g = stood n b t s c d in
-      started y (likewise (clauses-at (readBoolean l e sc) (readValue l e sc) b t s c n d) (wrote-moved (counts-of (g .went))
-      (then-wrote such (clausesTables sc c) (numbered-wrote (readBoolean l e sc) s q qe ne w) w₁ (λ cs. refl)
+      started y (likewise (clauses-at (numberedBoolean (readBoolean l e sc)) (readValue l e sc) b t s c n d) (wrote-moved (counts-of (g .went))
+      (then-wrote such (clausesTables e sc c) (numbered-wrote (readBoolean l e sc) (λ p v. booleanRows (e .relations) sc v p) s q qe ne w) w₁ (λ cs. refl)
       (λ v u z.
       let o = numbered-sound l e sc s (readBoolean l e sc) (boolean-sound s octets e sc l) q v u z .went in
-      record { statements = omega (arith, o .counted); contexts = omega (arith, o .declared); conditions = o .noted })
+      record {
+        statements = omega (arith, o .counted);
+        contexts = omega (arith, o .declared, boolean-rows (e .relations) sc v (q .at));
+        conditions = o .noted;
+      })
       (λ v u cs u₁ z z₁.
       let o = numbered-sound l e sc s (readBoolean l e sc) (boolean-sound s octets e sc l) q v u z .went in
       let here : q .at ≡ c .at + 1 = g .went .place in
@@ -215,26 +245,31 @@ module _ (s : List ℕ) (octets : Octets s) (e : Environment) (sc : Scope) (l : 
   pub clauses-sort : (from : Step) {h : ClauseHead} {q q₁ : Cursor} {k : ClauseCode} {m : ℕ} {o : ByteStep} {f₁ : Fit} {t₀ t₁ t₂ : Tables} {x r : Step} →
       h ≡ fromStep from (λ x p. ClauseHead.Refused x p) (λ c. clauseHead (clauseCoded n b t s c)) → h ≡ ClauseHead.Is k q → k ≡ Clause.Sort →
       o ≡ byteStep (countByte s q) → o ≡ ByteStep.Is m q₁ →
-      From (Step.Next f₁ q₁) (keys m (readValue l e sc) s) noKind noRows t₀ t₁ x →
-      From x (clauses (n - 1) (readBoolean l e sc) (readValue l e sc) b true s) noKind (clausesTables sc) t₁ t₂ r →
-      From from (clauses n (readBoolean l e sc) (readValue l e sc) b t s) noKind (clausesTables sc) t₀ t₂ r
-  unfolding clauseRest clausesConditions sort
+      From (Step.Next f₁ q₁) (keys m (readValue l e sc) s) noKind (λ c. keysTables e sc (c .at)) t₀ t₁ x →
+      From x (clauses (n - 1) (numberedBoolean (readBoolean l e sc)) (readValue l e sc) b true s) noKind (clausesTables e sc) t₁ t₂ r →
+      From from (clauses n (numberedBoolean (readBoolean l e sc)) (readValue l e sc) b t s) noKind (clausesTables e sc) t₀ t₂ r
+  unfolding clauseRest clausesConditions clausesRows sort
   clauses-sort from {h} {q} {q₁} {k} {m} {o} {f₁} {t₀} {t₁} {t₂} {x} {r} i j ke oe oi w w₁ =
       clause-on n b t s from i (j ∙ ap (λ z. ClauseHead.Is z q) ke) (λ f c y d.
       let g = stood n b t s c d in
       let ce : countByte s q ≡ read m q₁ = byte-read (countByte s q) (sym oi ∙ oe) in
       let cw = count-went s q ce in
       let se : sort (readValue l e sc) s q ≡ keys m (readValue l e sc) s q₁ = sort-at q q₁ m ce in
-      started y (likewise (clauses-at (readBoolean l e sc) (readValue l e sc) b t s c n d) (wrote-moved (counts-of (g .went))
-      (then-wrote sorted (clausesTables sc c)
+      started y (likewise (clauses-at (numberedBoolean (readBoolean l e sc)) (readValue l e sc) b t s c n d) (wrote-moved (counts-of (g .went))
+      (then-wrote sorted (clausesTables e sc c)
       (wrote-moved (counts-of (cw .0)) (likewise se (from-next w))) w₁ (λ cs. refl)
       (λ v u z.
       let p = sort-sound l e sc s (readValue l e sc) (value-sound s octets e sc l) q v u z .went in
-      record { statements = omega (arith, p .counted); contexts = omega (arith, p .declared); conditions = omega (arith, p .noted) })
+      record {
+        statements = omega (arith, p .counted);
+        contexts = omega (arith, p .declared, keys-rows (e .relations) sc v (q₁ .at));
+        conditions = omega (arith, p .noted);
+      })
       (λ v u cs u₁ z z₁.
       let p = sort-sound l e sc s (readValue l e sc) (value-sound s octets e sc l) q v u z .went in
+      let first : q₁ .at ≡ c .at + 2 = omega (arith, cw .0 .place, g .went .place) in
       let there : u .at ≡ c .at + 2 + length (keysBytes v) = omega (arith, p .place, g .went .place) in
-      rw there)))))
+      rw (first, there))))))
     where
       sort-at : (q q₁ : Cursor) (m : ℕ) → countByte s q ≡ read m q₁ → sort (readValue l e sc) s q ≡ keys m (readValue l e sc) s q₁
       sort-at q q₁ m z = rw (sort, z)
@@ -242,8 +277,8 @@ module _ (s : List ℕ) (octets : Octets s) (e : Environment) (sc : Scope) (l : 
   pub clauses-sort-cut : (from : Step) {h : ClauseHead} {q : Cursor} {k : ClauseCode} {o : ByteStep} {m : Refusal} {p : ℕ} {t₀ t₁ : Tables} →
       h ≡ fromStep from (λ x p. ClauseHead.Refused x p) (λ c. clauseHead (clauseCoded n b t s c)) → h ≡ ClauseHead.Is k q → k ≡ Clause.Sort →
       o ≡ byteStep (countByte s q) → o ≡ ByteStep.Refused m p →
-      From from (clauses n (readBoolean l e sc) (readValue l e sc) b t s) noKind (clausesTables sc) t₀ t₁ (Step.Refused m p)
+      From from (clauses n (numberedBoolean (readBoolean l e sc)) (readValue l e sc) b t s) noKind (clausesTables e sc) t₀ t₁ (Step.Refused m p)
   unfolding clauseRest sort
   clauses-sort-cut from {h} {q} i j ke oe oi = clause-on n b t s from i (j ∙ ap (λ z. ClauseHead.Is z q) ke) (λ f c y d.
       let ce = byte-refused (countByte s q) (sym oi ∙ oe) in
-      started y (stop (clauses-at (readBoolean l e sc) (readValue l e sc) b t s c n d ∙ rw (sort, ce))))
+      started y (stop (clauses-at (numberedBoolean (readBoolean l e sc)) (readValue l e sc) b t s c n d ∙ rw (sort, ce))))

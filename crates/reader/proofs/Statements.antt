@@ -2,7 +2,7 @@
 use Prim.Native.Nat.{ℕ, zero, suc, _+_, _-_, _*_, _<_, _≤_}
 use mathlib.Core.Path.{_≡_, refl, sym, ap, _∙_, subst}
 use mathlib.Core.Bool.{Bool, true, false, cond, false≢true}
-use mathlib.Core.List.{List, [], _∷_, _++_, map-append}
+use mathlib.Core.List.{List, [], _∷_, _++_, append-nil, map-append}
 use native.Mathlib.Numerals.{sub-one}
 use native.Mathlib.Omega.{arith}
 use lib.Dec.{ltb, leb, eqb}
@@ -28,7 +28,7 @@ use Rattle.grammar.specs.Names.{Environment, Scope}
 use Rattle.grammar.specs.Scope.{ofFor}
 use Rattle.grammar.specs.Kinds.{kindOf, referenceKind, oneKind}
 use Rattle.grammar.specs.Sizes.{statementCount}
-use Rattle.grammar.specs.Rows.{statementRows, statementsRows, contextRows, contextsRows}
+use Rattle.grammar.specs.Rows.{statementRows, statementsRows, valueRows, booleanRows, contextRows, contextsRows}
 use Rattle.grammar.specs.Conditions.{conditions, statementsConditions}
 use Rattle.grammar.specs.Reader.{Read, read, refused, onRead, Reader, on, need, byte, peek, tested, code, coded, counted, withCondition}
 use Rattle.grammar.specs.Values.{contextByte, readValue, readBoolean, readTarget}
@@ -39,6 +39,7 @@ use Rattle.grammar.proofs.StepLaws.{absurd-eq, step-read, taken-cut, peek-here,
 use Rattle.grammar.proofs.Went.{inside, never, undo, same, needed, peek-read}
 use Rattle.grammar.proofs.SoundRses.{numbered-sound}
 use Rattle.grammar.proofs.SoundValues.{boolean-sound}
+use Rattle.grammar.proofs.RowCounts.{boolean-rows}
 use Rattle.grammar.proofs.SoundStatements.{statement-sound}
 use Rattle.references.specs.Promises.{referenceFit}
 use Rattle.scopes.proofs.Scopes.{kind-fit}
@@ -49,11 +50,11 @@ use Rattle.reader.specs.declared.heads.Ending.{Ending}
 use Rattle.reader.specs.declared.heads.Ending.the-variants as Ending
 use Rattle.reader.specs.declared.cycle.Part as PartOf
 use Rattle.reader.specs.declared.cycle.Part.the-variants as Part
-use Rattle.reader.specs.Cycle.{Tables, tables, nothing, joined, laid, Wrote, From, Descended, onStep, fromStep, testStep, noRows, valueFit, leveled, statementCoded, statementHead, endingOf, innerAt, places, statementTables, statementsTables, belowRows, belowTables, stepped, Given, GivenAfter, Ends}
+use Rattle.reader.specs.Cycle.{Tables, tables, nothing, joined, laid, Wrote, From, Descended, onStep, fromStep, testStep, noRows, valueFit, valueTables, leveled, statementCoded, statementHead, endingOf, innerAt, places, statementTables, statementsTables, belowRows, belowTables, stepped, Given, GivenAfter, Ends}
 use Rattle.reader.proofs.Steps.{passed-on, started, from-next, stop, fill, kept, likewise, by-read, on-next, stopped}
 use Rattle.reader.proofs.Chains.{from-equal, rows-as, then-wrote, last-wrote, numbered-wrote}
 use Rattle.reader.proofs.Laid.{Follows, laid-laid, row-over, rows-split, statement-rows-length, context-rows-length}
-use Rattle.reader.proofs.Values.{two-kept, level, test-step}
+use Rattle.reader.proofs.Values.{Valued, Judged, value-follows, two-wrote, level, test-step}
 use Rattle.reader.proofs.Ready.{fine-of, statement-onward}
 use Rattle.reader.proofs.Inside.{statement-is, statement-not, statement-read}
 
@@ -335,18 +336,17 @@ module _ (s : List ℕ) (e : Environment) (sc : Scope) (l p : ℕ) (c : Cursor) 
   leave-under ke h = rw ke (rows-as (λ a q y. undo (byte s c) _ y (λ x q₁ e₁ w. needed (among x (sc .labels)) _ _ _ _ _ w (λ z v.
       same v (λ a q. nothing ≡ belowTables e sc p c a) refl))) (kept h))
 
-  pub assign-under : {f : Fit} {t t₁ : Tables} {v g r : Step} → k ≡ Code.Assignment → From (Step.Next f c) (readValue l e sc s) (valueFit e sc) noRows t t₁ v →
+  pub assign-under : Octets s → c .at ≡ p + 1 → {f : Fit} {t t₁ : Tables} {v g r : Step} → k ≡ Code.Assignment → Valued e sc l s (Step.Next f c) t t₁ v →
       g ≡ onStep v (λ f c. stepOf (referenceFit e sc) (readTarget e sc p s c)) →
       r ≡ onStep v (λ x d. onStep g (λ y q. testStep (oneKind (kindIn x) (kindIn y)) p q)) → Under s e sc l p c k t t₁ r
   unfolding statementUnder assignmentUnder belowRows contextRows conditions
-  assign-under {v} {g} ke w ge h = rw ke (rows-as (λ a q y. undo (readValue l e sc s c) _ y (λ x q₁ e₁ y₁.
-      undo (readTarget e sc p s q₁) _ y₁ (λ x₁ q₂ e₂ y₂. needed (oneKind (kindOf e sc x) (referenceKind e sc x₁)) _ _ _ _ _ y₂ (λ z y₃.
-      same y₃ (λ a q. nothing ≡ belowTables e sc p c a) refl))))
-      (two-kept (readValue l e sc s) (valueFit e sc) noKind w (readTarget e sc p s) (referenceFit e sc) (from-equal v ge)
-      (λ v t q. onRead (need (oneKind (kindOf e sc v) (referenceKind e sc t)) Unfit p s q) (λ u q′. read (assignment v t) q′))
+  assign-under octets here {v} {g} ke w ge h = rw ke (two-wrote p s noKind (belowTables e sc p c) (readValue l e sc s) (valueFit e sc)
+      (λ c v. valueTables e sc (c .at) v) w (value-follows s octets e sc l c) (readTarget e sc p s) (referenceFit e sc) noRows (from-equal v ge)
+      (λ v t. oneKind (kindOf e sc v) (referenceKind e sc t)) assignment
       (λ x y q. testStep (oneKind (kindIn x) (kindIn y)) p q)
       (λ v t q. rw (kind-fit (kindOf e sc v), kind-fit (referenceKind e sc t))
-      (test-step (oneKind (kindOf e sc v) (referenceKind e sc t)) (assignment v t) p s q)) h))
+      (test-step (oneKind (kindOf e sc v) (referenceKind e sc t)) (assignment v t) p s q))
+      (λ v q t q₁ y y₁. rw (here, append-nil (valueRows (e .relations) sc v (p + 1)))) h)
 
   pub begin-under : {f : Fit} {t t₁ : Tables} {r : Step} → k ≡ Code.Begin → c .at ≡ p + 1 →
       From (Step.Next f c) (many 512 (readStatement l e sc) s) noKind (statementsTables e sc (c .statements)) t t₁ r → Under s e sc l p c k t t₁ r
@@ -372,14 +372,18 @@ module _ (s : List ℕ) (octets : Octets s) (e : Environment) (sc : Scope) (l p 
   headTables x = belowTables e sc p c (if (x .0) (x .1))
 
   pub if-head : {st ct nd nd₁ : List ℕ} {q : Cursor} {f : Fit} {t₁ t₂ : Tables} {b a : Step} → q ≡ withCondition c →
-      nd₁ ≡ set nd (c .conditions) (c .at) → From (Step.Next f q) (readBoolean l e sc s) noKind noRows (tables st ct nd₁) t₁ b →
+      nd₁ ≡ set nd (c .conditions) (c .at) → Judged e sc l s (Step.Next f q) (tables st ct nd₁) t₁ b →
       From b (readStatement l e sc s) noKind (λ d t. statementTables (e .relations) sc t (d .at) (d .statements) (c .statements)) t₁ t₂ a →
       Wrote (ifHead s e sc l c) noKind c headTables (tables st ct nd) t₂ a
   unfolding ifHead belowRows contextRows conditions
-  if-head qe ne w w₁ = then-wrote (λ b t. (b, t)) headTables (numbered-wrote (readBoolean l e sc) s c qe ne w) w₁ (λ b. refl)
+  if-head qe ne w w₁ = then-wrote (λ b t. (b, t)) headTables (numbered-wrote (readBoolean l e sc) (λ p b. booleanRows (e .relations) sc b p) s c qe ne w) w₁ (λ b. refl)
       (λ v u z.
       let o = numbered-sound l e sc s (readBoolean l e sc) (boolean-sound s octets e sc l) c v u z .went in
-      record { statements = omega (arith, o .counted); contexts = omega (arith, o .declared); conditions = o .noted })
+      record {
+        statements = omega (arith, o .counted);
+        contexts = omega (arith, o .declared, boolean-rows (e .relations) sc v (c .at));
+        conditions = o .noted;
+      })
       (λ v u t u₁ z z₁.
       let o = numbered-sound l e sc s (readBoolean l e sc) (boolean-sound s octets e sc l) c v u z .went in
       let there : u .at ≡ p + 1 + length (booleanBytes v) = omega (arith, o .place) in
@@ -428,11 +432,13 @@ module _ (s : List ℕ) (octets : Octets s) (e : Environment) (sc : Scope) (l p 
         let rows₁ : q .statements ≡ c .statements + statementCount t₃ = omega (arith, o .counted, m .counted) in
         let head-length = statement-rows-length t₃ (p + 1 + length (booleanBytes b)) (c .statements) (c .statements) in
         let context-length = context-rows-length (e .relations) sc t₃ (p + 1 + length (booleanBytes b)) in
+        let boolean-length = boolean-rows (e .relations) sc b (p + 1) in
+        let both-length = length-append (booleanRows (e .relations) sc b (p + 1)) (contextRows (e .relations) sc t₃ (p + 1 + length (booleanBytes b))) in
         let place-length = length-map (conditions (e .relations) sc t₃ (p + 1 + length (booleanBytes b))) (λ x. x .place) in
         let marked = rw there at (m .noted) in
         let follows : Follows c (headTables (b, t₃)) q = record {
           statements = omega (arith, rows₁, head-length);
-          contexts = omega (arith, o .declared, m .declared, context-length);
+          contexts = omega (arith, o .declared, m .declared, context-length, boolean-length, both-length);
           conditions = omega (arith, o .noted, marked, place-length);
         } in
         let w₂ = from-next w₁ in

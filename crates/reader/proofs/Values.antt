@@ -1,13 +1,14 @@
 -- Values and booleans: the answer under each code from those of its operands.
-use Prim.Native.Nat.{ℕ, suc, _-_, _<_}
+use Prim.Native.Nat.{ℕ, suc, _+_, _-_, _<_}
 use mathlib.Core.Path.{_≡_, refl, sym, ap, _∙_, subst}
 use mathlib.Core.Bool.{Bool, true, false}
-use mathlib.Core.List.{List}
+use mathlib.Core.List.{List, _++_, append-assoc}
 use mathlib.Core.Option.{Option, none, some}
 use native.Mathlib.Omega.{arith}
 use lib.Dec.{ltb}
+use lib.ListN.{length}
 use Rattle.wire.specs.Lists.{isSome}
-use Rattle.wire.specs.Classes.{valueClass, booleanClass}
+use Rattle.wire.specs.Classes.{Class, valueClass, booleanClass}
 use Rattle.wire.specs.declared.codes.Operator.{Operator}
 use Rattle.wire.specs.declared.codes.Comparison.{Comparison}
 use Rattle.wire.specs.declared.codes.TextSearch.{TextSearch}
@@ -27,12 +28,17 @@ use Rattle.grammar.specs.declared.Fit.the-variants as Fit
 use Rattle.grammar.specs.declared.Step.{Step}
 use Rattle.grammar.specs.declared.Step.the-variants as Step
 use Rattle.grammar.specs.Tree.{Literal, Reference, Value, literal, reference, arithmetic, negate, Boolean}
+use Rattle.grammar.specs.Bytes.{valueBytes, booleanBytes}
+use Rattle.grammar.specs.Rows.{valueRows, booleanRows}
 use Rattle.grammar.specs.Names.{Environment, Scope}
 use Rattle.grammar.specs.Kinds.{kindOf, arithmeticKind, negatedKind, oneKind, bothText, allOneKind}
-use Rattle.grammar.specs.Reader.{Read, read, refused, onRead, Reader, need, coded}
+use Rattle.grammar.specs.Reader.{Read, read, refused, onRead, need, coded}
 use Rattle.grammar.specs.Values.{readLiteral, readReference, valueUnder, readValue, booleanUnder, readBoolean}
 use Rattle.grammar.specs.Steps.{fitOf, kindIn, stepOf, noKind}
 use Rattle.grammar.proofs.StepLaws.{absurd-eq}
+use Rattle.grammar.proofs.Went.{Octets, undo, same, needed, coded-read, byte-went}
+use Rattle.grammar.proofs.SoundValues.{value-sound, boolean-sound}
+use Rattle.grammar.proofs.RowCounts.{value-rows, boolean-rows}
 use Rattle.scopes.proofs.Scopes.{kind-fit}
 use Rattle.references.specs.Promises.{literalFit, referenceFit, referenceStep}
 use Rattle.reader.specs.declared.heads.ValueHead.{ValueHead}
@@ -42,80 +48,116 @@ use Rattle.reader.specs.declared.heads.BooleanHead.the-variants as Boole
 use Rattle.reader.specs.declared.cycle.Part.{Part}
 use Rattle.reader.specs.declared.cycle.Part.the-variants as Part
 use Rattle.reader.specs.Operands.{operandPart, operandCount, booleanAnswer}
-use Rattle.reader.specs.Cycle.{Tables, nothing, Wrote, From, Descended, onStep, kindStep, testStep, noRows, valueFit, leveled, valueHead, booleanHead}
-use Rattle.reader.proofs.Steps.{started, from-next, stop, kept, likewise, by-read}
+use Rattle.reader.specs.Promises.{after}
+use Rattle.reader.specs.Cycle.{Tables, joined, laid, Wrote, From, Descended, onStep, kindStep, testStep, valueFit, valueTables, booleanTables, operandsAt, leveled, valueHead, booleanHead}
+use Rattle.reader.proofs.Steps.{started, from-next, stop, likewise, by-read}
+use Rattle.reader.proofs.Laid.{Follows, laid-laid}
+use Rattle.reader.proofs.Chains.{Counts, wrote-moved}
 
--- ---- operands one after another
+-- ---- operands one after another, with their rows, and a test before the whole is made of them
 
-module _ {A C : Type 0} (ra : Cursor → Read A) (ka : A → Fit) (k : C → Fit) {c : Cursor} {f : Fit} {t t₁ : Tables} {a r : Step}
-    (wa : From (Step.Next f c) ra ka noRows t t₁ a) where
-  pub one-kept : (z : A → Cursor → Read C) (h : Fit → Cursor → Step) → ((v : A) (q : Cursor) → h (ka v) q ≡ stepOf k (z v q)) →
-      r ≡ onStep a (λ x q. h x q) → Wrote (onRead (ra c) (λ v q. z v q)) k c (λ x. nothing) t t₁ r
-  one-kept z h law e = by-read (ra c)
+-- the rows of what a test lets pass
+passed-rows : {C : Type 0} (b : Bool) (x : C) (p : ℕ) (s : List ℕ) (q : Cursor) (rows : C → Tables) (made : Tables → Tables) {t′ : Tables} →
+    t′ ≡ made (rows x) → t′ ≡ after (λ x. made (rows x)) t′ (onRead (need b Unfit p s q) (λ u q′. read x q′))
+passed-rows true x p s q rows made e = e
+passed-rows false x p s q rows made e = refl
+
+module _ {A C : Type 0} (p : ℕ) (s : List ℕ) (k : C → Fit) (rows : C → Tables) {c : Cursor} {f : Fit} {t t₁ : Tables} {a r : Step}
+    (ra : Cursor → Read A) (ka : A → Fit) (rowsa : Cursor → A → Tables) (wa : From (Step.Next f c) ra ka rowsa t t₁ a) where
+  pub one-wrote : (test : A → Bool) (made : A → C) (h : Fit → Cursor → Step) →
+      ((v : A) (q : Cursor) → h (ka v) q ≡ stepOf k (onRead (need (test v) Unfit p s q) (λ u q′. read (made v) q′))) →
+      ((v : A) (q : Cursor) → ra c ≡ read v q → rowsa c v ≡ rows (made v)) → r ≡ onStep a (λ x q. h x q) →
+      Wrote (onRead (ra c) (λ v q. onRead (need (test v) Unfit p s q) (λ u q′. read (made v) q′))) k c rows t t₁ r
+  one-wrote test made h law same e = by-read (ra c)
       (λ v q y.
       let ae : a ≡ Step.Next (ka v) q = from-next wa .answer ∙ rw y in
-      let te : t₁ ≡ t = rw y at (from-next wa .filled) in
-      rw te (kept (e ∙ rw (ae, y) (law v q))))
-      (λ n p y.
-      let ae : a ≡ Step.Refused n p = from-next wa .answer ∙ rw y in
-      let re : r ≡ Step.Refused n p = e ∙ rw ae in
+      let te : t₁ ≡ laid t c (rowsa c v) = rw y at (from-next wa .filled) in
+      record {
+        answer = e ∙ rw (ae, y) (law v q);
+        filled = rw y (passed-rows (test v) (made v) p s q rows (laid t c) (te ∙ ap (laid t c) (same v q y)));
+      })
+      (λ n i y.
+      let ae : a ≡ Step.Refused n i = from-next wa .answer ∙ rw y in
+      let re : r ≡ Step.Refused n i = e ∙ rw ae in
       rw re (stop (rw y)))
 
-  module _ {B : Type 0} (rb : Cursor → Read B) (kb : B → Fit) {t₂ : Tables} {b : Step} (wb : From a rb kb noRows t₁ t₂ b) where
-    pub two-kept : (z : A → B → Cursor → Read C) (h : Fit → Fit → Cursor → Step) →
-        ((v : A) (w : B) (q : Cursor) → h (ka v) (kb w) q ≡ stepOf k (z v w q)) →
+  module _ (followsa : (v : A) (q : Cursor) → ra c ≡ read v q → Follows c (rowsa c v) q) {B : Type 0} (rb : Cursor → Read B) (kb : B → Fit)
+      (rowsb : Cursor → B → Tables) {t₂ : Tables} {b : Step} (wb : From a rb kb rowsb t₁ t₂ b) where
+    pub two-wrote : (test : A → B → Bool) (made : A → B → C) (h : Fit → Fit → Cursor → Step) →
+        ((v : A) (w : B) (q : Cursor) → h (ka v) (kb w) q ≡ stepOf k (onRead (need (test v w) Unfit p s q) (λ u q′. read (made v w) q′))) →
+        ((v : A) (q : Cursor) (w : B) (q₁ : Cursor) → ra c ≡ read v q → rb q ≡ read w q₁ →
+        joined (rowsa c v) (rowsb q w) ≡ rows (made v w)) →
         r ≡ onStep a (λ x d. onStep b (λ y q. h x y q)) →
-        Wrote (onRead (ra c) (λ v q. onRead (rb q) (λ w q₁. z v w q₁))) k c (λ x. nothing) t t₂ r
-    two-kept z h law e = by-read (ra c)
+        Wrote (onRead (ra c) (λ v q. onRead (rb q) (λ w q₁. onRead (need (test v w) Unfit p s q₁) (λ u q′. read (made v w) q′))))
+        k c rows t t₂ r
+    two-wrote test made h law same e = by-read (ra c)
         (λ v q y.
         let ae : a ≡ Step.Next (ka v) q = from-next wa .answer ∙ rw y in
-        let te : t₁ ≡ t = rw y at (from-next wa .filled) in
+        let te : t₁ ≡ laid t c (rowsa c v) = rw y at (from-next wa .filled) in
         let w₁ = wb .goes (ka v) q ae in
         by-read (rb q)
         (λ w q₁ y₁.
         let be : b ≡ Step.Next (kb w) q₁ = w₁ .answer ∙ rw y₁ in
-        let ue : t₂ ≡ t₁ = rw y₁ at (w₁ .filled) in
-        rw (ue, te) (kept (e ∙ rw (ae, be, y, y₁) (law v w q₁))))
-        (λ n p y₁.
-        let be : b ≡ Step.Refused n p = w₁ .answer ∙ rw y₁ in
-        let re : r ≡ Step.Refused n p = e ∙ rw (ae, be) in
+        let ue : t₂ ≡ laid t₁ q (rowsb q w) = rw y₁ at (w₁ .filled) in
+        record {
+          answer = e ∙ rw (ae, be, y, y₁) (law v w q₁);
+          filled = rw (y, y₁) (passed-rows (test v w) (made v w) p s q₁ rows (laid t c)
+              (ue ∙ ap (λ z. laid z q (rowsb q w)) te ∙ laid-laid t c q (rowsa c v) (rowsb q w) (followsa v q y) ∙
+              ap (laid t c) (same v q w q₁ y y₁)));
+        })
+        (λ n i y₁.
+        let be : b ≡ Step.Refused n i = w₁ .answer ∙ rw y₁ in
+        let re : r ≡ Step.Refused n i = e ∙ rw (ae, be) in
         rw re (stop (rw (y, y₁)))))
-        (λ n p y.
-        let ae : a ≡ Step.Refused n p = from-next wa .answer ∙ rw y in
-        let re : r ≡ Step.Refused n p = e ∙ rw ae in
+        (λ n i y.
+        let ae : a ≡ Step.Refused n i = from-next wa .answer ∙ rw y in
+        let re : r ≡ Step.Refused n i = e ∙ rw ae in
         rw re (stop (rw y)))
 
-    module _ {D : Type 0} (rd : Cursor → Read D) (kd : D → Fit) {t₃ : Tables} {d : Step} (wd : From b rd kd noRows t₂ t₃ d) where
-      pub three-kept : (z : A → B → D → Cursor → Read C) (h : Fit → Fit → Fit → Cursor → Step) →
-          ((v : A) (w : B) (u : D) (q : Cursor) → h (ka v) (kb w) (kd u) q ≡ stepOf k (z v w u q)) →
-          r ≡ onStep a (λ x p. onStep b (λ y q. onStep d (λ u c. h x y u c))) →
-          Wrote (onRead (ra c) (λ v q. onRead (rb q) (λ w q₁. onRead (rd q₁) (λ u q₂. z v w u q₂)))) k c (λ x. nothing) t t₃ r
-      three-kept z h law e = by-read (ra c)
+    module _ (followsb : (q : Cursor) (w : B) (q₁ : Cursor) → rb q ≡ read w q₁ → Follows q (rowsb q w) q₁) {D : Type 0}
+        (rd : Cursor → Read D) (kd : D → Fit) (rowsd : Cursor → D → Tables) {t₃ : Tables} {d : Step} (wd : From b rd kd rowsd t₂ t₃ d) where
+      pub three-wrote : (test : A → B → D → Bool) (made : A → B → D → C) (h : Fit → Fit → Fit → Cursor → Step) →
+          ((v : A) (w : B) (x : D) (q : Cursor) → h (ka v) (kb w) (kd x) q ≡
+          stepOf k (onRead (need (test v w x) Unfit p s q) (λ u q′. read (made v w x) q′))) →
+          ((v : A) (q : Cursor) (w : B) (q₁ : Cursor) (x : D) (q₂ : Cursor) → ra c ≡ read v q → rb q ≡ read w q₁ → rd q₁ ≡ read x q₂ →
+          joined (rowsa c v) (joined (rowsb q w) (rowsd q₁ x)) ≡ rows (made v w x)) →
+          r ≡ onStep a (λ x i. onStep b (λ y j. onStep d (λ z q. h x y z q))) →
+          Wrote (onRead (ra c) (λ v q. onRead (rb q) (λ w q₁. onRead (rd q₁) (λ x q₂.
+          onRead (need (test v w x) Unfit p s q₂) (λ u q′. read (made v w x) q′))))) k c rows t t₃ r
+      three-wrote test made h law same e = by-read (ra c)
           (λ v q y.
           let ae : a ≡ Step.Next (ka v) q = from-next wa .answer ∙ rw y in
-          let te : t₁ ≡ t = rw y at (from-next wa .filled) in
+          let te : t₁ ≡ laid t c (rowsa c v) = rw y at (from-next wa .filled) in
           let w₁ = wb .goes (ka v) q ae in
           by-read (rb q)
           (λ w q₁ y₁.
           let be : b ≡ Step.Next (kb w) q₁ = w₁ .answer ∙ rw y₁ in
-          let ue : t₂ ≡ t₁ = rw y₁ at (w₁ .filled) in
+          let ue : t₂ ≡ laid t₁ q (rowsb q w) = rw y₁ at (w₁ .filled) in
           let w₂ = wd .goes (kb w) q₁ be in
           by-read (rd q₁)
-          (λ u q₂ y₂.
-          let de : d ≡ Step.Next (kd u) q₂ = w₂ .answer ∙ rw y₂ in
-          let ve : t₃ ≡ t₂ = rw y₂ at (w₂ .filled) in
-          rw (ve, ue, te) (kept (e ∙ rw (ae, be, de, y, y₁, y₂) (law v w u q₂))))
-          (λ n p y₂.
-          let de : d ≡ Step.Refused n p = w₂ .answer ∙ rw y₂ in
-          let re : r ≡ Step.Refused n p = e ∙ rw (ae, be, de) in
+          (λ x q₂ y₂.
+          let de : d ≡ Step.Next (kd x) q₂ = w₂ .answer ∙ rw y₂ in
+          let ve : t₃ ≡ laid t₂ q₁ (rowsd q₁ x) = rw y₂ at (w₂ .filled) in
+          let last : t₃ ≡ laid t₁ q (joined (rowsb q w) (rowsd q₁ x)) =
+          ve ∙ ap (λ z. laid z q₁ (rowsd q₁ x)) ue ∙ laid-laid t₁ q q₁ (rowsb q w) (rowsd q₁ x) (followsb q w q₁ y₁) in
+          record {
+            answer = e ∙ rw (ae, be, de, y, y₁, y₂) (law v w x q₂);
+            filled = rw (y, y₁, y₂) (passed-rows (test v w x) (made v w x) p s q₂ rows (laid t c)
+                (last ∙ ap (λ z. laid z q (joined (rowsb q w) (rowsd q₁ x))) te ∙
+                laid-laid t c q (rowsa c v) (joined (rowsb q w) (rowsd q₁ x)) (followsa v q y) ∙
+                ap (laid t c) (same v q w q₁ x q₂ y y₁ y₂)));
+          })
+          (λ n i y₂.
+          let de : d ≡ Step.Refused n i = w₂ .answer ∙ rw y₂ in
+          let re : r ≡ Step.Refused n i = e ∙ rw (ae, be, de) in
           rw re (stop (rw (y, y₁, y₂)))))
-          (λ n p y₁.
-          let be : b ≡ Step.Refused n p = w₁ .answer ∙ rw y₁ in
-          let re : r ≡ Step.Refused n p = e ∙ rw (ae, be) in
+          (λ n i y₁.
+          let be : b ≡ Step.Refused n i = w₁ .answer ∙ rw y₁ in
+          let re : r ≡ Step.Refused n i = e ∙ rw (ae, be) in
           rw re (stop (rw (y, y₁)))))
-          (λ n p y.
-          let ae : a ≡ Step.Refused n p = from-next wa .answer ∙ rw y in
-          let re : r ≡ Step.Refused n p = e ∙ rw ae in
+          (λ n i y.
+          let ae : a ≡ Step.Refused n i = from-next wa .answer ∙ rw y in
+          let re : r ≡ Step.Refused n i = e ∙ rw ae in
           rw re (stop (rw y)))
 
 -- a step is itself
@@ -123,7 +165,7 @@ pub itself : (a : Step) → a ≡ onStep a (λ x q. Step.Next x q)
 itself (Step.Next f c) = refl
 itself (Step.Refused n p) = refl
 
-pub through : {B : Type 0} {rb : Cursor → Read B} {kb : B → Fit} {t₁ t₂ : Tables} (a b : Step) → From a rb kb noRows t₁ t₂ b →
+pub through : {B : Type 0} {rb : Cursor → Read B} {kb : B → Fit} {rows : Cursor → B → Tables} {t₁ t₂ : Tables} (a b : Step) → From a rb kb rows t₁ t₂ b →
     b ≡ onStep a (λ x d. onStep b (λ y q. Step.Next y q))
 through (Step.Next f c) b w = itself b
 through (Step.Refused n p) b w = w .passes n p refl
@@ -136,14 +178,41 @@ fitted-kind x f p c h e = h ∙ rw (e, kind-fit x)
 pub level : (l : ℕ) → 0 < l → suc (l - 1) ≡ l
 level l h = omega arith
 
+-- what a value or a boolean one level down promises
+abbrev pub Valued : Environment → Scope → ℕ → List ℕ → Step → Tables → Tables → Step → Type 0
+Valued e sc l s from = From from (readValue l e sc s) (valueFit e sc) (λ c v. valueTables e sc (c .at) v)
+
+abbrev pub Judged : Environment → Scope → ℕ → List ℕ → Step → Tables → Tables → Step → Type 0
+Judged e sc l s from = From from (readBoolean l e sc s) noKind (λ c b. booleanTables e sc (c .at) b)
+
 module _ (e : Environment) (sc : Scope) (s : List ℕ) (l : ℕ) (deep : 0 < l) where
   pub values-below : {from : Step} {t t′ : Tables} {r : Step} (parent : ℕ) → Descended Part.Value e sc (l - 1) parent s from t t′ r →
-      From from (readValue l e sc s) (valueFit e sc) noRows t t′ r
-  values-below {from} {t} {t′} {r} parent w = subst (λ z. From from (readValue z e sc s) (valueFit e sc) noRows t t′ r) (level l deep) w
+      Valued e sc l s from t t′ r
+  values-below {from} {t} {t′} {r} parent w = subst (λ z. Valued e sc z s from t t′ r) (level l deep) w
 
   pub booleans-below : {from : Step} {t t′ : Tables} {r : Step} (parent : ℕ) → Descended Part.Boolean e sc (l - 1) parent s from t t′ r →
-      From from (readBoolean l e sc s) noKind noRows t t′ r
-  booleans-below {from} {t} {t′} {r} parent w = subst (λ z. From from (readBoolean z e sc s) noKind noRows t t′ r) (level l deep) w
+      Judged e sc l s from t t′ r
+  booleans-below {from} {t} {t′} {r} parent w = subst (λ z. Judged e sc z s from t t′ r) (level l deep) w
+
+-- the rows of a value or a boolean, and those after it
+module _ (s : List ℕ) (octets : Octets s) (e : Environment) (sc : Scope) (l : ℕ) (c : Cursor) where
+  pub value-follows : (v : Value) (q : Cursor) → readValue l e sc s c ≡ read v q → Follows c (valueTables e sc (c .at) v) q
+  value-follows v q h =
+      let w = value-sound s octets e sc l c v q h .went in
+      record {
+        statements = omega (arith, w .counted);
+        contexts = omega (arith, w .declared, value-rows (e .relations) sc v (c .at));
+        conditions = omega (arith, w .noted);
+      }
+
+  pub boolean-follows : (b : Boolean) (q : Cursor) → readBoolean l e sc s c ≡ read b q → Follows c (booleanTables e sc (c .at) b) q
+  boolean-follows b q h =
+      let w = boolean-sound s octets e sc l c b q h .went in
+      record {
+        statements = omega (arith, w .counted);
+        contexts = omega (arith, w .declared, boolean-rows (e .relations) sc b (c .at));
+        conditions = omega (arith, w .noted);
+      }
 
 -- an operator's fit as its answer
 pub kind-step : {C : Type 0} (k : C → Fit) (x : Option Kind) (v : C) (p : ℕ) (s : List ℕ) (q : Cursor) → k v ≡ fitOf x →
@@ -156,91 +225,122 @@ pub test-step : {C : Type 0} (b : Bool) (v : C) (p : ℕ) (s : List ℕ) (q : Cu
 test-step true v p s q = refl
 test-step false v p s q = refl
 
-module _ (inner : Reader Value) (e : Environment) (sc : Scope) (p : ℕ) (s : List ℕ) (c : Cursor) {t : Tables} {r : Step} where
-  pub literal-kept : {k : ValueCode} → k ≡ Code.Literal → r ≡ stepOf literalFit (readLiteral s c) →
-      Wrote (valueUnder inner e sc p k s c) (valueFit e sc) c (noRows c) t t r
-  unfolding valueUnder kindOf
-  literal-kept ke h = rw ke (kept (h ∙ go (readLiteral s c)))
-    where
-      go : (x : Read Literal) → stepOf literalFit x ≡ stepOf (valueFit e sc) (onRead x (λ l q. read (literal l) q))
-      go (read l q) = refl
-      go (refused n i) = refl
+module _ (s : List ℕ) (octets : Octets s) (e : Environment) (sc : Scope) (l p : ℕ) (c : Cursor) (here : c .at ≡ p + 1) where
+  -- where the second of two parts stands
+  value-there : (v : Value) (q : Cursor) → readValue l e sc s c ≡ read v q → q .at ≡ p + 1 + length (valueBytes v)
+  value-there v q y = omega (arith, here, value-sound s octets e sc l c v q y .went .place)
 
-  pub reference-kept : {k : ValueCode} {code : ReferenceCode} → k ≡ Code.Reference code → r ≡ referenceStep e sc AsValue p code s c →
-      Wrote (valueUnder inner e sc p k s c) (valueFit e sc) c (noRows c) t t r
-  unfolding valueUnder kindOf referenceStep
-  reference-kept {k} {code} ke h = rw ke (kept (h ∙ go (readReference e sc AsValue p code s c)))
-    where
-      go : (x : Read Reference) → stepOf (referenceFit e sc) x ≡ stepOf (valueFit e sc) (onRead x (λ l q. read (reference l) q))
-      go (read l q) = refl
-      go (refused n i) = refl
+  boolean-there : (b : Boolean) (q : Cursor) → readBoolean l e sc s c ≡ read b q → q .at ≡ p + 1 + length (booleanBytes b)
+  boolean-there b q y = omega (arith, here, boolean-sound s octets e sc l c b q y .went .place)
 
-  module _ {f : Fit} {t₁ : Tables} {a : Step} (wa : From (Step.Next f c) (inner s) (valueFit e sc) noRows t t₁ a) where
-    pub negate-kept : {k : ValueCode} → k ≡ Code.Negate → r ≡ onStep a (λ x q. kindStep (negatedKind (kindIn x)) p q) →
-        Wrote (valueUnder inner e sc p k s c) (valueFit e sc) c (noRows c) t t₁ r
-    unfolding valueUnder kindOf
-    negate-kept ke h = rw ke (one-kept (inner s) (valueFit e sc) (valueFit e sc) wa
-        (λ v q. onRead (need (isSome (kindOf e sc (negate v))) Unfit p s q) (λ u q′. read (negate v) q′))
-        (λ x q. kindStep (negatedKind (kindIn x)) p q)
-        (λ v q. rw (kind-fit (kindOf e sc v)) (kind-step (valueFit e sc) (kindOf e sc (negate v)) (negate v) p s q refl)) h)
+  value-after : (q : Cursor) (v : Value) (q₁ : Cursor) → readValue l e sc s q ≡ read v q₁ → q₁ .at ≡ q .at + length (valueBytes v)
+  value-after q v q₁ y = value-sound s octets e sc l q v q₁ y .went .place
 
-    pub arithmetic-kept : {k : ValueCode} {o : Operator} → k ≡ Code.Arithmetic o → {t₂ : Tables} {b : Step} →
-        From a (inner s) (valueFit e sc) noRows t₁ t₂ b →
-        r ≡ onStep a (λ x d. onStep b (λ y q. kindStep (arithmeticKind o (kindIn x) (kindIn y)) p q)) →
-        Wrote (valueUnder inner e sc p k s c) (valueFit e sc) c (noRows c) t t₂ r
-    unfolding valueUnder kindOf
-    arithmetic-kept {k} {o} ke wb h = rw ke (two-kept (inner s) (valueFit e sc) (valueFit e sc) wa (inner s) (valueFit e sc) wb
-        (λ v w q. onRead (need (isSome (kindOf e sc (arithmetic o v w))) Unfit p s q) (λ u q′. read (arithmetic o v w) q′))
-        (λ x y q. kindStep (arithmeticKind o (kindIn x) (kindIn y)) p q)
-        (λ v w q. rw (kind-fit (kindOf e sc v), kind-fit (kindOf e sc w))
-        (kind-step (valueFit e sc) (kindOf e sc (arithmetic o v w)) (arithmetic o v w) p s q refl)) h)
+  module _ {t : Tables} {r : Step} where
+    pub literal-kept : {k : ValueCode} → k ≡ Code.Literal → r ≡ stepOf literalFit (readLiteral s c) →
+        Wrote (valueUnder (operandsAt l e) e sc p k s c) (valueFit e sc) c (valueTables e sc p) t t r
+    unfolding valueUnder kindOf valueRows
+    literal-kept ke h = rw ke (by-read (readLiteral s c)
+        (λ x q y. record { answer = h ∙ rw y; filled = rw y })
+        (λ n i y. record { answer = h ∙ rw y; filled = rw y }))
 
-module _ (inner : Reader Boolean) (operand : Reader Value) (e : Environment) (sc : Scope) (p : ℕ) (s : List ℕ) (c : Cursor) where
+    pub reference-kept : {k : ValueCode} {code : ReferenceCode} → k ≡ Code.Reference code → r ≡ referenceStep e sc AsValue p code s c →
+        Wrote (valueUnder (operandsAt l e) e sc p k s c) (valueFit e sc) c (valueTables e sc p) t t r
+    unfolding valueUnder kindOf referenceStep valueRows
+    reference-kept {k} {code} ke h = rw ke (by-read (readReference e sc AsValue p code s c)
+        (λ x q y. record { answer = h ∙ rw y; filled = rw y })
+        (λ n i y. record { answer = h ∙ rw y; filled = rw y }))
+
+    module _ {f : Fit} {t₁ : Tables} {a : Step} (wa : Valued e sc l s (Step.Next f c) t t₁ a) where
+      pub negate-kept : {k : ValueCode} → k ≡ Code.Negate → r ≡ onStep a (λ x q. kindStep (negatedKind (kindIn x)) p q) →
+          Wrote (valueUnder (operandsAt l e) e sc p k s c) (valueFit e sc) c (valueTables e sc p) t t₁ r
+      unfolding valueUnder kindOf valueRows
+      negate-kept ke h = rw ke (one-wrote p s (valueFit e sc) (valueTables e sc p) (readValue l e sc s) (valueFit e sc)
+          (λ c v. valueTables e sc (c .at) v) wa (λ v. isSome (kindOf e sc (negate v))) negate
+          (λ x q. kindStep (negatedKind (kindIn x)) p q)
+          (λ v q. rw (kind-fit (kindOf e sc v)) (kind-step (valueFit e sc) (kindOf e sc (negate v)) (negate v) p s q refl))
+          (λ v q y. rw here) h)
+
+      pub arithmetic-kept : {k : ValueCode} {o : Operator} → k ≡ Code.Arithmetic o → {t₂ : Tables} {b : Step} → Valued e sc l s a t₁ t₂ b →
+          r ≡ onStep a (λ x d. onStep b (λ y q. kindStep (arithmeticKind o (kindIn x) (kindIn y)) p q)) →
+          Wrote (valueUnder (operandsAt l e) e sc p k s c) (valueFit e sc) c (valueTables e sc p) t t₂ r
+      unfolding valueUnder kindOf valueRows
+      arithmetic-kept {k} {o} ke wb h = rw ke (two-wrote p s (valueFit e sc) (valueTables e sc p) (readValue l e sc s) (valueFit e sc)
+          (λ c v. valueTables e sc (c .at) v) wa (value-follows s octets e sc l c) (readValue l e sc s) (valueFit e sc)
+          (λ c v. valueTables e sc (c .at) v) wb (λ v w. isSome (kindOf e sc (arithmetic o v w))) (arithmetic o)
+          (λ x y q. kindStep (arithmeticKind o (kindIn x) (kindIn y)) p q)
+          (λ v w q. rw (kind-fit (kindOf e sc v), kind-fit (kindOf e sc w))
+          (kind-step (valueFit e sc) (kindOf e sc (arithmetic o v w)) (arithmetic o v w) p s q refl))
+          (λ v q w q₁ y y₁. rw (here, value-there v q y)) h)
+
+  module _ {f : Fit} {t t₁ : Tables} {a r : Step} (wa : Valued e sc l s (Step.Next f c) t t₁ a) {t₂ : Tables} {b : Step} (wb : Valued e sc l s a t₁ t₂ b) where
+    -- two values and a test of both
+    two-values : (test : Value → Value → Bool) (made : Value → Value → Boolean) (h : Fit → Fit → Cursor → Step) →
+        ((v w : Value) (q : Cursor) → h (valueFit e sc v) (valueFit e sc w) q ≡
+        stepOf noKind (onRead (need (test v w) Unfit p s q) (λ u q′. read (made v w) q′))) →
+        ((v w : Value) → booleanRows (e .relations) sc (made v w) p ≡
+        valueRows (e .relations) sc v (p + 1) ++ valueRows (e .relations) sc w (p + 1 + length (valueBytes v))) →
+        r ≡ onStep a (λ x d. onStep b (λ y q. h x y q)) →
+        Wrote (onRead (readValue l e sc s c) (λ v q. onRead (readValue l e sc s q) (λ w q₁.
+        onRead (need (test v w) Unfit p s q₁) (λ u q′. read (made v w) q′)))) noKind c (booleanTables e sc p) t t₂ r
+    two-values test made h law rows i = two-wrote p s noKind (booleanTables e sc p) (readValue l e sc s) (valueFit e sc)
+        (λ c v. valueTables e sc (c .at) v) wa (value-follows s octets e sc l c) (readValue l e sc s) (valueFit e sc)
+        (λ c v. valueTables e sc (c .at) v) wb test made h law (λ v q w q₁ y y₁. rw (here, value-there v q y, rows v w)) i
+
   module _ {k : BooleanCode} {f : Fit} {t t₁ : Tables} {a : Step} where
-    module _ (wa : From (Step.Next f c) (operand s) (valueFit e sc) noRows t t₁ a) {r : Step} where
+    module _ (wa : Valued e sc l s (Step.Next f c) t t₁ a) {r : Step} where
       pub missing-kept : k ≡ Missing → r ≡ onStep a (λ x q. Step.Next Fit.NoKind q) →
-          Wrote (booleanUnder inner operand e sc p k s c) noKind c (noRows c) t t₁ r
-      unfolding booleanUnder
-      missing-kept ke h = rw ke (one-kept (operand s) (valueFit e sc) noKind wa _ (λ x q. Step.Next Fit.NoKind q) (λ v q. refl) h)
+          Wrote (booleanUnder (operandsAt l e) e sc p k s c) noKind c (booleanTables e sc p) t t₁ r
+      unfolding booleanUnder booleanRows
+      missing-kept ke h = rw ke (one-wrote p s noKind (booleanTables e sc p) (readValue l e sc s) (valueFit e sc)
+          (λ c v. valueTables e sc (c .at) v) wa (λ v. true) Boolean.missing (λ x q. Step.Next Fit.NoKind q) (λ v q. refl)
+          (λ v q y. rw here) h)
 
-      module _ {t₂ : Tables} {b : Step} (wb : From a (operand s) (valueFit e sc) noRows t₁ t₂ b) where
+      module _ {t₂ : Tables} {b : Step} (wb : Valued e sc l s a t₁ t₂ b) where
         pub compare-kept : {o : Comparison} → k ≡ Compare o →
             r ≡ onStep a (λ x d. onStep b (λ y q. testStep (oneKind (kindIn x) (kindIn y)) p q)) →
-            Wrote (booleanUnder inner operand e sc p k s c) noKind c (noRows c) t t₂ r
-        unfolding booleanUnder
-        compare-kept {o} ke h = rw ke (two-kept (operand s) (valueFit e sc) noKind wa (operand s) (valueFit e sc) wb _
+            Wrote (booleanUnder (operandsAt l e) e sc p k s c) noKind c (booleanTables e sc p) t t₂ r
+        unfolding booleanUnder booleanRows
+        compare-kept {o} ke h = rw ke (two-values wa wb (λ v w. oneKind (kindOf e sc v) (kindOf e sc w)) (Boolean.compare o)
             (λ x y q. testStep (oneKind (kindIn x) (kindIn y)) p q)
             (λ v w q. rw (kind-fit (kindOf e sc v), kind-fit (kindOf e sc w))
-            (test-step (oneKind (kindOf e sc v) (kindOf e sc w)) (Boolean.compare o v w) p s q)) h)
+            (test-step (oneKind (kindOf e sc v) (kindOf e sc w)) (Boolean.compare o v w) p s q)) (λ v w. refl) h)
 
         pub search-kept : {o : TextSearch} → k ≡ Search o →
             r ≡ onStep a (λ x d. onStep b (λ y q. testStep (bothText (kindIn x) (kindIn y)) p q)) →
-            Wrote (booleanUnder inner operand e sc p k s c) noKind c (noRows c) t t₂ r
-        unfolding booleanUnder
-        search-kept {o} ke h = rw ke (two-kept (operand s) (valueFit e sc) noKind wa (operand s) (valueFit e sc) wb _
+            Wrote (booleanUnder (operandsAt l e) e sc p k s c) noKind c (booleanTables e sc p) t t₂ r
+        unfolding booleanUnder booleanRows
+        search-kept {o} ke h = rw ke (two-values wa wb (λ v w. bothText (kindOf e sc v) (kindOf e sc w)) (Boolean.search o)
             (λ x y q. testStep (bothText (kindIn x) (kindIn y)) p q)
             (λ v w q. rw (kind-fit (kindOf e sc v), kind-fit (kindOf e sc w))
-            (test-step (bothText (kindOf e sc v) (kindOf e sc w)) (Boolean.search o v w) p s q)) h)
+            (test-step (bothText (kindOf e sc v) (kindOf e sc w)) (Boolean.search o v w) p s q)) (λ v w. refl) h)
 
-        pub between-kept : k ≡ Between → {t₃ : Tables} {d : Step} → From b (operand s) (valueFit e sc) noRows t₂ t₃ d →
+        pub between-kept : k ≡ Between → {t₃ : Tables} {d : Step} → Valued e sc l s b t₂ t₃ d →
             r ≡ onStep a (λ x i. onStep b (λ y j. onStep d (λ z q. testStep (allOneKind (kindIn x) (kindIn y) (kindIn z)) p q))) →
-            Wrote (booleanUnder inner operand e sc p k s c) noKind c (noRows c) t t₃ r
-        unfolding booleanUnder
-        between-kept ke wd h = rw ke (three-kept (operand s) (valueFit e sc) noKind wa (operand s) (valueFit e sc) wb (operand s) (valueFit e sc) wd _
+            Wrote (booleanUnder (operandsAt l e) e sc p k s c) noKind c (booleanTables e sc p) t t₃ r
+        unfolding booleanUnder booleanRows
+        between-kept ke wd h = rw ke (three-wrote p s noKind (booleanTables e sc p) (readValue l e sc s) (valueFit e sc)
+            (λ c v. valueTables e sc (c .at) v) wa (value-follows s octets e sc l c) (readValue l e sc s) (valueFit e sc)
+            (λ c v. valueTables e sc (c .at) v) wb (value-follows s octets e sc l) (readValue l e sc s) (valueFit e sc)
+            (λ c v. valueTables e sc (c .at) v) wd (λ v w u. allOneKind (kindOf e sc v) (kindOf e sc w) (kindOf e sc u)) Boolean.between
             (λ x y z q. testStep (allOneKind (kindIn x) (kindIn y) (kindIn z)) p q)
             (λ v w u q. rw (kind-fit (kindOf e sc v), kind-fit (kindOf e sc w), kind-fit (kindOf e sc u))
-            (test-step (allOneKind (kindOf e sc v) (kindOf e sc w) (kindOf e sc u)) (Boolean.between v w u) p s q)) h)
+            (test-step (allOneKind (kindOf e sc v) (kindOf e sc w) (kindOf e sc u)) (Boolean.between v w u) p s q))
+            (λ v q w q₁ u q₂ y y₁ y₂. rw (value-after q w q₁ y₁, here, value-there v q y, append-assoc)) h)
 
-    module _ (wa : From (Step.Next f c) (inner s) noKind noRows t t₁ a) where
-      pub not-kept : k ≡ Not → Wrote (booleanUnder inner operand e sc p k s c) noKind c (noRows c) t t₁ a
-      unfolding booleanUnder
-      not-kept ke = rw ke (one-kept (inner s) noKind noKind wa _ (λ x q. Step.Next x q) (λ v q. refl) (itself a))
+    module _ (wa : Judged e sc l s (Step.Next f c) t t₁ a) where
+      pub not-kept : k ≡ Not → Wrote (booleanUnder (operandsAt l e) e sc p k s c) noKind c (booleanTables e sc p) t t₁ a
+      unfolding booleanUnder booleanRows
+      not-kept ke = rw ke (one-wrote p s noKind (booleanTables e sc p) (readBoolean l e sc s) noKind (λ c b. booleanTables e sc (c .at) b) wa
+          (λ v. true) Boolean.not (λ x q. Step.Next x q) (λ v q. refl) (λ v q y. rw here) (itself a))
 
-      pub connect-kept : {o : Connective} → k ≡ Connect o → {t₂ : Tables} {b : Step} → From a (inner s) noKind noRows t₁ t₂ b →
-          Wrote (booleanUnder inner operand e sc p k s c) noKind c (noRows c) t t₂ b
-      unfolding booleanUnder
-      connect-kept {o} ke {b} wb = rw ke (two-kept (inner s) noKind noKind wa (inner s) noKind wb _ (λ x y q. Step.Next y q)
-          (λ v w q. refl) (through a b wb))
+      pub connect-kept : {o : Connective} → k ≡ Connect o → {t₂ : Tables} {b : Step} → Judged e sc l s a t₁ t₂ b →
+          Wrote (booleanUnder (operandsAt l e) e sc p k s c) noKind c (booleanTables e sc p) t t₂ b
+      unfolding booleanUnder booleanRows
+      connect-kept {o} ke {b} wb = rw ke (two-wrote p s noKind (booleanTables e sc p) (readBoolean l e sc s) noKind
+          (λ c b. booleanTables e sc (c .at) b) wa (boolean-follows s octets e sc l c) (readBoolean l e sc s) noKind
+          (λ c b. booleanTables e sc (c .at) b) wb (λ v w. true) (Boolean.connect o) (λ x y q. Step.Next y q) (λ v w q. refl)
+          (λ v q w q₁ y y₁. rw (here, boolean-there v q y)) (through a b wb))
 
 -- ---- a boolean from its operands
 
@@ -264,35 +364,30 @@ module _ (part : Part) (e : Environment) (sc : Scope) (l : ℕ) (s : List ℕ) (
     pub double : n ≡ 2 → Two x y
     pub triple : n ≡ 3 → Three x y z
 
-module _ (e : Environment) (sc : Scope) (p : ℕ) (s : List ℕ) (c : Cursor) (l : ℕ) (deep : 0 < l) where
+module _ (s : List ℕ) (octets : Octets s) (e : Environment) (sc : Scope) (l p : ℕ) (c : Cursor) (here : c .at ≡ p + 1) (deep : 0 < l) where
   pub boolean-kept : (k : BooleanCode) {n : ℕ} {part : Part} (x y z : Step) {t t′ : Tables} {r : Step} → n ≡ operandCount k → part ≡ operandPart k →
       Operated part e sc (l - 1) s c t t′ n x y z → r ≡ booleanAnswer k x y z p →
-      Wrote (booleanUnder (readBoolean l e sc) (readValue l e sc) e sc p k s c) noKind c (noRows c) t t′ r
+      Wrote (booleanUnder (operandsAt l e) e sc p k s c) noKind c (booleanTables e sc p) t t′ r
   boolean-kept k {n} {part} x y z {t} {t′} {r} i j w h = go k (subst (λ m. Operated m e sc (l - 1) s c t t′ (operandCount k) x y z) j
       (subst (λ m. Operated part e sc (l - 1) s c t t′ m x y z) i w)) h
     where
       go : (k : BooleanCode) → Operated (operandPart k) e sc (l - 1) s c t t′ (operandCount k) x y z → r ≡ booleanAnswer k x y z p →
-          Wrote (booleanUnder (readBoolean l e sc) (readValue l e sc) e sc p k s c) noKind c (noRows c) t t′ r
+          Wrote (booleanUnder (operandsAt l e) e sc p k s c) noKind c (booleanTables e sc p) t t′ r
       go (Compare o) w h =
           let d = w .double refl in
-          compare-kept (readBoolean l e sc) (readValue l e sc) e sc p s c (values-below e sc s l deep 0 (d .one))
-          (values-below e sc s l deep 0 (d .two)) refl h
+          compare-kept s octets e sc l p c here (values-below e sc s l deep 0 (d .one)) (values-below e sc s l deep 0 (d .two)) refl h
       go (Search o) w h =
           let d = w .double refl in
-          search-kept (readBoolean l e sc) (readValue l e sc) e sc p s c (values-below e sc s l deep 0 (d .one))
-          (values-below e sc s l deep 0 (d .two)) refl h
+          search-kept s octets e sc l p c here (values-below e sc s l deep 0 (d .one)) (values-below e sc s l deep 0 (d .two)) refl h
       go Between w h =
           let d = w .triple refl in
-          between-kept (readBoolean l e sc) (readValue l e sc) e sc p s c (values-below e sc s l deep 0 (d .one))
-          (values-below e sc s l deep 0 (d .two)) refl (values-below e sc s l deep 0 (d .three)) h
+          between-kept s octets e sc l p c here (values-below e sc s l deep 0 (d .one)) (values-below e sc s l deep 0 (d .two)) refl
+          (values-below e sc s l deep 0 (d .three)) h
       go (Connect o) w h =
           let d = w .double refl in
-          rw h (connect-kept (readBoolean l e sc) (readValue l e sc) e sc p s c (booleans-below e sc s l deep 0 (d .one)) refl
-          (booleans-below e sc s l deep 0 (d .two)))
-      go Not w h =
-          rw h (not-kept (readBoolean l e sc) (readValue l e sc) e sc p s c (booleans-below e sc s l deep 0 (w .single refl)) refl)
-      go Missing w h =
-          missing-kept (readBoolean l e sc) (readValue l e sc) e sc p s c (values-below e sc s l deep 0 (w .single refl)) refl h
+          rw h (connect-kept s octets e sc l p c here (booleans-below e sc s l deep 0 (d .one)) refl (booleans-below e sc s l deep 0 (d .two)))
+      go Not w h = rw h (not-kept s octets e sc l p c here (booleans-below e sc s l deep 0 (w .single refl)) refl)
+      go Missing w h = missing-kept s octets e sc l p c here (values-below e sc s l deep 0 (w .single refl)) refl h
 
 -- ---- one level down
 
@@ -312,51 +407,62 @@ pub boolean-not : (x : Read BooleanCode) {n : Refusal} {p : ℕ} → booleanHead
 boolean-not (read k q) e = absurd-eq (cc)
 boolean-not (refused n p) e = cc
 
+-- the code counts nothing
+leveled-counts : {A : Type 0} (class : ℕ → Class A) (l : ℕ) (s : List ℕ) (c : Cursor) {k : A} {q : Cursor} → leveled class l s c ≡ read k q → Counts c q
+unfolding leveled
+leveled-counts class l s c {k} {q} h = undo (coded class s c) _ h (λ a q₁ e w. needed (ltb 0 l) _ _ _ _ _ w (λ t v.
+    let g = byte-went s c (coded-read s c class e .1) in
+    same v (λ a q. Counts c q) (record {
+      statements = omega (arith, g .counted);
+      contexts = omega (arith, g .declared);
+      conditions = omega (arith, g .noted);
+    })))
+
 module _ (e : Environment) (sc : Scope) (l : ℕ) (s : List ℕ) where
   value-leveled : (c : Cursor) → readValue (suc l) e sc s c ≡
-      onRead (leveled valueClass l s c) (λ k q. valueUnder (readValue l e sc) e sc (c .at) k s q)
+      onRead (leveled valueClass l s c) (λ k q. valueUnder (operandsAt l e) e sc (c .at) k s q)
   unfolding readValue leveled
   value-leveled c = go (coded valueClass s c) (ltb 0 l) refl refl
     where
       go : (y : Read ValueCode) (b : Bool) → coded valueClass s c ≡ y → ltb 0 l ≡ b → readValue (suc l) e sc s c ≡
-          onRead (leveled valueClass l s c) (λ k q. valueUnder (readValue l e sc) e sc (c .at) k s q)
+          onRead (leveled valueClass l s c) (λ k q. valueUnder (operandsAt l e) e sc (c .at) k s q)
       go (read k q) true h i = rw (readValue, leveled, h, i)
       go (read k q) false h i = rw (readValue, leveled, h, i)
       go (refused n p) b h i = rw (readValue, leveled, h)
 
   boolean-leveled : (c : Cursor) → readBoolean (suc l) e sc s c ≡
-      onRead (leveled booleanClass l s c) (λ k q. booleanUnder (readBoolean l e sc) (readValue l e sc) e sc (c .at) k s q)
+      onRead (leveled booleanClass l s c) (λ k q. booleanUnder (operandsAt l e) e sc (c .at) k s q)
   unfolding readBoolean leveled
   boolean-leveled c = go (coded booleanClass s c) (ltb 0 l) refl refl
     where
       go : (y : Read BooleanCode) (b : Bool) → coded booleanClass s c ≡ y → ltb 0 l ≡ b → readBoolean (suc l) e sc s c ≡
-          onRead (leveled booleanClass l s c) (λ k q. booleanUnder (readBoolean l e sc) (readValue l e sc) e sc (c .at) k s q)
+          onRead (leveled booleanClass l s c) (λ k q. booleanUnder (operandsAt l e) e sc (c .at) k s q)
       go (read k q) true h i = rw (readBoolean, leveled, h, i)
       go (read k q) false h i = rw (readBoolean, leveled, h, i)
       go (refused n p) b h i = rw (readBoolean, leveled, h)
 
   module _ {from : Step} {f : Fit} {c : Cursor} (at : from ≡ Step.Next f c) {t t′ : Tables} where
     pub value-descended : {h : ValueHead} {k : ValueCode} {q : Cursor} {r : Step} → h ≡ valueHead (leveled valueClass l s c) → h ≡ ValueHead.Is k q →
-        Wrote (valueUnder (readValue l e sc) e sc (c .at) k s q) (valueFit e sc) q (noRows q) t t′ r →
-        From from (readValue (suc l) e sc s) (valueFit e sc) noRows t t′ r
+        Wrote (valueUnder (operandsAt l e) e sc (c .at) k s q) (valueFit e sc) q (valueTables e sc (c .at)) t t′ r →
+        Valued e sc (suc l) s from t t′ r
     value-descended u v w =
-        let x : readValue (suc l) e sc s c ≡ valueUnder (readValue l e sc) e sc (c .at) _ s _ =
-        value-leveled c ∙ ap (λ y. onRead y (λ k q. valueUnder (readValue l e sc) e sc (c .at) k s q)) (value-is (leveled valueClass l s c) (sym u ∙ v)) in
-        started at (likewise x (record { answer = w .answer; filled = w .filled }))
+        let x : readValue (suc l) e sc s c ≡ valueUnder (operandsAt l e) e sc (c .at) _ s _ =
+        value-leveled c ∙ ap (λ y. onRead y (λ k q. valueUnder (operandsAt l e) e sc (c .at) k s q)) (value-is (leveled valueClass l s c) (sym u ∙ v)) in
+        started at (likewise x (wrote-moved (leveled-counts valueClass l s c (value-is (leveled valueClass l s c) (sym u ∙ v))) w))
 
     pub value-refused : {h : ValueHead} {n : Refusal} {p : ℕ} → h ≡ valueHead (leveled valueClass l s c) → h ≡ ValueHead.Refused n p →
-        From from (readValue (suc l) e sc s) (valueFit e sc) noRows t t′ (Step.Refused n p)
+        Valued e sc (suc l) s from t t′ (Step.Refused n p)
     value-refused u v = started at (stop (value-leveled c ∙ rw (value-not (leveled valueClass l s c) (sym u ∙ v))))
 
     pub boolean-descended : {h : BooleanHead} {k : BooleanCode} {q : Cursor} {r : Step} → h ≡ booleanHead (leveled booleanClass l s c) →
-        h ≡ BooleanHead.Is k q → Wrote (booleanUnder (readBoolean l e sc) (readValue l e sc) e sc (c .at) k s q) noKind q (noRows q) t t′ r →
-        From from (readBoolean (suc l) e sc s) noKind noRows t t′ r
+        h ≡ BooleanHead.Is k q → Wrote (booleanUnder (operandsAt l e) e sc (c .at) k s q) noKind q (booleanTables e sc (c .at)) t t′ r →
+        Judged e sc (suc l) s from t t′ r
     boolean-descended u v w =
-        let x : readBoolean (suc l) e sc s c ≡ booleanUnder (readBoolean l e sc) (readValue l e sc) e sc (c .at) _ s _ =
-        boolean-leveled c ∙ ap (λ y. onRead y (λ k q. booleanUnder (readBoolean l e sc) (readValue l e sc) e sc (c .at) k s q))
+        let x : readBoolean (suc l) e sc s c ≡ booleanUnder (operandsAt l e) e sc (c .at) _ s _ =
+        boolean-leveled c ∙ ap (λ y. onRead y (λ k q. booleanUnder (operandsAt l e) e sc (c .at) k s q))
         (boolean-is (leveled booleanClass l s c) (sym u ∙ v)) in
-        started at (likewise x (record { answer = w .answer; filled = w .filled }))
+        started at (likewise x (wrote-moved (leveled-counts booleanClass l s c (boolean-is (leveled booleanClass l s c) (sym u ∙ v))) w))
 
     pub boolean-refused : {h : BooleanHead} {n : Refusal} {p : ℕ} → h ≡ booleanHead (leveled booleanClass l s c) → h ≡ BooleanHead.Refused n p →
-        From from (readBoolean (suc l) e sc s) noKind noRows t t′ (Step.Refused n p)
+        Judged e sc (suc l) s from t t′ (Step.Refused n p)
     boolean-refused u v = started at (stop (boolean-leveled c ∙ rw (boolean-not (leveled booleanClass l s c) (sym u ∙ v))))

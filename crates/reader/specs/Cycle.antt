@@ -26,17 +26,17 @@ use Rattle.grammar.specs.declared.ByteStep.{ByteStep}
 use Rattle.grammar.specs.declared.ByteStep.the-variants as ByteStep
 use Rattle.grammar.specs.declared.Fit.{Fit}
 use Rattle.grammar.specs.declared.Fit.the-variants as Fit
-use Rattle.grammar.specs.Tree.{Value, Boolean, Clauses, rse, Statement, assignment, begin, erase, for, headed, leave, if, ifElse, select, Statements, Receives}
+use Rattle.grammar.specs.Tree.{Value, Boolean, Keys, Clauses, rse, Statement, assignment, begin, erase, for, headed, leave, if, ifElse, select, Statements, Receives}
 use Rattle.grammar.specs.Names as Names
 use Rattle.grammar.specs.Names.{Environment}
 use Rattle.grammar.specs.Kinds.{kindOf}
 use Rattle.grammar.specs.Bytes.{rseBytes, headingBytes, booleanBytes}
 use Rattle.grammar.specs.Scope.{declared, updating}
 use Rattle.grammar.specs.Sizes.{statementCount}
-use Rattle.grammar.specs.Rows.{size, statementRows, statementsRows, receivesRows, contextRows, contextsRows, receivesContextRows}
+use Rattle.grammar.specs.Rows.{size, statementRows, statementsRows, receivesRows, valueRows, booleanRows, keysRows, clausesRows, contextRows, contextsRows, receivesContextRows}
 use Rattle.grammar.specs.Conditions.{Condition, clausesConditions, conditions, statementsConditions, receivesConditions}
 use Rattle.grammar.specs.Reader.{Read, read, refused, Reader, _>>=_, _>>_, return, need, place, on, withStatement, byte, tested, code, coded, counted}
-use Rattle.grammar.specs.Values.{readValue, readBoolean}
+use Rattle.grammar.specs.Values.{Operands, operands, readValue, readBoolean}
 use Rattle.grammar.specs.Statements.{Inner, inner, readStatement, readReceive}
 use Rattle.grammar.specs.Steps.{fitOf, stepOf, noKind, byteStep}
 use Rattle.grammar.specs.Demands.{Octets}
@@ -234,14 +234,27 @@ places cs = map (λ x. x .place) cs
 abbrev pub statementTables : List Relation → Names.Scope → Statement → ℕ → ℕ → ℕ → Tables
 statementTables rs sc t p n parent = tables (statementRows t p n parent) (contextRows rs sc t p) (places (conditions rs sc t p))
 
+-- the rows of a value, a boolean and sort values at p: those of the contexts declared in them
+abbrev pub valueTables : Environment → Names.Scope → ℕ → Value → Tables
+valueTables e sc p v = tables [] (valueRows (e .relations) sc v p) []
+
+abbrev pub booleanTables : Environment → Names.Scope → ℕ → Boolean → Tables
+booleanTables e sc p b = tables [] (booleanRows (e .relations) sc b p) []
+
+abbrev pub keysTables : Environment → Names.Scope → ℕ → Keys → Tables
+keysTables e sc p ks = tables [] (keysRows (e .relations) sc ks p) []
+
 -- one level down, with l levels below that
 abbrev pub Descended : Part → Environment → Names.Scope → ℕ → ℕ → List ℕ → Step → Tables → Tables → Step → Type 0
-Descended Part.Value e sc l parent s from = From from (readValue (suc l) e sc s) (valueFit e sc) noRows
-Descended Part.Boolean e sc l parent s from = From from (readBoolean (suc l) e sc s) noKind noRows
+Descended Part.Value e sc l parent s from = From from (readValue (suc l) e sc s) (valueFit e sc) (λ c v. valueTables e sc (c .at) v)
+Descended Part.Boolean e sc l parent s from = From from (readBoolean (suc l) e sc s) noKind (λ c b. booleanTables e sc (c .at) b)
 Descended Part.Statement e sc l parent s from =
     From from (readStatement (suc l) e sc s) noKind (λ c t. statementTables (e .relations) sc t (c .at) (c .statements) parent)
 
 -- the readers one level down
+abbrev pub operandsAt : ℕ → Environment → Operands
+operandsAt l e = operands (λ x. readBoolean l e x) (λ x. readValue l e x)
+
 abbrev pub innerAt : ℕ → Environment → Inner
 innerAt l e = inner (λ x. readStatement l e x) (λ x before. readReceive l e x before) l e
 
@@ -273,8 +286,8 @@ receivesTables e sc parent c rs =
     tables (receivesRows rs (c .at) (c .statements) parent) (receivesContextRows (e .relations) sc rs (c .at))
     (places (receivesConditions (e .relations) sc rs (c .at)))
 
-abbrev pub clausesTables : Names.Scope → Cursor → Clauses → Tables
-clausesTables sc c cs = tables [] [] (places (clausesConditions sc cs (c .at)))
+abbrev pub clausesTables : Environment → Names.Scope → Cursor → Clauses → Tables
+clausesTables e sc c cs = tables [] (clausesRows (e .relations) sc cs (c .at)) (places (clausesConditions sc cs (c .at)))
 
 -- ---- what the leaves write
 
