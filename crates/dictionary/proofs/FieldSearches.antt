@@ -10,7 +10,7 @@ use native.Mathlib.Omega.{arith}
 use lib.ListN.{length, getElem?}
 use Rattle.wire.specs.Lists.{indexOf, sameBytes}
 use Rattle.dictionary.specs.Dictionary.{Field, nameAt}
-use Rattle.dictionary.specs.Names.{named, fieldOf}
+use Rattle.dictionary.specs.Naming.{named, fieldOf}
 use Rattle.dictionary.specs.Walk.{fieldsOf, isField, nextPlace, fieldsFrom, entryField, relationAt}
 use Rattle.dictionary.specs.FieldAnswers.{indexAnswer}
 use Rattle.dictionary.specs.declared.field.Index.the-variants.{Is, Unknown}

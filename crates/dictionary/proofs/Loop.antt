@@ -11,7 +11,7 @@ use borrow.Author.Tests.{eqb-true, leb-true, lt-ltb, le-ltb, lt-leb, le-leb}
 use Rattle.wire.specs.Words.{byteAt, wordAt}
 use Rattle.wire.specs.Classes.{Class, due, leftOut, foreign, fieldClass}
 use Rattle.wire.specs.declared.codes.FieldType.{FieldType}
-use Rattle.dictionary.specs.declared.check.Answer.the-variants.{Proper, Fault}
+use Rattle.dictionary.specs.declared.check.DictionaryCheck.the-variants.{Proper, Fault}
 use Rattle.dictionary.specs.declared.check.Met.{Met}
 use Rattle.dictionary.specs.declared.check.Meeting.the-variants.{Good, Bad}
 use Rattle.dictionary.specs.Dictionary.{wholeEntry, Checked, proper, atFault, dictionary}

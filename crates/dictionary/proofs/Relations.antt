@@ -13,7 +13,7 @@ use Rattle.wire.specs.Lists.{find, sameBytes}
 use Rattle.wire.specs.Classes.{Class, due, leftOut, foreign, fieldClass}
 use Rattle.wire.specs.declared.codes.FieldType.{FieldType}
 use Rattle.dictionary.specs.Dictionary.{Field, Relation, nameAt, wholeEntry, relationFits, relationEntry, fieldFits, fieldAt, withField, fieldEntry, entry, Checked, proper, atFault, nextEntry, entries, dictionary}
-use Rattle.dictionary.specs.Names.{Name, named, numbered, relationOf}
+use Rattle.dictionary.specs.Naming.{Name, named, numbered, relationOf}
 use Rattle.dictionary.specs.Walk.{kindAt, between, later, lastOf, isNamed, relationPlace, typeOf, entryField, fieldsOf, relationAt}
 use Rattle.dictionary.proofs.Places.{Walk, here, walk-on, last-one, none-between}
 use Rattle.dictionary.proofs.Tests.{both-left}

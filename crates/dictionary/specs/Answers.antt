@@ -2,8 +2,8 @@
 use Prim.Native.Nat.{ℕ}
 use mathlib.Core.List.{List}
 use mathlib.Core.Option.{Option, none, some}
-use Rattle.dictionary.specs.declared.check.Answer.{Answer}
-use Rattle.dictionary.specs.declared.check.Answer.the-variants.{Proper, Fault}
+use Rattle.dictionary.specs.declared.check.DictionaryCheck.{DictionaryCheck}
+use Rattle.dictionary.specs.declared.check.DictionaryCheck.the-variants.{Proper, Fault}
 use Rattle.dictionary.specs.declared.check.Met.{Met}
 use Rattle.dictionary.specs.declared.check.Meeting.{Meeting}
 use Rattle.dictionary.specs.declared.check.Meeting.the-variants.{Good, Bad}
@@ -12,9 +12,9 @@ use Rattle.dictionary.specs.declared.lookup.Place.the-variants.{At, Unkn
 use Rattle.dictionary.specs.declared.lookup.Wanted.{Wanted}
 use Rattle.dictionary.specs.declared.lookup.Wanted.the-variants.{ByName, ById}
 use Rattle.dictionary.specs.Dictionary.{Checked, proper, atFault}
-use Rattle.dictionary.specs.Names.{Name, named, numbered}
+use Rattle.dictionary.specs.Naming.{Name, named, numbered}
 
-abbrev pub answerOf : Checked → Answer
+abbrev pub answerOf : Checked → DictionaryCheck
 answerOf (proper rs) = Proper
 answerOf (atFault p) = Fault p
 
@@ -22,7 +22,7 @@ abbrev pub meetingOf : Option Met → Meeting
 meetingOf none = Bad
 meetingOf (some m) = Good m
 
-abbrev pub faultAnswer : Option ℕ → Answer
+abbrev pub faultAnswer : Option ℕ → DictionaryCheck
 faultAnswer none = Proper
 faultAnswer (some p) = Fault p
 

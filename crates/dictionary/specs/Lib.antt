@@ -1,7 +1,7 @@
 -- The house dictionary.
 pub mod Format
 pub mod Dictionary
-pub mod Names
+pub mod Naming
 pub mod Walk
 pub mod Answers
 pub mod FieldAnswers

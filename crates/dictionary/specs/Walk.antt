@@ -16,7 +16,7 @@ use Rattle.dictionary.specs.declared.check.Unique.{Unique}
 use Rattle.dictionary.specs.declared.check.Unique.the-variants.{OfRelation, OfField}
 use Rattle.dictionary.specs.Format.{fitting}
 use Rattle.dictionary.specs.Dictionary.{Field, Relation, nameAt, goodName, wholeEntry, fieldAt}
-use Rattle.dictionary.specs.Names.{Name, named, numbered}
+use Rattle.dictionary.specs.Naming.{Name, named, numbered}
 
 abbrev pub kindAt : List ℕ → ℕ → ℕ
 kindAt d q = wordAt d (q + 2)

@@ -24,7 +24,7 @@ use wire::codes::FieldType;
 use wire::codes::Width;
 
 // A dictionary is proper, or has a fault at the start of an entry.
-pub enum Answer {
+pub enum DictionaryCheck {
     Proper,
     Fault(usize),
 }
@@ -272,11 +272,11 @@ fn meet_entry(d: &[u8], p: usize, m: Met) -> Meeting
 }
 
 // Whether a dictionary of any bytes is proper, or the first entry at fault.
-pub fn check(d: &[u8]) -> Answer
+pub fn check(d: &[u8]) -> DictionaryCheck
     ensures { λ r. ⌜ r ≡ answerOf (dictionary (now (d .entry))) ⌝ }
 {
     if 65535 < d.len() {
-        return Answer::Fault(0);
+        return DictionaryCheck::Fault(0);
     }
     let mut m = Met {
         relations: 0,
@@ -291,10 +291,10 @@ pub fn check(d: &[u8]) -> Answer
                 m = x;
             }
             Meeting::Bad => {
-                return Answer::Fault(p);
+                return DictionaryCheck::Fault(p);
             }
         }
         p += word_at(d, p) as usize;
     }
-    Answer::Proper
+    DictionaryCheck::Proper
 }

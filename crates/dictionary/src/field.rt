@@ -4,7 +4,7 @@ ghost use Prim.Native.Nat.{_+_, _<_};
 ghost use lib.ListN.{length, getElem?};
 ghost use Rattle.wire.specs.Lists.{sameBytes};
 ghost use Rattle.dictionary.specs.Dictionary.{nameAt};
-ghost use Rattle.dictionary.specs.Names.{named, fieldOf};
+ghost use Rattle.dictionary.specs.Naming.{named, fieldOf};
 ghost use Rattle.dictionary.specs.Walk.{fieldsOf, relationAt, entryField};
 ghost use Rattle.dictionary.specs.Answers.{placeAnswer};
 ghost use Rattle.dictionary.specs.FieldAnswers.{indexAnswer, formatIs};

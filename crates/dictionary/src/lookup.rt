@@ -3,7 +3,7 @@ ghost use mathlib.Core.Path.{_≡_};
 ghost use mathlib.Core.Bool.{cond};
 ghost use Rattle.dictionary.specs.declared.lookup.Place.the-variants.{At};
 ghost use Prim.Native.Nat.{_≤_};
-ghost use Rattle.dictionary.specs.Names.{named, numbered};
+ghost use Rattle.dictionary.specs.Naming.{named, numbered};
 ghost use Rattle.dictionary.specs.Walk.{isNamed, relationPlace};
 ghost use Rattle.dictionary.specs.Answers.{placeAnswer, wantedName};
 use crate::names::name_at;

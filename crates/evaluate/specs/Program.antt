@@ -10,8 +10,8 @@ use Rattle.meaning.specs.Evaluation.{Outcome, evaluation}
 use Rattle.input.specs.Evaluation.{joined, evaluationInput}
 use Rattle.input.specs.declared.EvaluationInput.{EvaluationInput}
 use Rattle.input.specs.declared.EvaluationInput.the-variants.{Entries, Bad}
-use Rattle.evaluate.specs.declared.Answer.{Answer}
-use Rattle.evaluate.specs.declared.Answer.the-variants.{Is, BadInput}
+use Rattle.evaluate.specs.declared.ProgramAnswer.{ProgramAnswer}
+use Rattle.evaluate.specs.declared.ProgramAnswer.the-variants.{Is, BadInput}
 
 -- the bytes from one place up to another
 abbrev pub part : List ℕ → ℕ → ℕ → List ℕ
@@ -24,9 +24,9 @@ outcome s (Entries request number records) =
     (evaluation (part s (request + 4) number) (part s 4 request) (wordAt s (number + 4)) (joined s (number + 6) 10) (drop records s))
 outcome s Bad = none
 
-abbrev pub answerOf : Answer → Option Outcome
+abbrev pub answerOf : ProgramAnswer → Option Outcome
 answerOf (Is e) = some (outcomeOf e)
 answerOf BadInput = none
 
-abbrev pub Answered : List ℕ → Answer → Type 0
+abbrev pub Answered : List ℕ → ProgramAnswer → Type 0
 Answered s r = answerOf r ≡ outcome s (evaluationInput s)

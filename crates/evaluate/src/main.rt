@@ -12,20 +12,20 @@ use show::bad_input;
 use show::evaluation;
 use wire::bytes::word_at;
 
-enum Answer {
+enum ProgramAnswer {
     Is(Evaluation),
     BadInput,
 }
 
 // The answer to an input. A body starts four bytes after its entry; the messages are joined in a space as long as the longest input.
-fn evaluate_input(s: &[u8], images: &mut [u8]) -> Answer
+fn evaluate_input(s: &[u8], images: &mut [u8]) -> ProgramAnswer
     requires { ⌜ 3000000 ≤ length (now images) ⌝ }
     ensures { λ r. ⌜ Answered (now (s .entry)) r ⌝ }
 {
     match input::evaluation_entries(s) {
         EvaluationInput::Entries(request, number, records) => {
             let n = input::join_bodies(s, number + 6, 10, images);
-            Answer::Is(evaluator::evaluate(
+            ProgramAnswer::Is(evaluator::evaluate(
                 &s[request + 4..number],
                 &s[4..request],
                 word_at(s, number + 4) as usize,
@@ -33,14 +33,14 @@ fn evaluate_input(s: &[u8], images: &mut [u8]) -> Answer
                 &s[records..],
             ))
         }
-        EvaluationInput::Bad => Answer::BadInput,
+        EvaluationInput::Bad => ProgramAnswer::BadInput,
     }
 }
 
-fn show_answer(a: Answer) {
+fn show_answer(a: ProgramAnswer) {
     match a {
-        Answer::Is(e) => evaluation(e),
-        Answer::BadInput => bad_input(),
+        ProgramAnswer::Is(e) => evaluation(e),
+        ProgramAnswer::BadInput => bad_input(),
     }
 }
 

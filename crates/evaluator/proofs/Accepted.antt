@@ -8,8 +8,8 @@ use lib.Seq.{sets}
 use borrow.Author.Tests.{le-leb}
 use Rattle.grammar.specs.declared.Refusal.{Refusal}
 use Rattle.grammar.specs.declared.Cursor.{Cursor}
-use Rattle.grammar.specs.declared.Reading.{Reading}
-use Rattle.grammar.specs.declared.Reading.the-variants.{Accepted, Refused}
+use Rattle.grammar.specs.declared.ReadAnswer.{ReadAnswer}
+use Rattle.grammar.specs.declared.ReadAnswer.the-variants.{Accepted, Refused}
 use Rattle.grammar.specs.Tree.{Request}
 use Rattle.grammar.specs.Sizes.{statementsCount, parameterCount, contextsCount}
 use Rattle.grammar.specs.Conditions.{requestConditions}
@@ -40,7 +40,7 @@ was-accepted : (x : Read Request) (n m o : ℕ) → readingOf x ≡ Accepted n m
 was-accepted (read t c) n m o e = record { request = t; cursor = c; is = refl; parameters = cc; contexts = cc }
 was-accepted (refused y q) n m o e = absurd-eq (cc)
 
-module _ {s d st pa ct nd st′ pa′ ct′ nd′ : List ℕ} {r : Reading} (h : AnsweredNoting s d st pa ct nd st′ pa′ ct′ nd′ r)
+module _ {s d st pa ct nd st′ pa′ ct′ nd′ : List ℕ} {r : ReadAnswer} (h : AnsweredNoting s d st pa ct nd st′ pa′ ct′ nd′ r)
     (a : 2048 ≤ length st) (b : 1536 ≤ length pa) (k : 160 ≤ length ct) (l : 512 ≤ length nd) where
   with-room : answer s d (length st) (length pa) (length ct) ≡ reading s d
   unfolding answer

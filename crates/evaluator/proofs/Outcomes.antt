@@ -35,7 +35,7 @@ use Rattle.surroundings.proofs.Parameters.{image-bytes}
 use Rattle.surroundings.proofs.Around.{run-due, around-is}
 use Rattle.surroundings.proofs.Counts.{every-parameter, every-context}
 use Rattle.surroundings.proofs.Laid.{slots-few, slots-back, relations-back}
-use Rattle.evaluator.specs.Given.{Given, given, fetchedBy}
+use Rattle.evaluator.specs.Slices.{Slices, slices, fetchedBy}
 use Rattle.evaluator.specs.AfterReading.{AfterReading, settled}
 use Rattle.evaluator.proofs.Slots.{slots-cut}
 
@@ -180,8 +180,8 @@ module _ {s d pa ct nd : List ℕ} {m o : ℕ} {w : AfterReading s d pa ct nd m 
   wrong-records p f = sym (checked ∙ rw (was-wrong run p f))
 
   -- the parts of the tables that the walk is handed
-  abbrev handed : Given
-  handed = given s d (take (z .count) (z .numbers′)) (take (z .count) (z .relations′)) (take (m * 6) pa) images rows
+  abbrev handed : Slices
+  handed = slices s d (take (z .count) (z .numbers′)) (take (z .count) (z .relations′)) (take (m * 6) pa) images rows
 
   rows-long : length (parameterRows (w .request .messages)) ≡ m * 6
   rows-long = omega (arith, parameter-rows (w .request .messages), w .parameters-are)

@@ -35,9 +35,9 @@ use Rattle.evaluator.specs.declared.forms.LogicCode.{LogicCode}
 use Rattle.evaluator.specs.declared.forms.LogicCode.the-variants as Logic
 use Rattle.evaluator.specs.declared.forms.BooleanForm.{BooleanForm}
 use Rattle.evaluator.specs.Forms.{operationCode, valueCode, pairCode, testCode, logicCode, booleanCode, judged}
-use Rattle.evaluator.specs.Given.{Given, lentOf, fetchedBy, valuesOf, booleansOf}
+use Rattle.evaluator.specs.Slices.{Slices, lentOf, fetchedBy, valuesOf, booleansOf}
 
-module _ (g : Given) where
+module _ (g : Slices) where
   abbrev next : ℕ → ℕ
   next p = min (p + 1) (length (g .request))
 

@@ -1,4 +1,4 @@
 -- What the code of evaluation is handed, and what it answers.
 pub mod Forms
-pub mod Given
+pub mod Slices
 pub mod AfterReading

@@ -1,6 +1,6 @@
 // Evaluation: a condition of a request, by its number, with messages and records.
 ghost use Rattle.meaning.specs.Evaluated.{Evaluated};
-use grammar::Reading;
+use grammar::ReadAnswer;
 use meaning::Evaluation;
 use reader::read_noting;
 
@@ -35,7 +35,7 @@ pub fn evaluate<'a>(
         &mut places,
     );
     match reading {
-        Reading::Accepted(_, rows, declared) => conditions::evaluate_read(
+        ReadAnswer::Accepted(_, rows, declared) => conditions::evaluate_read(
             request,
             dictionary,
             &parameters,
@@ -47,6 +47,6 @@ pub fn evaluate<'a>(
             images,
             records,
         ),
-        Reading::Refused(r, p) => Evaluation::Refused(r, p),
+        ReadAnswer::Refused(r, p) => Evaluation::Refused(r, p),
     }
 }

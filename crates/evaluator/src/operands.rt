@@ -2,7 +2,7 @@
 ghost use mathlib.Core.Path.{_≡_};
 ghost use Prim.Native.Nat.{ℕ};
 ghost use Rattle.evaluator.specs.Forms.{operationCode};
-ghost use Rattle.evaluator.specs.Given.{given, ValueAt, ValueInside, ValueUnder, ValueAfter};
+ghost use Rattle.evaluator.specs.Slices.{slices, ValueAt, ValueInside, ValueUnder, ValueAfter};
 use crate::forms::OperationCode;
 use crate::forms::ValueForm;
 use crate::forms::value_form;
@@ -30,7 +30,7 @@ pub fn value_at<'a>(
     at: usize,
 ) -> Valued
     ensures { λ r. ⌜ ValueAt
-        (given (now (request .entry)) (now (dictionary .entry)) (now (numbers .entry)) (now (relations .entry))
+        (slices (now (request .entry)) (now (dictionary .entry)) (now (numbers .entry)) (now (relations .entry))
         (now (parameters .entry)) (now (images .entry)) (now (records .entry)))
         levels at r ⌝ }
 {
@@ -70,7 +70,7 @@ fn value_under<'a>(
     code: ValueCode,
 ) -> Valued
     ensures { λ r. ⌜ ValueInside
-        (given (now (request .entry)) (now (dictionary .entry)) (now (numbers .entry)) (now (relations .entry))
+        (slices (now (request .entry)) (now (dictionary .entry)) (now (numbers .entry)) (now (relations .entry))
         (now (parameters .entry)) (now (images .entry)) (now (records .entry)))
         levels at code r ⌝ }
 {
@@ -119,7 +119,7 @@ fn operation<'a>(
     code: OperationCode,
 ) -> Valued
     ensures { λ r. ⌜ ValueUnder
-        (given (now (request .entry)) (now (dictionary .entry)) (now (numbers .entry)) (now (relations .entry))
+        (slices (now (request .entry)) (now (dictionary .entry)) (now (numbers .entry)) (now (relations .entry))
         (now (parameters .entry)) (now (images .entry)) (now (records .entry)))
         levels at (operationCode code) r ⌝ }
 {
@@ -166,7 +166,7 @@ pub fn value_after<'a>(
     from: Valued,
 ) -> Valued
     ensures { λ r. ⌜ ValueAfter
-        (given (now (request .entry)) (now (dictionary .entry)) (now (numbers .entry)) (now (relations .entry))
+        (slices (now (request .entry)) (now (dictionary .entry)) (now (numbers .entry)) (now (relations .entry))
         (now (parameters .entry)) (now (images .entry)) (now (records .entry)))
         levels from r ⌝ }
 {

@@ -2,7 +2,7 @@
 ghost use mathlib.Core.Path.{_≡_};
 ghost use Prim.Native.Nat.{ℕ};
 ghost use Rattle.evaluator.specs.Forms.{testCode};
-ghost use Rattle.evaluator.specs.Given.{given, BooleanUnder, PairAfter, BetweenAfter};
+ghost use Rattle.evaluator.specs.Slices.{slices, BooleanUnder, PairAfter, BetweenAfter};
 use crate::forms::PairCode;
 use crate::forms::TestCode;
 use crate::operands::value_after;
@@ -29,7 +29,7 @@ pub fn test<'a>(
     code: TestCode,
 ) -> Tested
     ensures { λ r. ⌜ BooleanUnder
-        (given (now (request .entry)) (now (dictionary .entry)) (now (numbers .entry)) (now (relations .entry))
+        (slices (now (request .entry)) (now (dictionary .entry)) (now (numbers .entry)) (now (relations .entry))
         (now (parameters .entry)) (now (images .entry)) (now (records .entry)))
         levels at (testCode code) r ⌝ }
 {
@@ -75,7 +75,7 @@ fn pair_after<'a>(
     code: PairCode,
 ) -> Tested
     ensures { λ r. ⌜ PairAfter
-        (given (now (request .entry)) (now (dictionary .entry)) (now (numbers .entry)) (now (relations .entry))
+        (slices (now (request .entry)) (now (dictionary .entry)) (now (numbers .entry)) (now (relations .entry))
         (now (parameters .entry)) (now (images .entry)) (now (records .entry)))
         levels a code r ⌝ }
 {
@@ -122,7 +122,7 @@ fn between_after<'a>(
     b: Valued,
 ) -> Tested
     ensures { λ r. ⌜ BetweenAfter
-        (given (now (request .entry)) (now (dictionary .entry)) (now (numbers .entry)) (now (relations .entry))
+        (slices (now (request .entry)) (now (dictionary .entry)) (now (numbers .entry)) (now (relations .entry))
         (now (parameters .entry)) (now (images .entry)) (now (records .entry)))
         levels a b r ⌝ }
 {

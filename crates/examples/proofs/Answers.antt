@@ -10,13 +10,13 @@ use Rattle.meaning.specs.Evaluation.{Outcome, answered, strayed}
 use Rattle.decimal.specs.Number
 use Rattle.dictionary.specs.Dictionary
 use Rattle.dictionary.specs.Format
-use Rattle.dictionary.specs.Names as DictionaryNames
+use Rattle.dictionary.specs.Naming as DictionaryNames
 use Rattle.records.specs.Record
 use Rattle.grammar.specs.Bytes
 use Rattle.grammar.specs.Conditions
 use Rattle.grammar.specs.Kinds
 use Rattle.grammar.specs.Messages
-use Rattle.grammar.specs.Names as GrammarNames
+use Rattle.grammar.specs.Environment as GrammarNames
 use Rattle.grammar.specs.Reader
 use Rattle.grammar.specs.Reading
 use Rattle.grammar.specs.Refusals
@@ -153,7 +153,7 @@ unfolding GrammarNames.fieldFormat
 openGrammarNames3 = tt
 
 unfoldable pub openReader : Unit {0}
-unfolding Reader.taken Reader.peek Reader.name Reader.tested Reader.code Reader.coded Reader.counted Reader.opened Reader.noted
+unfolding Reader.taken Reader.peek Reader.name Reader.tested Reader.code Reader.coded Reader.countStatement Reader.opened Reader.noted
 openReader = tt
 
 unfoldable pub openReading : Unit {0}
@@ -249,7 +249,7 @@ unfolding Decoding.byte Decoding.peek Decoding.bytes Decoding.word Decoding.long
 openDecoding = tt
 
 unfoldable pub openDecoding2 : Unit {0}
-unfolding Decoding.message Decoding.messages Decoding.counted Decoding.id Decoding.referenceUnder Decoding.valueUnder
+unfolding Decoding.message Decoding.messages Decoding.countedName Decoding.id Decoding.referenceUnder Decoding.valueUnder
 openDecoding2 = tt
 
 unfoldable pub openDecoding3 : Unit {0}

@@ -11,8 +11,8 @@ use Rattle.grammar.specs.Reader.{Read, read, refused}
 use Rattle.grammar.specs.Answered.{readingOf}
 use Rattle.grammar.specs.declared.Refusal.{Refusal}
 use Rattle.grammar.specs.declared.Refusal.the-variants as Refusal
-use Rattle.grammar.specs.declared.Reading.{Reading}
-use Rattle.grammar.specs.declared.Reading.the-variants.{Accepted, Refused}
+use Rattle.grammar.specs.declared.ReadAnswer.{ReadAnswer}
+use Rattle.grammar.specs.declared.ReadAnswer.the-variants.{Accepted, Refused}
 use Rattle.grammar.proofs.StepLaws.{absurd-eq}
 use Rattle.records.specs.declared.missing.Cause.{Cause}
 use Rattle.records.specs.declared.missing.Cause.the-variants as Cause

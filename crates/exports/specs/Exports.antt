@@ -27,7 +27,7 @@ numbersGiven (read r c) =
 numbersGiven (refused x p) = p ∷ 0 ∷ 0 ∷ []
 
 -- what a reading gives, and what it leaves in the three tables and in the answer
-pub record Given (s d st pa ct st′ pa′ ct′ an′ : List ℕ) (r : ℕ) : Type 0 where
+pub record Exported (s d st pa ct st′ pa′ ct′ an′ : List ℕ) (r : ℕ) : Type 0 where
   pub number-is : r ≡ numberGiven (answer s d (length st) (length pa) (length ct))
   pub answer-filled : an′ ≡ numbersGiven (answer s d (length st) (length pa) (length ct))
   pub statements-filled : st′ ≡ statementTable (answer s d (length st) (length pa) (length ct)) (length st)

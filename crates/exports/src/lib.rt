@@ -2,8 +2,8 @@
 ghost use mathlib.Core.Path.{_≡_};
 ghost use Prim.Native.Nat.{min};
 ghost use Rattle.meaning.specs.Evaluation.{evaluation};
-ghost use Rattle.exports.specs.Exports.{Given, causeGiven, truthGiven, refusalGiven, outcomeGiven};
-use grammar::Reading;
+ghost use Rattle.exports.specs.Exports.{Exported, causeGiven, truthGiven, refusalGiven, outcomeGiven};
+use grammar::ReadAnswer;
 use grammar::Refusal;
 use grammar::number_of;
 use meaning::Evaluation;
@@ -20,14 +20,14 @@ pub extern "C" fn blr_read(
     contexts: &mut [u32],
     answer: &mut [usize; 3],
 ) -> u32
-    ensures { λ r. ⌜ Given (now (request .entry)) (now (dictionary .entry)) (now (statements .entry)) (now (parameters .entry)) (now (contexts .entry)) (now (statements .exit)) (now (parameters .exit)) (now (contexts .exit)) (now (answer .exit)) r ⌝ }
+    ensures { λ r. ⌜ Exported (now (request .entry)) (now (dictionary .entry)) (now (statements .entry)) (now (parameters .entry)) (now (contexts .entry)) (now (statements .exit)) (now (parameters .exit)) (now (contexts .exit)) (now (answer .exit)) r ⌝ }
 {
     match reader::read(request, dictionary, statements, parameters, contexts) {
-        Reading::Accepted(n, m, k) => {
+        ReadAnswer::Accepted(n, m, k) => {
             *answer = [n, m, k];
             0
         }
-        Reading::Refused(r, p) => {
+        ReadAnswer::Refused(r, p) => {
             *answer = [p, 0, 0];
             number_of(r)
         }

@@ -17,8 +17,8 @@ use Rattle.grammar.specs.declared.Refusal.{Refusal}
 use Rattle.grammar.specs.declared.Cursor.{Cursor}
 use Rattle.grammar.specs.Refusals.{number}
 use Rattle.grammar.specs.Tree.{Message}
-use Rattle.grammar.specs.Names.{descriptorFormat}
-use Rattle.grammar.specs.Reader.{Read, read, refused, onRead, Reader, need, taken, byte, word, peek, name, tested, code, due, coded, counted, opened, noted}
+use Rattle.grammar.specs.Environment.{descriptorFormat}
+use Rattle.grammar.specs.Reader.{Read, read, refused, onRead, Reader, need, taken, byte, word, peek, name, tested, code, due, coded, countStatement, opened, noted}
 use Rattle.grammar.specs.Messages.{scaleByte, sizeWord, descriptorUnder, descriptor, descriptors, message, messages}
 
 -- a refusal of a request, of its tables and its dictionary aside
@@ -99,8 +99,8 @@ module _ (s : List ℕ) where
   word-stays c h = taken-stays 2 wordAt c h
 
   -- what is counted, whose code stands at p
-  pub counted-stays : (p : ℕ) → p ≤ length s → Stays s (counted p)
-  unfolding counted number
+  pub counted-stays : (p : ℕ) → p ≤ length s → Stays s (countStatement p)
+  unfolding countStatement number
   counted-stays p i c h = by-test (ltb (c .statements) 512) (λ t. went h) (stopped refl i)
 
   pub opened-stays : (p : ℕ) → p ≤ length s → Stays s (opened p)

@@ -15,7 +15,7 @@ use Rattle.grammar.specs.declared.Refusal.{Refusal}
 use Rattle.grammar.specs.declared.Refusal.the-variants.{TablesTooShort, RequestTooLong}
 use Rattle.grammar.specs.Refusals.{number}
 use Rattle.grammar.specs.Tree.{Message, Request}
-use Rattle.grammar.specs.Names.{outermost}
+use Rattle.grammar.specs.Environment.{outermost}
 use Rattle.grammar.specs.Reader.{Read, read, refused}
 use Rattle.grammar.specs.Reading.{nothingMore, outerStatements, request, start, beside, reading, room, answer}
 use Rattle.grammar.specs.Demands.{RefusalWithin}

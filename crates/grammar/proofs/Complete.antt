@@ -13,9 +13,9 @@ use Rattle.grammar.specs.declared.Refusal.the-variants.{BadVersion, NotD
 use Rattle.grammar.specs.declared.Cursor.{Cursor}
 use Rattle.grammar.specs.Tree.{Statements, none as nothing, _then_, Request}
 use Rattle.grammar.specs.Bytes.{messagesBytes, statementsBytes, requestBytes}
-use Rattle.grammar.specs.Names.{outermost}
+use Rattle.grammar.specs.Environment.{outermost}
 use Rattle.grammar.specs.Rules.{environment, Allowed}
-use Rattle.grammar.specs.Reader.{read, code, counted}
+use Rattle.grammar.specs.Reader.{read, code, countStatement}
 use Rattle.grammar.specs.Messages.{messages}
 use Rattle.grammar.specs.Reading.{nothingMore, outerStatements, request, start, reading}
 use Rattle.grammar.proofs.Found.{on-found, code-found, last-code, counted-found, Other, other-first}
@@ -31,7 +31,7 @@ statements-first (t then ts) = rw append-assoc (other-first (statementsBytes ts 
 -- a request by its steps
 by-steps : (d : List Relation) (s : List ℕ) (r : Request) (a b g m t z : Cursor) →
     code blr.version4 BadVersion s start ≡ read blr.version4 a → code blr.begin NotDue s a ≡ read blr.begin b →
-    counted (a .at) s b ≡ read tt g → messages 16 [] s g ≡ read (r .messages) m →
+    countStatement (a .at) s b ≡ read tt g → messages 16 [] s g ≡ read (r .messages) m →
     outerStatements d (r .messages) s m ≡ read (r .statements) t → code blr.eoc NotDue s t ≡ read blr.eoc z → z .at ≡ length s →
     request d s start ≡ read r z
 unfolding request nothingMore

@@ -10,7 +10,7 @@ use Rattle.wire.specs.declared.codes.StatementCode.the-variants as Code
 use Rattle.grammar.specs.declared.Refusal.the-variants.{BadContext}
 use Rattle.grammar.specs.Tree.{Heading, loop, modify, handler, receive, send, store, label}
 use Rattle.grammar.specs.Bytes.{streamBytes, headingBytes}
-use Rattle.grammar.specs.Names.{Environment, Scope}
+use Rattle.grammar.specs.Environment.{Environment, Scope}
 use Rattle.grammar.specs.Scope.{inScope, HeadingScoped, Exchanged, ofFor}
 use Rattle.grammar.specs.Sizes.{headingContexts}
 use Rattle.grammar.specs.Reader.{Reader, return}

@@ -17,7 +17,7 @@ use Rattle.grammar.specs.declared.Refusal.the-variants.{OutOfRange, BadM
 use Rattle.grammar.specs.declared.Cursor.{Cursor}
 use Rattle.grammar.specs.Tree.{Descriptor, Message}
 use Rattle.grammar.specs.Bytes.{widthCode, textCode, descriptorBytes, descriptorsBytes, messageBytes, messagesBytes}
-use Rattle.grammar.specs.Names.{descriptorFormat}
+use Rattle.grammar.specs.Environment.{descriptorFormat}
 use Rattle.grammar.specs.Scope.{Distinct}
 use Rattle.grammar.specs.Sizes.{descriptorsSize, messageSize, parameterCount, DescriptorInRange, DescriptorsInRange, MessagesSized}
 use Rattle.grammar.specs.Reader.{read, tested}

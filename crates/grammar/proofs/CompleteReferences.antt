@@ -14,14 +14,14 @@ use Rattle.wire.specs.declared.codes.LiteralType.the-variants.{NumberLiteral, T
 use Rattle.wire.specs.declared.codes.ReferenceCode.{ReferenceCode}
 use Rattle.wire.specs.declared.codes.ReferenceCode.the-variants.{Field, Fid, Parameter, Parameter2}
 use Rattle.wire.specs.declared.codes.ValueCode.the-variants as Code
-use Rattle.dictionary.specs.Names.{Name, named, numbered}
+use Rattle.dictionary.specs.Naming.{Name, named, numbered}
 use Rattle.grammar.specs.declared.Refusal.the-variants.{BadMessage, NoParameter, BadContext, Unknown}
 use Rattle.grammar.specs.declared.Cursor.{Cursor}
 use Rattle.grammar.specs.declared.Role.{Role}
 use Rattle.grammar.specs.declared.Role.the-variants.{AsValue, AsTarget}
 use Rattle.grammar.specs.Tree.{Literal, Reference, field, parameter, parameter2}
-use Rattle.grammar.specs.Bytes.{counted, widthCode, numberBytes, literalBytes, referenceBytes}
-use Rattle.grammar.specs.Names.{Environment, Scope, parameterFormat, fieldFormat}
+use Rattle.grammar.specs.Bytes.{countedBytes, widthCode, numberBytes, literalBytes, referenceBytes}
+use Rattle.grammar.specs.Environment.{Environment, Scope, parameterFormat, fieldFormat}
 use Rattle.grammar.specs.Scope.{inScope, declared, Known, Target}
 use Rattle.grammar.specs.Kinds.{referenceKind}
 use Rattle.grammar.specs.Sizes.{LiteralInRange}
@@ -50,7 +50,7 @@ literal-reads s (Literal.text t) r =
 -- ---- names, contexts, messages and parameters
 
 abbrev pub nameBytes : Name → List ℕ
-nameBytes (named n) = counted n
+nameBytes (named n) = countedBytes n
 nameBytes (numbered i) = wordBytes i
 
 abbrev pub namingOf : Name → Reader Name

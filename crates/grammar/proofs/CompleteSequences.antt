@@ -8,7 +8,7 @@ use Rattle.wire.specs.Codes as blr
 use Rattle.wire.specs.Lists.{among}
 use Rattle.grammar.specs.declared.Refusal.the-variants.{TooGreat, BadMessage}
 use Rattle.grammar.specs.Tree.{Statement, Statements, none as nothing, _then_, Receives, last, more}
-use Rattle.grammar.specs.Names.{Environment, Scope}
+use Rattle.grammar.specs.Environment.{Environment, Scope}
 use Rattle.grammar.specs.Scope.{declared, Selected}
 use Rattle.grammar.specs.Reader.{Reader}
 use Rattle.grammar.specs.Statements.{many, manyReceives, receiveUnder}

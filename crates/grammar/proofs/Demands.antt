@@ -10,8 +10,8 @@ use borrow.Author.Tests.{le-leb, leb-true}
 use Rattle.dictionary.specs.Dictionary.{Relation, proper, dictionary}
 use Rattle.grammar.specs.declared.Refusal.{Refusal}
 use Rattle.grammar.specs.declared.Cursor.{Cursor}
-use Rattle.grammar.specs.declared.Reading.{Reading}
-use Rattle.grammar.specs.declared.Reading.the-variants.{Accepted, Refused}
+use Rattle.grammar.specs.declared.ReadAnswer.{ReadAnswer}
+use Rattle.grammar.specs.declared.ReadAnswer.the-variants.{Accepted, Refused}
 use Rattle.grammar.specs.Tree.{Request}
 use Rattle.grammar.specs.Sizes.{statementsCount, parameterCount, contextsCount}
 use Rattle.grammar.specs.Rows.{requestContextRows}
@@ -54,7 +54,7 @@ with-room s d st pa ct h =
 
 module _ {s d st pa ct st′ pa′ ct′ : List ℕ} where
   -- the tables of a tree that was read
-  filled : {r : Reading} → Answered s d st pa ct st′ pa′ ct′ r → (rs : List Relation) → dictionary d ≡ proper rs → (t : Request) (c : Cursor) →
+  filled : {r : ReadAnswer} → Answered s d st pa ct st′ pa′ ct′ r → (rs : List Relation) → dictionary d ≡ proper rs → (t : Request) (c : Cursor) →
       answer s d (length st) (length pa) (length ct) ≡ read t c → (n m k : ℕ) → r ≡ Accepted n m k →
       Filled rs t st pa ct st′ pa′ ct′ n m k
   unfolding statementTable parameterTable contextTable
@@ -107,7 +107,7 @@ module _ {s d st pa ct st′ pa′ ct′ : List ℕ} where
         filled = filled h (i .relations) (i .checked) t (w .1) (w .2) n m k refl;
       }
 
-  pub read-complete : {r : Reading} → Answered s d st pa ct st′ pa′ ct′ r → Completeness s d st pa ct st′ pa′ ct′ r
+  pub read-complete : {r : ReadAnswer} → Answered s d st pa ct st′ pa′ ct′ r → Completeness s d st pa ct st′ pa′ ct′ r
   read-complete h = record {
     accepted = λ rs t a.
         let w = reading-complete s d rs (a .checked) t (a .allowed) (a .whole) in

@@ -8,7 +8,7 @@ use lib.ListN.{length, length-append}
 use Rattle.dictionary.specs.Dictionary.{Relation}
 use Rattle.grammar.specs.Tree.{Clauses, noClauses, such, sorted, Rse, rse, Statement, assignment, begin, erase, for, headed, leave, if, ifElse, select, Statements, none as nothing, _then_, Receives, last, more, Request}
 use Rattle.grammar.specs.Bytes.{keysBytes, headBytes, rseBytes, headingBytes, booleanBytes, statementBytes}
-use Rattle.grammar.specs.Names.{Environment, Scope, outermost, underStreams, underRse, underHeading}
+use Rattle.grammar.specs.Environment.{Environment, Scope, outermost, underStreams, underRse, underHeading}
 use Rattle.grammar.specs.Sizes.{statementCount, statementsCount, receivesCount}
 use Rattle.grammar.specs.Rules.{ClausesAllowed, RseAllowed, StatementAllowed, StatementsAllowed, ReceivesAllowed, environment, Allowed}
 use Rattle.grammar.specs.Rows.{statementsStart}

@@ -14,7 +14,7 @@ use Rattle.wire.specs.Classes.{Class}
 use Rattle.grammar.specs.declared.Refusal.{Refusal}
 use Rattle.grammar.specs.declared.Cursor.{Cursor}
 use Rattle.grammar.specs.Bytes as Bytes
-use Rattle.grammar.specs.Reader.{read, Reader, on, taken, byte, word, long, bytes, peek, name, tested, code, coded, withStatement, withContext, withCondition, counted, opened, noted}
+use Rattle.grammar.specs.Reader.{read, Reader, on, taken, byte, word, long, bytes, peek, name, tested, code, coded, withStatement, withContext, withCondition, countStatement, opened, noted}
 
 -- the reader gives a at the cursor c of the request s, `rest` stands after it, and n statements and k contexts are counted
 pub record Found {A : Type 0} (m : Reader A) (s : List ℕ) (c : Cursor) (a : A) (n k : ℕ) (rest : List ℕ) : Type 0 where
@@ -120,11 +120,11 @@ last-code s c x r h =
 -- ---- what is counted
 
 module _ (s : List ℕ) (c : Cursor) {rest : List ℕ} (h : drop (c .at) s ≡ rest) where
-  pub counted-found : (p : ℕ) → c .statements < 512 → Found (counted p) s c tt 1 0 rest
-  unfolding counted
+  pub counted-found : (p : ℕ) → c .statements < 512 → Found (countStatement p) s c tt 1 0 rest
+  unfolding countStatement
   counted-found p l =
       let e = lt-ltb (c .statements) 512 l in
-      record { after = withStatement c; is = rw (counted, e); stands = h; statements = refl; contexts = omega arith }
+      record { after = withStatement c; is = rw (countStatement, e); stands = h; statements = refl; contexts = omega arith }
 
   pub opened-found : (p : ℕ) → c .contexts < 32 → Found (opened p) s c tt 0 1 rest
   unfolding opened
@@ -137,12 +137,12 @@ module _ (s : List ℕ) (c : Cursor) {rest : List ℕ} (h : drop (c .at) s ≡ r
   noted-found = record { after = withCondition c; is = refl; stands = h; statements = omega arith; contexts = omega arith }
 
 -- a counted name
-pub name-found : (s : List ℕ) (c : Cursor) {rest : List ℕ} (xs : List ℕ) → drop (c .at) s ≡ Bytes.counted xs ++ rest →
+pub name-found : (s : List ℕ) (c : Cursor) {rest : List ℕ} (xs : List ℕ) → drop (c .at) s ≡ Bytes.countedBytes xs ++ rest →
     Found name s c xs 0 0 rest
 unfolding name byte-found taken-found
 name-found s c {rest} xs h =
     let a = byte-found s c (length xs) h in
-    let r = inside s (c .at) (Bytes.counted xs) rest h (omega arith) in
+    let r = inside s (c .at) (Bytes.countedBytes xs) rest h (omega arith) in
     let b = bytes-found s (a .after) xs (omega arith) (a .stands) in
     along b (rw (name, a .is, b .is)) (omega arith) (omega arith)
 

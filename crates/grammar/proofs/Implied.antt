@@ -7,9 +7,9 @@ use lib.Dec.{leb}
 use borrow.Author.Tests.{leb-true}
 use Rattle.wire.specs.Lists.{isSome, _andThen_}
 use Rattle.dictionary.specs.Format.{sizeInRange}
-use Rattle.dictionary.specs.Names.{Name}
+use Rattle.dictionary.specs.Naming.{Name}
 use Rattle.grammar.specs.Kind.{Kind}
-use Rattle.grammar.specs.Names.{Environment, Context, Scope, contextOf, relationIn, messageOf, relationOfContext, parameterFormat, fieldFormat}
+use Rattle.grammar.specs.Environment.{Environment, Context, Scope, contextOf, relationIn, messageOf, relationOfContext, parameterFormat, fieldFormat}
 use Rattle.grammar.specs.Scope.{inScope, declared, openedByFor, ofFor}
 use Rattle.grammar.specs.Kinds.{oneKind}
 

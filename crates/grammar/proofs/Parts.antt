@@ -11,7 +11,7 @@ use Rattle.wire.specs.Words.{wordBytes, longBytes}
 use Rattle.grammar.specs.declared.Refusal.{Refusal}
 use Rattle.grammar.specs.declared.Cursor.{Cursor}
 use Rattle.grammar.specs.Bytes as Bytes
-use Rattle.grammar.specs.Reader.{read, Reader, byte, word, long, bytes, name, tested, code, coded, counted, opened, noted}
+use Rattle.grammar.specs.Reader.{read, Reader, byte, word, long, bytes, name, tested, code, coded, countStatement, opened, noted}
 use Rattle.grammar.proofs.Found.{Found, along, inside, byte-found, word-found, long-found, bytes-found, name-found, tested-found, code-found, coded-found, counted-found, opened-found, noted-found}
 
 -- wherever the bytes xs stand in the request s and there is room for n statements and k contexts, the reader gives a and counts so many
@@ -89,7 +89,7 @@ module _ {s : List ℕ} where
   pub bytes-read : (xs : List ℕ) → 0 < length xs → Reads s (bytes (length xs)) xs xs 0 0
   bytes-read xs l = plain (λ c rest h. bytes-found s c xs (inside s (c .at) xs rest h l) h)
 
-  pub name-reads : (xs : List ℕ) → Reads s name (Bytes.counted xs) xs 0 0
+  pub name-reads : (xs : List ℕ) → Reads s name (Bytes.countedBytes xs) xs 0 0
   name-reads xs = plain (λ c rest h. name-found s c xs h)
 
   pub code-reads : (x : ℕ) (r : Refusal) → Reads s (code x r) (x ∷ []) x 0 0
@@ -102,7 +102,7 @@ module _ {s : List ℕ} where
       Reads s field xs a n k → test a ≡ true → Reads s (tested field test r) xs a n k
   tested-reads test r f t = record { from = λ c u v h. tested-found s c test r (f .from c u v h) t }
 
-  pub counted-reads : (p : ℕ) → Reads s (counted p) [] tt 1 0
+  pub counted-reads : (p : ℕ) → Reads s (countStatement p) [] tt 1 0
   counted-reads p = record { from = λ c u v h. counted-found s c h p (omega arith) }
 
   pub opened-reads : (p : ℕ) → Reads s (opened p) [] tt 0 1

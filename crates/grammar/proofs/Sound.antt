@@ -13,11 +13,11 @@ use Rattle.grammar.specs.declared.Cursor.{Cursor}
 use Rattle.grammar.specs.declared.Refusal.the-variants.{BadVersion, NotDue}
 use Rattle.grammar.specs.Tree.{Message, Statements, Request}
 use Rattle.grammar.specs.Bytes.{messagesBytes, statementsBytes, requestBytes}
-use Rattle.grammar.specs.Names.{Environment, outermost}
+use Rattle.grammar.specs.Environment.{Environment, outermost}
 use Rattle.grammar.specs.Sizes.{statementsCount, contextsCount}
 use Rattle.grammar.specs.Rules.{Allowed}
 use Rattle.grammar.specs.Conditions.{requestConditions}
-use Rattle.grammar.specs.Reader.{read, code, counted}
+use Rattle.grammar.specs.Reader.{read, code, countStatement}
 use Rattle.grammar.specs.Messages.{messages}
 use Rattle.grammar.specs.Reading.{nothingMore, outerStatements, request, start, beside, reading}
 use Rattle.grammar.specs.Statements.{readStatement}
@@ -90,7 +90,7 @@ pub request-sound : (s : List ℕ) → Octets s → length s ≤ 65535 → (d : 
     request d s start ≡ read r c → RequestSound d s r c
 unfolding request
 request-sound s octets short d r c h = undo (code blr.version4 BadVersion s start) _ h (λ x q e w.
-    undo (code blr.begin NotDue s q) _ w (λ x₁ q₁ e₁ w₁. undo (counted (q .at) s q₁) _ w₁ (λ u q₂ e₂ w₂.
+    undo (code blr.begin NotDue s q) _ w (λ x₁ q₁ e₁ w₁. undo (countStatement (q .at) s q₁) _ w₁ (λ u q₂ e₂ w₂.
     undo (messages 16 [] s q₂) _ w₂ (λ ms q₃ e₃ w₃. undo (outerStatements d ms s q₃) _ w₃ (λ ts q₄ e₄ w₄.
     undo (code blr.eoc NotDue s q₄) _ w₄ (λ x₂ q₅ e₅ w₅. undo (nothingMore s q₅) _ w₅ (λ u₁ q₆ e₆ w₆.
     let g = onward (code-went blr.version4 BadVersion s start e) (code-went blr.begin NotDue s q e₁) in

@@ -15,13 +15,13 @@ use Rattle.wire.specs.declared.codes.StreamCode.{StreamCode}
 use Rattle.wire.specs.declared.codes.StreamCode.the-variants.{Relation, Rid}
 use Rattle.wire.specs.declared.codes.ReferenceCode.{ReferenceCode}
 use Rattle.wire.specs.declared.codes.ReferenceCode.the-variants.{Field, Fid, Parameter, Parameter2}
-use Rattle.dictionary.specs.Names.{Name, named, numbered}
+use Rattle.dictionary.specs.Naming.{Name, named, numbered}
 use Rattle.grammar.specs.declared.Cursor.{Cursor}
 use Rattle.grammar.specs.declared.Role.{Role}
 use Rattle.grammar.specs.declared.Role.the-variants.{AsValue, AsTarget}
 use Rattle.grammar.specs.Tree.{Literal, Reference, field, parameter, parameter2, reference}
-use Rattle.grammar.specs.Bytes.{counted, numberBytes, literalBytes, referenceBytes}
-use Rattle.grammar.specs.Names.{Environment, Scope, parameterFormat, fieldFormat}
+use Rattle.grammar.specs.Bytes.{countedBytes, numberBytes, literalBytes, referenceBytes}
+use Rattle.grammar.specs.Environment.{Environment, Scope, parameterFormat, fieldFormat}
 use Rattle.grammar.specs.Scope.{inScope, declared, fieldTarget, parameterTarget, Known, Target}
 use Rattle.grammar.specs.Kinds.{formatKind, referenceKind, kindOf, Fits}
 use Rattle.grammar.specs.Sizes.{LiteralInRange}
@@ -37,7 +37,7 @@ use Rattle.grammar.proofs.SoundMessages.{scale-went, size-went}
 -- ---- names: by a counted name, or by an id word
 
 abbrev pub nameBytes : Name → List ℕ
-nameBytes (named n) = counted n
+nameBytes (named n) = countedBytes n
 nameBytes (numbered i) = wordBytes i
 
 abbrev pub nameCode : Name → StreamCode

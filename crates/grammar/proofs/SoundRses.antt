@@ -14,12 +14,12 @@ use Rattle.wire.specs.declared.codes.ClauseCode.the-variants as Clause
 use Rattle.wire.specs.declared.codes.StatementCode.{StatementCode}
 use Rattle.wire.specs.declared.codes.StatementCode.the-variants.{Modify, Receive, Send, Store, Label}
 use Rattle.dictionary.specs.Dictionary.{Relation}
-use Rattle.dictionary.specs.Names.{Name, named, numbered, relationOf}
+use Rattle.dictionary.specs.Naming.{Name, named, numbered, relationOf}
 use Rattle.grammar.specs.declared.Cursor.{Cursor}
 use Rattle.grammar.specs.declared.Refusal.the-variants.{NotDue, BadContext}
 use Rattle.grammar.specs.Tree.{Stream, Heading, receive, send, label, Value, Boolean, Keys, Clauses, Rse, rse}
 use Rattle.grammar.specs.Bytes.{streamOf, streamBytes, streamsBytes, headBytes, headingBytes, valueBytes, booleanBytes, keysBytes, keyCount, clausesBytes, rseBytes}
-use Rattle.grammar.specs.Names.{Environment, Scope, underStreams}
+use Rattle.grammar.specs.Environment.{Environment, Scope, underStreams}
 use Rattle.grammar.specs.Scope.{inScope, ofFor, declared, updating, StreamScoped, StreamsScoped, Exchanged, HeadingScoped}
 use Rattle.grammar.specs.Sizes.{valueDepth, booleanDepth, keysDepth, clausesDepth, rseDepth, valueContexts, booleanContexts, keysContexts, clausesContexts, rseContexts, headingContexts, countInRange, StreamsInRange, SortInRange}
 use Rattle.grammar.specs.Rules.{ValueAllowed, BooleanAllowed, KeysAllowed, ClausesAllowed, RseAllowed}

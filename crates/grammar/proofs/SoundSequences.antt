@@ -11,7 +11,7 @@ use Rattle.grammar.specs.declared.Cursor.{Cursor}
 use Rattle.grammar.specs.declared.Refusal.the-variants.{TooGreat}
 use Rattle.grammar.specs.Tree.{Statement, Statements, none as nothing, _then_, Receives, last, more}
 use Rattle.grammar.specs.Bytes.{statementBytes, statementsBytes, receivesBytes}
-use Rattle.grammar.specs.Names.{Environment, Scope}
+use Rattle.grammar.specs.Environment.{Environment, Scope}
 use Rattle.grammar.specs.Scope.{Selected}
 use Rattle.grammar.specs.Sizes.{statementDepth, statementsDepth, receivesDepth, statementCount, statementsCount, receivesCount, contextCount, contextsCount, receivesContexts}
 use Rattle.grammar.specs.Rules.{StatementAllowed, StatementsAllowed, ReceivesAllowed}

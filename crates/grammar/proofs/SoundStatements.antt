@@ -16,13 +16,13 @@ use Rattle.grammar.specs.declared.Cursor.{Cursor}
 use Rattle.grammar.specs.declared.Refusal.the-variants.{NotDue, BadMessage}
 use Rattle.grammar.specs.Tree.{Heading, loop, handler, rse, Statement, assignment, begin, erase, for, headed, leave, if, ifElse, select}
 use Rattle.grammar.specs.Bytes.{headingBytes, rseBytes, booleanBytes, statementBytes}
-use Rattle.grammar.specs.Names.{Environment, Scope, underStreams, underRse, underHeading}
+use Rattle.grammar.specs.Environment.{Environment, Scope, underStreams, underRse, underHeading}
 use Rattle.grammar.specs.Scope.{ofFor, declared, updating, Selected}
 use Rattle.grammar.specs.Kinds.{kindOf, referenceKind, oneKind}
 use Rattle.grammar.specs.Sizes.{statementDepth, statementCount, contextCount, headingContexts}
 use Rattle.grammar.specs.Rules.{StatementAllowed}
 use Rattle.grammar.specs.Conditions.{conditions, rseConditions}
-use Rattle.grammar.specs.Reader.{read, Reader, byte, peek, tested, code, coded, counted}
+use Rattle.grammar.specs.Reader.{read, Reader, byte, peek, tested, code, coded, countStatement}
 use Rattle.grammar.specs.Values.{contextByte, readTarget}
 use Rattle.grammar.specs.Statements.{Inner, inner, rseHead, clauses, numberedBoolean, many, manyReceives, modifyHeading, receiveHeading, sendHeading, storeHeading, labelHeading, assignmentUnder, eraseUnder, forUnder, headedUnder, leaveUnder, ifUnder, selectUnder, beginUnder, statementUnder, receiveUnder, readStatement, readReceive}
 use Rattle.grammar.specs.Demands.{Octets}
@@ -256,7 +256,7 @@ receive-under-sound l e sc s body bodies p before c here r c′ h = needed (nega
 
 -- ---- with the code, and the statement counted
 
-pub counted-code : (s : List ℕ) (c q : Cursor) (x p : ℕ) {u : Unit {0}} {c′ : Cursor} → Passed s c (x ∷ []) q → counted p s q ≡ read u c′ →
+pub counted-code : (s : List ℕ) (c q : Cursor) (x p : ℕ) {u : Unit {0}} {c′ : Cursor} → Passed s c (x ∷ []) q → countStatement p s q ≡ read u c′ →
     Went s c (x ∷ []) 1 0 0 c′ × Within c c′
 counted-code s c q x p g h =
     let d = counted-went p s q h in
@@ -282,7 +282,7 @@ module _ (s : List ℕ) (octets : Octets s) (e : Environment) where
     pub statement-sound : (l : ℕ) (sc : Scope) → ReadsStatements l e sc s (readStatement l e sc)
     statement-sound zero sc c t c′ h = never h
     statement-sound (suc l) sc c t c′ h = undo (coded _ s c) _ h (λ k q e₁ w. needed (ltb 0 l) _ _ _ _ _ w (λ z w₁.
-        undo (counted (c .at) s q) _ w₁ (λ u q₁ e₂ w₂.
+        undo (countStatement (c .at) s q) _ w₁ (λ u q₁ e₂ w₂.
         let g = counted-code s c q (statementCode k) (c .at) (coded-went statement-due s c e₁) e₂ in
         let below = from-both l (λ x c t c′ h. statement-sound l x c t c′ h) (λ x before c r c′ h. receive-sound l x before c r c′ h) in
         let i = statement-under-sound s octets e sc (c .at) l (atLevel l) below q₁ (g .0 .place) k t c′ w₂ in
@@ -296,7 +296,7 @@ module _ (s : List ℕ) (octets : Octets s) (e : Environment) where
     pub receive-sound : (l : ℕ) (sc : Scope) (before : List ℕ) → ReadsReceives l e sc s before (readReceive l e sc before)
     receive-sound zero sc before c r c′ h = never h
     receive-sound (suc l) sc before c r c′ h = undo (code blr.receive NotDue s c) _ h (λ x q e₁ w. needed (ltb 0 l) _ _ _ _ _ w (λ z w₁.
-        undo (counted (c .at) s q) _ w₁ (λ u q₁ e₂ w₂.
+        undo (countStatement (c .at) s q) _ w₁ (λ u q₁ e₂ w₂.
         let g = counted-code s c q blr.receive (c .at) (code-went blr.receive NotDue s c e₁) e₂ in
         let i = receive-under-sound l e sc s (readStatement l e sc) (λ c t c′ h. statement-sound l sc c t c′ h) (c .at) before
         q₁ (g .0 .place) r c′ w₂ in

@@ -17,7 +17,7 @@ use Rattle.grammar.specs.declared.Role.the-variants.{AsValue}
 use Rattle.grammar.specs.declared.Refusal.the-variants.{Unfit}
 use Rattle.grammar.specs.Tree.{Literal, Reference, Value, arithmetic, negate, Boolean, compare, search}
 use Rattle.grammar.specs.Bytes.{valueBytes, booleanBytes}
-use Rattle.grammar.specs.Names.{Environment, Scope}
+use Rattle.grammar.specs.Environment.{Environment, Scope}
 use Rattle.grammar.specs.Kinds.{kindOf, oneKind, bothText, allOneKind}
 use Rattle.grammar.specs.Sizes.{valueDepth, booleanDepth, valueContexts, booleanContexts}
 use Rattle.grammar.specs.Rules.{ValueAllowed, BooleanAllowed}

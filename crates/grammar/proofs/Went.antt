@@ -14,7 +14,7 @@ use Rattle.wire.specs.Words.{byteAt, wordAt, longAt, wordBytes, longBytes}
 use Rattle.wire.specs.Classes.{Class}
 use Rattle.grammar.specs.declared.Refusal.{Refusal}
 use Rattle.grammar.specs.declared.Cursor.{Cursor}
-use Rattle.grammar.specs.Reader.{Read, read, refused, onRead, Reader, need, on, taken, byte, word, long, bytes, peek, name, tested, code, due, coded, withStatement, withContext, counted, opened, noted}
+use Rattle.grammar.specs.Reader.{Read, read, refused, onRead, Reader, need, on, taken, byte, word, long, bytes, peek, name, tested, code, due, coded, withStatement, withContext, countStatement, opened, noted}
 use Rattle.grammar.specs.Demands.{Octets}
 
 -- ---- readings taken apart
@@ -246,8 +246,8 @@ code-went k r s c {x} e = let t = tested-read s c byte (eqb k) r e in rw (eqb-tr
 -- ---- what is counted
 
 module _ (p : ℕ) (s : List ℕ) (c : Cursor) {u : Unit {0}} {c′ : Cursor} where
-  pub counted-went : counted p s c ≡ read u c′ → Went s c [] 1 0 0 c′ × (c′ .statements ≤ 512)
-  unfolding counted
+  pub counted-went : countStatement p s c ≡ read u c′ → Went s c [] 1 0 0 c′ × (c′ .statements ≤ 512)
+  unfolding countStatement
   counted-went e =
       let t = passed (ltb (c .statements) 512) (read tt (withStatement c)) _ _ e in
       same (t .1) (λ u c′. Went s c [] 1 0 0 c′ × (c′ .statements ≤ 512)) (

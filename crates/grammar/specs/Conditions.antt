@@ -5,7 +5,7 @@ use lib.ListN.{length}
 use Rattle.dictionary.specs.Dictionary.{Relation}
 use Rattle.grammar.specs.Tree.{Boolean, Keys, Clauses, noClauses, such, sorted, Rse, rse, Statement, assignment, begin, erase, for, headed, leave, if, ifElse, select, Statements, none as nothing, _then_, Receives, last, more, Request}
 use Rattle.grammar.specs.Bytes.{keysBytes, headBytes, rseBytes, headingBytes, booleanBytes}
-use Rattle.grammar.specs.Names.{Scope, outermost, underStreams, underRse, underHeading}
+use Rattle.grammar.specs.Environment.{Scope, outermost, underStreams, underRse, underHeading}
 use Rattle.grammar.specs.Rows.{size, statementsStart}
 
 -- a condition: the place of its code, the boolean, and the scope that it stands in

@@ -11,8 +11,8 @@ use Rattle.wire.specs.Words.{byteAt}
 use Rattle.dictionary.specs.Dictionary.{Relation, proper, dictionary}
 use Rattle.grammar.specs.declared.Refusal.{Refusal}
 use Rattle.grammar.specs.declared.Refusal.the-variants.{BadDictionary}
-use Rattle.grammar.specs.declared.Reading.{Reading}
-use Rattle.grammar.specs.declared.Reading.the-variants.{Accepted}
+use Rattle.grammar.specs.declared.ReadAnswer.{ReadAnswer}
+use Rattle.grammar.specs.declared.ReadAnswer.the-variants.{Accepted}
 use Rattle.grammar.specs.Refusals.{number}
 use Rattle.grammar.specs.Tree.{Request}
 use Rattle.grammar.specs.Bytes.{requestBytes}
@@ -87,6 +87,6 @@ pub record Soundness (s d st pa ct st′ pa′ ct′ : List ℕ) (n m k : ℕ) :
   pub filled : Filled relations tree st pa ct st′ pa′ ct′ n m k
 
 -- demand 2, accepted if allowed: the answer r is acceptance with the counts of rows
-pub record Completeness (s d st pa ct st′ pa′ ct′ : List ℕ) (r : Reading) : Type 0 where
+pub record Completeness (s d st pa ct st′ pa′ ct′ : List ℕ) (r : ReadAnswer) : Type 0 where
   pub accepted : (rs : List Relation) (t : Request) → Acceptable s d st pa ct rs t →
       (n : ℕ) × (m : ℕ) × (k : ℕ) × (r ≡ Accepted n m k) × Filled rs t st pa ct st′ pa′ ct′ n m k

@@ -15,7 +15,7 @@ use Rattle.wire.specs.declared.codes.FieldType.the-variants.{Plain, Reading}
 use Rattle.dictionary.specs.Format.{Format}
 use Rattle.grammar.specs.Kind.{Kind, Number, Text, Date}
 use Rattle.grammar.specs.Tree.{Literal, Reference, field, parameter, parameter2, Value, literal, reference, arithmetic, negate}
-use Rattle.grammar.specs.Names.{Environment, Scope, parameterFormat, fieldFormat}
+use Rattle.grammar.specs.Environment.{Environment, Scope, parameterFormat, fieldFormat}
 
 -- ---- the kind of a value, if its parts fit
 

@@ -2,7 +2,7 @@
 pub mod Refusals
 pub mod Tree
 pub mod Bytes
-pub mod Names
+pub mod Environment
 pub mod Scope
 pub mod Kind
 pub mod Kinds

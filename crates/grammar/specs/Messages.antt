@@ -11,7 +11,7 @@ use Rattle.wire.specs.declared.codes.DataType.the-variants.{Number, Date, Chars
 use Rattle.dictionary.specs.Format.{held, scaleInRange, sizeInRange}
 use Rattle.grammar.specs.declared.Refusal.the-variants.{TooGreat, BadMessage, OutOfRange}
 use Rattle.grammar.specs.Tree.{Descriptor, Message}
-use Rattle.grammar.specs.Names.{descriptorFormat}
+use Rattle.grammar.specs.Environment.{descriptorFormat}
 use Rattle.grammar.specs.Sizes.{parameterCount}
 use Rattle.grammar.specs.Reader.{Reader, _>>=_, _>>_, return, need, place, byte, word, peek, tested, coded}
 

@@ -112,8 +112,8 @@ abbrev pub withCondition : Cursor → Cursor
 withCondition c = record { at = c .at; statements = c .statements; contexts = c .contexts; conditions = c .conditions + 1 }
 
 -- "512 statements": one more, whose code stands at p
-unfoldable pub counted : ℕ → Reader (Unit {0})
-counted p s c = cond (ltb (c .statements) 512) (read tt (withStatement c)) (refused TooGreat p)
+unfoldable pub countStatement : ℕ → Reader (Unit {0})
+countStatement p s c = cond (ltb (c .statements) 512) (read tt (withStatement c)) (refused TooGreat p)
 
 -- "32 context declarations": one more, whose code stands at p
 unfoldable pub opened : ℕ → Reader (Unit {0})

@@ -10,9 +10,9 @@ use Rattle.grammar.specs.declared.Cursor.{Cursor}
 use Rattle.grammar.specs.declared.Refusal.{Refusal}
 use Rattle.grammar.specs.declared.Refusal.the-variants.{TablesTooShort, RequestTooLong, BadDictionary, BadVersion, NotDue, BytesAfterEnd}
 use Rattle.grammar.specs.Tree.{Message, Statements, Request}
-use Rattle.grammar.specs.Names.{Environment, outermost}
+use Rattle.grammar.specs.Environment.{Environment, outermost}
 use Rattle.grammar.specs.Rows.{requestStatementRows, parameterRows, requestContextRows}
-use Rattle.grammar.specs.Reader.{Read, read, refused, Reader, _>>=_, _>>_, return, need, place, code, counted}
+use Rattle.grammar.specs.Reader.{Read, read, refused, Reader, _>>=_, _>>_, return, need, place, code, countStatement}
 use Rattle.grammar.specs.Messages.{messages}
 use Rattle.grammar.specs.Statements.{many, readStatement}
 
@@ -30,7 +30,7 @@ request d = do
   code blr.version4 BadVersion
   p ← place
   code blr.begin NotDue
-  counted p
+  countStatement p
   ms ← messages 16 []
   ss ← outerStatements d ms
   code blr.eoc NotDue

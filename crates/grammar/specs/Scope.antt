@@ -7,9 +7,9 @@ use mathlib.Core.Option.{Option, none, some}
 use lib.Dec.{eqb}
 use Rattle.wire.specs.Lists.{among, isSome}
 use Rattle.dictionary.specs.Dictionary.{Relation}
-use Rattle.dictionary.specs.Names.{relationOf}
+use Rattle.dictionary.specs.Naming.{relationOf}
 use Rattle.grammar.specs.Tree.{Message, Stream, Reference, field, parameter, parameter2, Heading, loop, modify, handler, receive, send, store, label, Receives, last, more}
-use Rattle.grammar.specs.Names.{Environment, Context, Scope, underStreams, contextOf, messageOf, parameterFormat, fieldFormat}
+use Rattle.grammar.specs.Environment.{Environment, Context, Scope, underStreams, contextOf, messageOf, parameterFormat, fieldFormat}
 
 -- ---- tests, which reading makes too
 

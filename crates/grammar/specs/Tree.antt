@@ -8,7 +8,7 @@ use Rattle.wire.specs.declared.codes.Comparison.{Comparison}
 use Rattle.wire.specs.declared.codes.TextSearch.{TextSearch}
 use Rattle.wire.specs.declared.codes.Connective.{Connective}
 use Rattle.wire.specs.declared.codes.Direction.{Direction}
-use Rattle.dictionary.specs.Names.{Name}
+use Rattle.dictionary.specs.Naming.{Name}
 
 -- 01: "Descriptors: short 7 and long 8, each with a signed scale byte ..; date 35 ..; text 14, varying 37, cstring 40, each with a word n"
 pub data Descriptor : Type 0 where

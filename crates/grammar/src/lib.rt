@@ -99,7 +99,7 @@ pub enum WordStep {
 }
 
 // The answer of reading: the rows of statements, parameters and contexts; or the refusal and its place.
-pub enum Reading {
+pub enum ReadAnswer {
     Accepted(usize, usize, usize),
     Refused(Refusal, usize),
 }

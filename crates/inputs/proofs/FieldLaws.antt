@@ -12,7 +12,7 @@ use borrow.Author.Tests.{ltb-false}
 use Rattle.wire.specs.Words.{wordAt}
 use Rattle.dictionary.specs.Format.{Format}
 use Rattle.dictionary.specs.Dictionary.{Relation}
-use Rattle.dictionary.specs.Names.{Name, numbered, formatOf, fieldOf, fieldFormat}
+use Rattle.dictionary.specs.Naming.{Name, numbered, formatOf, fieldOf, fieldFormat}
 use Rattle.dictionary.specs.Walk.{fieldsOf, entryField, relationAt}
 use Rattle.dictionary.specs.declared.lookup.Place.the-variants as Place
 use Rattle.dictionary.specs.declared.field.Index.the-variants as Index

@@ -7,7 +7,7 @@ use lib.ListN.{length, take, drop, length-drop, drop-of-length-le}
 use lib.Seq.{take-all, take-nil, drop-length}
 use Rattle.wire.specs.declared.codes.TextType.{TextType}
 use Rattle.wire.specs.declared.codes.TextType.the-variants.{Text}
-use Rattle.text.specs.declared.Part.the-variants.{Is, Malformed}
+use Rattle.text.specs.declared.TextPart.the-variants.{Is, Malformed}
 use Rattle.text.specs.Value.{textPart, kept, bytesOf}
 use Rattle.grammar.specs.Tree as Tree
 use Rattle.meaning.specs.Data.{text}

@@ -13,7 +13,7 @@ use Rattle.wire.specs.declared.codes.ReferenceCode.{ReferenceCode}
 use Rattle.wire.specs.declared.codes.ReferenceCode.the-variants.{Field, Fid, Parameter, Parameter2}
 use Rattle.decimal.specs.declared.Number.{Number}
 use Rattle.dictionary.specs.Dictionary.{nameAt}
-use Rattle.dictionary.specs.Names.{named, numbered}
+use Rattle.dictionary.specs.Naming.{named, numbered}
 use Rattle.grammar.specs.Tree.{Reference, field, parameter, parameter2}
 use Rattle.meaning.specs.Inputs as Inputs
 use Rattle.meaning.specs.Inputs.{onFound, flagged, unlessFlagged}

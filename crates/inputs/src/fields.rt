@@ -1,7 +1,7 @@
 // The fields of records.
 ghost use mathlib.Core.Path.{_≡_};
 ghost use Rattle.wire.specs.Words.{wordAt};
-ghost use Rattle.dictionary.specs.Names.{named, numbered};
+ghost use Rattle.dictionary.specs.Naming.{named, numbered};
 ghost use Rattle.dictionary.specs.Walk.{relationAt};
 ghost use Rattle.records.specs.Record.{bitAt, readingMissing, fieldPlace, presenceOf};
 ghost use Rattle.meaning.specs.Inputs.{fieldIn};

@@ -13,7 +13,7 @@ use crate::numbers::number_at;
 use dictionary::field::Description;
 use meaning::Kind;
 use records::lengths::text_bytes;
-use text::Part;
+use text::TextPart;
 use text::value::text_part;
 use values::Date;
 use values::Held;
@@ -60,8 +60,8 @@ fn text_at(source: Source, t: TextType, n: usize, s: &[u8], p: usize) -> Fetched
     let start = held.start;
     let end = held.end;
     match text_part(t, &s[start..end]) {
-        Part::Is(a, b) => Fetched::Value(Value::Text(held)),
-        Part::Malformed => Fetched::Malformed,
+        TextPart::Is(a, b) => Fetched::Value(Value::Text(held)),
+        TextPart::Malformed => Fetched::Malformed,
     }
 }
 

@@ -1,7 +1,7 @@
 // Lines of text for what the leaves answer.
 use decimal::Computed;
 use decimal::Number;
-use text::Part;
+use text::TextPart;
 use wire::codes::Operator;
 use wire::codes::TextSearch;
 use wire::codes::TextType;
@@ -97,7 +97,7 @@ pub fn part(t: TextType, s: &[u8]) {
     quoted(s);
     let p = text::value::text_part(t, s);
     match p {
-        Part::Is(start, end) => {
+        TextPart::Is(start, end) => {
             print(b" from ");
             io::print_decimal(1, start as u64);
             print(b" to ");
@@ -105,7 +105,7 @@ pub fn part(t: TextType, s: &[u8]) {
             print(b": ");
             quoted(text::value::text_of(t, s));
         }
-        Part::Malformed => print(b" malformed"),
+        TextPart::Malformed => print(b" malformed"),
     }
     print(b"\n");
 }

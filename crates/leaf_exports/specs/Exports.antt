@@ -17,8 +17,8 @@ use Rattle.decimal.specs.declared.Number.{Number}
 use Rattle.decimal.specs.declared.Computed.{Computed}
 use Rattle.decimal.specs.declared.Computed.the-variants.{Value, Overflow, ZeroDivisor}
 use Rattle.decimal.specs.Number.{places, computed, negated, rescaled}
-use Rattle.dictionary.specs.declared.check.Answer.{Answer}
-use Rattle.dictionary.specs.declared.check.Answer.the-variants.{Proper, Fault}
+use Rattle.dictionary.specs.declared.check.DictionaryCheck.{DictionaryCheck}
+use Rattle.dictionary.specs.declared.check.DictionaryCheck.the-variants.{Proper, Fault}
 use Rattle.dictionary.specs.declared.lookup.Place.{Place}
 use Rattle.dictionary.specs.declared.lookup.Place.the-variants.{At, Unknown}
 use Rattle.records.specs.declared.lengths.Length.{Length}
@@ -28,8 +28,8 @@ use Rattle.records.specs.declared.missing.Presence.{Presence}
 use Rattle.records.specs.declared.missing.Presence.the-variants.{There, Missing}
 use Rattle.records.specs.declared.proper.RunAnswer.{RunAnswer}
 use Rattle.records.specs.declared.proper.RunAnswer.the-variants.{AsDue, WrongAt}
-use Rattle.text.specs.declared.Part.{Part}
-use Rattle.text.specs.declared.Part.the-variants.{Is, Malformed}
+use Rattle.text.specs.declared.TextPart.{TextPart}
+use Rattle.text.specs.declared.TextPart.the-variants.{Is, Malformed}
 
 -- ---- the numbers that stand for a case
 
@@ -63,7 +63,7 @@ refusalOf Overflow = 24
 refusalOf ZeroDivisor = 25
 
 -- what an operation gives, and what it leaves in the answer
-pub record Given (c : Computed) (an′ : List ℤ) (r : ℕ) : Type 0 where
+pub record ComputedInto (c : Computed) (an′ : List ℤ) (r : ℕ) : Type 0 where
   pub number-is : r ≡ refusalOf c
   pub answer-filled : an′ ≡ valueOf c ∷ scaleOf c ∷ []
 
@@ -72,23 +72,23 @@ signOf Less = negsuc 0
 signOf Equal = pos 0
 signOf Greater = pos 1
 
-abbrev pub isMalformed : Part → Bool
+abbrev pub isMalformed : TextPart → Bool
 isMalformed (Is start end) = false
 isMalformed Malformed = true
 
-abbrev pub startOf : Part → ℕ
+abbrev pub startOf : TextPart → ℕ
 startOf (Is start end) = start
 startOf Malformed = 0
 
-abbrev pub endOf : Part → ℕ
+abbrev pub endOf : TextPart → ℕ
 endOf (Is start end) = end
 endOf Malformed = 0
 
-abbrev pub isProper : Answer → Bool
+abbrev pub isProper : DictionaryCheck → Bool
 isProper Proper = true
 isProper (Fault p) = false
 
-abbrev pub faultOf : Answer → ℕ
+abbrev pub faultOf : DictionaryCheck → ℕ
 faultOf Proper = 0
 faultOf (Fault p) = p
 

@@ -3,14 +3,14 @@ ghost use mathlib.Core.Path.{_≡_};
 ghost use mathlib.Core.List.{map};
 ghost use lib.ListN.{length};
 ghost use Rattle.dictionary.specs.Dictionary.{dictionary as checked};
-ghost use Rattle.dictionary.specs.Names.{named, numbered};
+ghost use Rattle.dictionary.specs.Naming.{named, numbered};
 ghost use Rattle.dictionary.specs.Walk.{relationPlace, relationAt, entryField};
 ghost use Rattle.dictionary.specs.Answers.{answerOf, placeAnswer};
 ghost use Rattle.records.specs.Record.{offsetOf, recordLength, fieldPresence};
 ghost use Rattle.records.specs.Record.{records as recordRun};
 ghost use Rattle.records.specs.Answers.{lengthAnswer, runAnswer};
 ghost use Rattle.leaf_exports.specs.Exports.{isProper, faultOf, placeOr, isDue, wrongOf, presenceGiven, lengthOf};
-use dictionary::check::Answer;
+use dictionary::check::DictionaryCheck;
 use dictionary::lookup::Place;
 use records::lengths::Length;
 use records::missing::Cause;
@@ -23,8 +23,8 @@ pub extern "C" fn house_proper(d: &[u8]) -> bool
 {
     let a = dictionary::check::check(d);
     match a {
-        Answer::Proper => true,
-        Answer::Fault(p) => false,
+        DictionaryCheck::Proper => true,
+        DictionaryCheck::Fault(p) => false,
     }
 }
 
@@ -35,8 +35,8 @@ pub extern "C" fn house_fault(d: &[u8]) -> usize
 {
     let a = dictionary::check::check(d);
     match a {
-        Answer::Proper => 0,
-        Answer::Fault(p) => p,
+        DictionaryCheck::Proper => 0,
+        DictionaryCheck::Fault(p) => p,
     }
 }
 

@@ -1,7 +1,7 @@
 // Test exports of the leaves, for the comparison with the second program. They are no part of the product's interface.
 ghost use mathlib.Core.Path.{_≡_};
 ghost use Rattle.wire.specs.Words.{wordAt, longAt, signed};
-ghost use Rattle.leaf_exports.specs.Exports.{operatorOf, textTypeOf, searchOf, operation, Given, signOf, isMalformed, startOf, endOf};
+ghost use Rattle.leaf_exports.specs.Exports.{operatorOf, textTypeOf, searchOf, operation, ComputedInto, signOf, isMalformed, startOf, endOf};
 ghost use Rattle.decimal.specs.Number.{compared};
 ghost use Rattle.text.specs.Value.{textPart, bytesOf};
 ghost use Rattle.text.specs.Tests.{textOrder, search};
@@ -11,7 +11,7 @@ pub mod house;
 
 use decimal::Computed;
 use decimal::Number;
-use text::Part;
+use text::TextPart;
 use wire::codes::Operator;
 use wire::codes::TextSearch;
 use wire::codes::TextType;
@@ -60,7 +60,7 @@ pub extern "C" fn leaf_compute(
     b_scale: i8,
     answer: &mut [i64; 2],
 ) -> u32
-    ensures { λ r. ⌜ Given (operation o (record { value = a; scale = «a_scale» }) (record { value = b; scale = «b_scale» })) (now (answer .exit)) r ⌝ }
+    ensures { λ r. ⌜ ComputedInto (operation o (record { value = a; scale = «a_scale» }) (record { value = b; scale = «b_scale» })) (now (answer .exit)) r ⌝ }
 {
     match operate(o, a, a_scale, b, b_scale) {
         Computed::Value(n) => {
@@ -123,8 +123,8 @@ pub extern "C" fn leaf_text_malformed(t: u8, s: &[u8]) -> bool
 {
     let p = text::value::text_part(text_type_of(t), s);
     match p {
-        Part::Is(start, end) => false,
-        Part::Malformed => true,
+        TextPart::Is(start, end) => false,
+        TextPart::Malformed => true,
     }
 }
 
@@ -135,8 +135,8 @@ pub extern "C" fn leaf_text_start(t: u8, s: &[u8]) -> usize
 {
     let p = text::value::text_part(text_type_of(t), s);
     match p {
-        Part::Is(start, end) => start,
-        Part::Malformed => 0,
+        TextPart::Is(start, end) => start,
+        TextPart::Malformed => 0,
     }
 }
 
@@ -147,8 +147,8 @@ pub extern "C" fn leaf_text_end(t: u8, s: &[u8]) -> usize
 {
     let p = text::value::text_part(text_type_of(t), s);
     match p {
-        Part::Is(start, end) => end,
-        Part::Malformed => 0,
+        TextPart::Is(start, end) => end,
+        TextPart::Malformed => 0,
     }
 }
 

@@ -3,8 +3,8 @@ use Prim.Native.Nat.{ℕ, _≤_}
 use mathlib.Core.Path.{_≡_, subst}
 use mathlib.Core.List.{List}
 use native.Mathlib.Omega.{arith}
-use Rattle.grammar.specs.declared.Reading.{Reading}
-use Rattle.grammar.specs.declared.Reading.the-variants.{Accepted}
+use Rattle.grammar.specs.declared.ReadAnswer.{ReadAnswer}
+use Rattle.grammar.specs.declared.ReadAnswer.the-variants.{Accepted}
 use Rattle.grammar.specs.Answered.{Answered}
 use Rattle.grammar.proofs.RowCounts.{request-rows, parameter-rows, request-contexts}
 use Rattle.grammar.proofs.Demands.{read-sound}
@@ -16,7 +16,7 @@ pub record Few (n m k : ℕ) : Type 0 where
 
 -- what reading accepts has no more rows than the smallest tables hold
 pub accepted-few :
-    {s d st pa ct st′ pa′ ct′ : List ℕ} {r : Reading} → Answered s d st pa ct st′ pa′ ct′ r → (n m k : ℕ) → r ≡ Accepted n m k → Few n m k
+    {s d st pa ct st′ pa′ ct′ : List ℕ} {r : ReadAnswer} → Answered s d st pa ct st′ pa′ ct′ r → (n m k : ℕ) → r ≡ Accepted n m k → Few n m k
 accepted-few {s} {d} {st} {pa} {ct} {st′} {pa′} {ct′} h n m k e =
     let w = read-sound (subst (λ x. Answered s d st pa ct st′ pa′ ct′ x) e h) in
     let z = w .acceptable .allowed .sized in

@@ -3,7 +3,7 @@
 mod show;
 mod table;
 
-use grammar::Reading;
+use grammar::ReadAnswer;
 use input::Input;
 use show::bad_input;
 use show::line;
@@ -22,13 +22,13 @@ fn list(dictionary: &[u8], body: &[u8]) {
         &mut parameters,
         &mut contexts,
     ) {
-        Reading::Accepted(n, m, k) => {
+        ReadAnswer::Accepted(n, m, k) => {
             line(b"request ", body.len());
             rows(b"statement", &statements, 4, n);
             rows(b"parameter", &parameters, 6, m);
             rows(b"context", &contexts, 5, k);
         }
-        Reading::Refused(r, p) => refused(grammar::number_of(r), p),
+        ReadAnswer::Refused(r, p) => refused(grammar::number_of(r), p),
     }
 }
 

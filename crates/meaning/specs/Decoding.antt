@@ -26,7 +26,7 @@ use Rattle.wire.specs.declared.codes.DataType.{DataType}
 use Rattle.wire.specs.declared.codes.DataType.the-variants as DataType
 use Rattle.wire.specs.declared.codes.LiteralType.{LiteralType}
 use Rattle.wire.specs.declared.codes.LiteralType.the-variants as LiteralType
-use Rattle.dictionary.specs.Names.{Name, named, numbered}
+use Rattle.dictionary.specs.Naming.{Name, named, numbered}
 use Rattle.grammar.specs.Tree as Tree
 use Rattle.grammar.specs.Tree.{Descriptor, Message, Stream, Literal, Reference, field, parameter, parameter2, Heading, loop, modify, handler, receive, send, store, label, Value, literal, reference, arithmetic, negate, Boolean, compare, search, between, connect, not, missing, Keys, noKeys, key, Clauses, noClauses, such, sorted, Rse, rse, Statement, assignment, begin, erase, for, headed, leave, if, ifElse, select, Statements, none as nothing, Receives, last, more, Request}
 
@@ -124,8 +124,8 @@ messages (suc k) = peek >>= λ x. cond (eqb x blr.message) (message >>= λ m. me
 
 -- ---- values and booleans
 
-unfoldable pub counted : Decoder Name
-counted = one named (byte >>= bytes)
+unfoldable pub countedName : Decoder Name
+countedName = one named (byte >>= bytes)
 
 unfoldable pub id : Decoder Name
 id = one numbered word
@@ -139,7 +139,7 @@ literalUnder (LiteralType.NumberLiteral w) = two (Literal.number w) byte (number
 literalUnder LiteralType.TextLiteral = one Literal.text (word >>= bytes)
 
 unfoldable pub referenceUnder : ReferenceCode → Decoder Reference
-referenceUnder ReferenceCode.Field = two field byte counted
+referenceUnder ReferenceCode.Field = two field byte countedName
 referenceUnder ReferenceCode.Fid = two field byte id
 referenceUnder ReferenceCode.Parameter = two parameter byte word
 referenceUnder ReferenceCode.Parameter2 = three parameter2 byte word word
@@ -171,7 +171,7 @@ boolean (suc l) = coded booleanClass >>= λ c. booleanUnder (boolean l) (value l
 -- ---- rses
 
 abbrev pub streamUnder : StreamCode → Decoder Name
-streamUnder StreamCode.Relation = counted
+streamUnder StreamCode.Relation = countedName
 streamUnder StreamCode.Rid = id
 
 abbrev pub streamOf : Name → ℕ → Stream

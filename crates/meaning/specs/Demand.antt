@@ -10,13 +10,13 @@ use lib.ListN.{length, getElem?}
 use Rattle.wire.specs.Words.{byteAt, wordAt}
 use Rattle.dictionary.specs.Format.{Format, held}
 use Rattle.dictionary.specs.Dictionary.{Relation, proper, dictionary}
-use Rattle.dictionary.specs.Names.{formatOf}
+use Rattle.dictionary.specs.Naming.{formatOf}
 use Rattle.records.specs.Record.{recordLength, spareClear, fieldPlace, fieldMissing}
 use Rattle.grammar.specs.declared.Refusal.{Refusal}
 use Rattle.grammar.specs.Refusals.{number}
 use Rattle.grammar.specs.Tree.{Message, Request}
 use Rattle.grammar.specs.Bytes.{requestBytes}
-use Rattle.grammar.specs.Names.{Context}
+use Rattle.grammar.specs.Environment.{Context}
 use Rattle.grammar.specs.Sizes.{messageSize}
 use Rattle.grammar.specs.Rules.{Allowed}
 use Rattle.grammar.specs.Conditions.{Condition, requestConditions}

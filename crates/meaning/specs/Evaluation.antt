@@ -11,7 +11,7 @@ use Rattle.records.specs.Record.{Run, asDue, wrongAt, records}
 use Rattle.grammar.specs.declared.Refusal.{Refusal}
 use Rattle.grammar.specs.declared.Refusal.the-variants as Refusal
 use Rattle.grammar.specs.Tree.{Message, Request}
-use Rattle.grammar.specs.Names.{Context}
+use Rattle.grammar.specs.Environment.{Context}
 use Rattle.grammar.specs.Sizes.{messageSize}
 use Rattle.grammar.specs.Conditions.{Condition, requestConditions}
 use Rattle.grammar.specs.Reader as Reader

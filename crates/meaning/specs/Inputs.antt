@@ -14,18 +14,18 @@ use Rattle.wire.specs.declared.codes.TextType.{TextType}
 use Rattle.wire.specs.declared.codes.DataType.the-variants as Data
 use Rattle.wire.specs.declared.codes.FieldType.{FieldType}
 use Rattle.wire.specs.declared.codes.FieldType.the-variants.{Plain, Reading}
-use Rattle.text.specs.declared.Part.{Part}
-use Rattle.text.specs.declared.Part.the-variants as Part
+use Rattle.text.specs.declared.TextPart.{TextPart}
+use Rattle.text.specs.declared.TextPart.the-variants as TextPart
 use Rattle.text.specs.Value.{textPart, partOf, kept}
 use Rattle.dictionary.specs.Format.{Format, textBytes}
 use Rattle.dictionary.specs.Dictionary.{Relation}
-use Rattle.dictionary.specs.Names.{Name, fieldOf, formatOf}
+use Rattle.dictionary.specs.Naming.{Name, fieldOf, formatOf}
 use Rattle.records.specs.declared.missing.Cause.the-variants as Cause
 use Rattle.records.specs.declared.missing.Presence.{Presence}
 use Rattle.records.specs.declared.missing.Presence.the-variants.{There, Missing}
 use Rattle.records.specs.Record.{recordLength, fieldPlace, fieldPresence}
 use Rattle.grammar.specs.Tree.{Descriptor, Message, Literal, Reference, field, parameter, parameter2}
-use Rattle.grammar.specs.Names.{Context, Scope, descriptorFormat}
+use Rattle.grammar.specs.Environment.{Context, Scope, descriptorFormat}
 use Rattle.grammar.specs.Sizes.{descriptorsSize, messageSize}
 use Rattle.meaning.specs.declared.Kind.{Kind}
 use Rattle.meaning.specs.declared.Kind.the-variants as Kind
@@ -47,9 +47,9 @@ abbrev pub numberAt : Width → List ℕ → ℕ → ℤ
 numberAt Short s p = signed 2 (wordAt s p)
 numberAt Long s p = signed 4 (longAt s p)
 
-abbrev pub textFound : List ℕ → Part → Fetched
-textFound s (Part.Is start end) = value (text (partOf s start end))
-textFound s Part.Malformed = malformed
+abbrev pub textFound : List ℕ → TextPart → Fetched
+textFound s (TextPart.Is start end) = value (text (partOf s start end))
+textFound s TextPart.Malformed = malformed
 
 abbrev pub textIn : List ℕ → TextType → Fetched
 textIn s t = textFound s (textPart t s)

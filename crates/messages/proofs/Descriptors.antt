@@ -26,7 +26,7 @@ use Rattle.grammar.specs.declared.Step.{Step}
 use Rattle.grammar.specs.declared.Step.the-variants as Step
 use Rattle.grammar.specs.Tree as Tree
 use Rattle.grammar.specs.Bytes.{descriptorBytes}
-use Rattle.grammar.specs.Names.{descriptorFormat}
+use Rattle.grammar.specs.Environment.{descriptorFormat}
 use Rattle.grammar.specs.Rows.{descriptorRows}
 use Rattle.grammar.specs.Reader.{Read, read, refused, onRead, taken, peek, byte, word, coded}
 use Rattle.grammar.specs.Messages.{sizeWord, scaleByte, descriptorUnder, descriptor, descriptors}
@@ -36,7 +36,7 @@ use Rattle.grammar.proofs.Codes.{dataCode, descriptor-due}
 use Rattle.messages.specs.declared.reading.Parameter.{Parameter}
 use Rattle.messages.specs.declared.descriptor.FormatStep.the-variants as FormatStep
 use Rattle.messages.specs.declared.descriptor.DescriptorStep.the-variants as DescriptorStep
-use Rattle.messages.specs.Reading.{formatStep, descriptorStep, rowOf, parameterAfter, Described}
+use Rattle.messages.specs.Declaring.{formatStep, descriptorStep, rowOf, parameterAfter, Described}
 
 -- ---- a field that is not read ends early
 

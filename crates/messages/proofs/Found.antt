@@ -10,8 +10,8 @@ use Rattle.wire.specs.Lists.{find, isSome}
 use Rattle.grammar.specs.Tree as Tree
 use Rattle.grammar.specs.Kinds as Kinds
 use Rattle.grammar.specs.Kinds.{formatKind}
-use Rattle.grammar.specs.Names as Names
-use Rattle.grammar.specs.Names.{Environment, descriptorFormat, parameterFormat}
+use Rattle.grammar.specs.Environment as Names
+use Rattle.grammar.specs.Environment.{Environment, descriptorFormat, parameterFormat}
 use Rattle.grammar.specs.Scope.{declared}
 use Rattle.scopes.proofs.Scopes.{find-map}
 use Rattle.messages.specs.declared.declared.Message.{Message}

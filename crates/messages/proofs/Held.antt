@@ -21,7 +21,7 @@ use Rattle.dictionary.specs.Format.{held, scaleInRange}
 use Rattle.grammar.specs.declared.Cursor.{Cursor}
 use Rattle.grammar.specs.Tree as Tree
 use Rattle.grammar.specs.Bytes.{descriptorBytes}
-use Rattle.grammar.specs.Names.{descriptorFormat}
+use Rattle.grammar.specs.Environment.{descriptorFormat}
 use Rattle.grammar.specs.Sizes.{parameterCount}
 use Rattle.grammar.specs.Rows.{descriptorRows, parameterRows}
 use Rattle.grammar.specs.Reader.{read, byte, word, peek, tested, coded}

@@ -22,7 +22,7 @@ use Rattle.grammar.specs.declared.Fit.the-variants.{NoKind}
 use Rattle.grammar.specs.declared.Step.{Step}
 use Rattle.grammar.specs.declared.Step.the-variants as Step
 use Rattle.grammar.specs.Tree as Tree
-use Rattle.grammar.specs.Names.{descriptorFormat}
+use Rattle.grammar.specs.Environment.{descriptorFormat}
 use Rattle.grammar.specs.Sizes.{parameterCount}
 use Rattle.grammar.specs.Rows.{descriptorRows, parameterRows}
 use Rattle.grammar.specs.Reader.{Read, read, refused, onRead, on, peek, byte, word, tested}
@@ -38,7 +38,7 @@ use Rattle.messages.specs.declared.reading.MessageStep.{MessageStep}
 use Rattle.messages.specs.declared.reading.MessageStep.the-variants as MessageStep
 use Rattle.messages.specs.declared.reading.Declaration.{Declaration}
 use Rattle.messages.specs.Entries.{declaredIn, foundOf, withMessage, entriesFrom, noMessage}
-use Rattle.messages.specs.Reading.{Described, messageBeside, messageStep, Told, Declares}
+use Rattle.messages.specs.Declaring.{Described, messageBeside, messageStep, Told, Declares}
 use Rattle.messages.proofs.Searches.{isFound, found-any}
 use Rattle.messages.proofs.Tables.{count-more, table-more}
 use Rattle.messages.proofs.Descriptors.{taken-ended, peek-ended}

@@ -11,7 +11,7 @@ use Rattle.wire.specs.Lists.{find}
 use Rattle.wire.specs.declared.codes.Width.the-variants.{Short, Long}
 use Rattle.wire.specs.declared.codes.TextType.the-variants.{Text, Varying, Cstring}
 use Rattle.grammar.specs.Tree as Tree
-use Rattle.grammar.specs.Names.{descriptorFormat}
+use Rattle.grammar.specs.Environment.{descriptorFormat}
 use Rattle.grammar.specs.Kinds.{formatKind}
 use Rattle.grammar.specs.Kind.{Kind}
 use Rattle.messages.specs.declared.declared.Message.{Message}

@@ -3,7 +3,7 @@ ghost use mathlib.Core.Path.{_≡_};
 ghost use lib.ListN.{getD, getElem?};
 ghost use mathlib.Core.Option.{some};
 ghost use Rattle.grammar.specs.Kinds.{formatKind};
-ghost use Rattle.grammar.specs.Names.{descriptorFormat};
+ghost use Rattle.grammar.specs.Environment.{descriptorFormat};
 ghost use Rattle.grammar.specs.Steps.{fitOf};
 ghost use Rattle.messages.specs.Entries.{declaredIn, foundOf, withMessage, parameterKind, descriptorOf};
 use grammar::Fit;

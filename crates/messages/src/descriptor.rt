@@ -3,7 +3,7 @@ ghost use mathlib.Core.Path.{_≡_};
 ghost use Prim.Native.Nat.{_≤_, _+_};
 ghost use Rattle.dictionary.specs.Format.{widthBytes, textBytes};
 ghost use Rattle.grammar.specs.Messages.{descriptorUnder, descriptor};
-ghost use Rattle.messages.specs.Reading.{formatStep, descriptorStep};
+ghost use Rattle.messages.specs.Declaring.{formatStep, descriptorStep};
 use classes::DescriptorClass;
 use classes::descriptor_class;
 use grammar::ByteStep;

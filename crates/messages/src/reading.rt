@@ -6,7 +6,7 @@ ghost use lib.ListN.{set, replicate};
 ghost use lib.Seq.{sets};
 ghost use Rattle.grammar.specs.Messages.{descriptors, messages};
 ghost use Rattle.grammar.specs.Steps.{stepOf, noKind};
-ghost use Rattle.messages.specs.Reading.{rowOf, parameterAfter, Described, Told, Declares};
+ghost use Rattle.messages.specs.Declaring.{rowOf, parameterAfter, Described, Told, Declares};
 ghost use Rattle.messages.specs.Entries.{withMessage, noMessage};
 use crate::declared::FoundMessage;
 use crate::declared::Message;

@@ -18,7 +18,7 @@ use Rattle.grammar.specs.declared.Fit.{Fit}
 use Rattle.grammar.specs.declared.Fit.the-variants as Fit
 use Rattle.grammar.specs.declared.Step.{Step}
 use Rattle.grammar.specs.declared.Step.the-variants as Step
-use Rattle.grammar.specs.Reader.{Read, read, refused, on, byte, peek, coded, counted}
+use Rattle.grammar.specs.Reader.{Read, read, refused, on, byte, peek, coded, countStatement}
 use Rattle.grammar.specs.Steps.{stepOf, noKind}
 use Rattle.grammar.proofs.StepLaws.{taken-whole, taken-cut, peek-here, peek-past}
 use Rattle.grammar.proofs.Went.{never, taken-read}
@@ -65,7 +65,7 @@ module _ {A : Type 0} (class : ℕ → Class A) (s : List ℕ) (c : Cursor) wher
 module _ (s : List ℕ) (c : Cursor) (l : ℕ) where
   entered-as : (k : StatementCode) (q : Cursor) (b t : Bool) → ltb 0 l ≡ b → ltb (q .statements) 512 ≡ t → coded statementClass s c ≡ read k q →
       statementHead (statementCoded l s c) ≡ enteredHead k (c .at) q l
-  unfolding statementCoded leveled counted
+  unfolding statementCoded leveled countStatement
   entered-as k q true true e f d = rw (statementCoded, leveled, d, e, f)
   entered-as k q true false e f d = rw (statementCoded, leveled, d, e, f)
   entered-as k q false t e f d = rw (statementCoded, leveled, d, e)

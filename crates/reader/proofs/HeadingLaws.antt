@@ -22,8 +22,8 @@ use Rattle.grammar.specs.declared.Refusal.the-variants.{TooGreat, BadContext, B
 use Rattle.grammar.specs.declared.Step.the-variants as Step
 use Rattle.grammar.specs.declared.Fit.the-variants as Fit
 use Rattle.grammar.specs.Tree.{Stream, Heading, loop, modify, handler, receive, send, store, label}
-use Rattle.grammar.specs.Names as Names
-use Rattle.grammar.specs.Names.{Environment, underUpdate, underHeading}
+use Rattle.grammar.specs.Environment as Names
+use Rattle.grammar.specs.Environment.{Environment, underUpdate, underHeading}
 use Rattle.grammar.specs.Scope.{inScope, declared, ofFor, updating}
 use Rattle.grammar.specs.Sizes.{headingContexts}
 use Rattle.grammar.specs.Rows.{contextRow}

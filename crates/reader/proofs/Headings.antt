@@ -19,7 +19,7 @@ use Rattle.grammar.specs.declared.Step.{Step}
 use Rattle.grammar.specs.declared.Step.the-variants as Step
 use Rattle.grammar.specs.Tree.{Heading, loop, handler, rse, for, headed}
 use Rattle.grammar.specs.Bytes.{headBytes, rseBytes, headingBytes, clausesBytes, statementBytes}
-use Rattle.grammar.specs.Names.{Environment, Scope, underStreams, underRse, underHeading}
+use Rattle.grammar.specs.Environment.{Environment, Scope, underStreams, underRse, underHeading}
 use Rattle.grammar.specs.Sizes.{headingContexts}
 use Rattle.grammar.specs.Rows.{size, streamRows, clausesRows, rseRows, headingRows, statementRows, contextRows}
 use Rattle.grammar.specs.Conditions.{clausesConditions, rseConditions, conditions}

@@ -11,7 +11,7 @@ use Rattle.wire.specs.declared.codes.BooleanCode.{BooleanCode}
 use Rattle.wire.specs.declared.codes.StatementCode.{StatementCode}
 use Rattle.grammar.specs.declared.Cursor.{Cursor}
 use Rattle.grammar.specs.declared.Refusal.{Refusal}
-use Rattle.grammar.specs.Reader.{Read, read, refused, byte, coded, counted}
+use Rattle.grammar.specs.Reader.{Read, read, refused, byte, coded, countStatement}
 use Rattle.grammar.proofs.StepLaws.{absurd-eq}
 use Rattle.grammar.proofs.Went.{Went, Passed, inside, undo, same, needed, coded-read, byte-went, counted-went}
 use Rattle.scopes.specs.declared.scope.Scope.{Scope}
@@ -55,7 +55,7 @@ pub record Entered (s : List ℕ) (c : Cursor) (l : ℕ) (q : Cursor) : Type 0 w
 
 pub statement-read : (s : List ℕ) (c : Cursor) (l : ℕ) {k : StatementCode} {q : Cursor} → statementCoded l s c ≡ read k q → Entered s c l q
 unfolding statementCoded
-statement-read s c l {k} {q} h = undo (leveled statementClass l s c) _ h (λ a q₁ e w. undo (counted (c .at) s q₁) _ w (λ u q₂ e₁ v.
+statement-read s c l {k} {q} h = undo (leveled statementClass l s c) _ h (λ a q₁ e w. undo (countStatement (c .at) s q₁) _ w (λ u q₂ e₁ v.
     let i = leveled-read statementClass s c l e in
     let j = counted-went (c .at) s q₁ e₁ in
     same v (λ a q. Entered s c l q) (record {

@@ -13,9 +13,9 @@ use Rattle.wire.specs.Lists.{among, anyOf}
 use Rattle.grammar.specs.declared.Cursor.{Cursor}
 use Rattle.grammar.specs.declared.Refusal.{Refusal}
 use Rattle.grammar.specs.declared.Refusal.the-variants.{NotDue, TooGreat, BadMessage, Misplaced}
-use Rattle.grammar.specs.Names.{Environment, Scope}
+use Rattle.grammar.specs.Environment.{Environment, Scope}
 use Rattle.grammar.specs.Scope.{declared, updating}
-use Rattle.grammar.specs.Reader.{read, refused, byte, tested, code, counted, withStatement}
+use Rattle.grammar.specs.Reader.{read, refused, byte, tested, code, countStatement, withStatement}
 use Rattle.reader.specs.declared.parts.Selected.{Selected}
 use Rattle.reader.specs.Cycle.{receiveCoded, receiveTests, selectedByte, Holds, Marks}
 use Rattle.reader.proofs.Codes.{no-level, some-level}
@@ -95,15 +95,15 @@ module _ (l : ℕ) (e : Environment) (sc : Scope) (ms : List ℕ) (p : ℕ) (s :
 
   module _ (z : l ≡ 0 → ⊥) where
     pub tests-many : 512 ≤ q .statements → receiveTests l e sc ms p s q ≡ refused TooGreat p
-    unfolding receiveTests counted
+    unfolding receiveTests countStatement
     tests-many h = rw (receiveTests, some-level l z, le-ltb (q .statements) 512 h)
 
     pub tests-misplaced : q .statements < 512 → updating sc ≡ true → receiveTests l e sc ms p s q ≡ refused Misplaced p
-    unfolding receiveTests counted
+    unfolding receiveTests countStatement
     tests-misplaced h u = rw (receiveTests, some-level l z, lt-ltb (q .statements) 512 h, u)
 
     pub tests-on : q .statements < 512 → updating sc ≡ false → receiveTests l e sc ms p s q ≡ selectedByte e ms s (withStatement q)
-    unfolding receiveTests counted selectedByte
+    unfolding receiveTests countStatement selectedByte
     tests-on h u = rw (receiveTests, some-level l z, lt-ltb (q .statements) 512 h, u)
 
 module _ (n l : ℕ) (e : Environment) (sc : Scope) (ms : List ℕ) (s : List ℕ) (c : Cursor) where

@@ -10,7 +10,7 @@ use lib.Seq.{sets}
 use Rattle.wire.specs.Codes as blr
 use Rattle.wire.specs.Lists.{isSome}
 use Rattle.dictionary.specs.Dictionary.{Relation}
-use Rattle.dictionary.specs.Names.{Name, named, numbered, relationOf}
+use Rattle.dictionary.specs.Naming.{Name, named, numbered, relationOf}
 use Rattle.grammar.specs.declared.Cursor.{Cursor}
 use Rattle.grammar.specs.declared.Refusal.{Refusal}
 use Rattle.grammar.specs.declared.Refusal.the-variants.{NotDue}
@@ -18,8 +18,8 @@ use Rattle.grammar.specs.declared.Step.the-variants as Step
 use Rattle.grammar.specs.declared.Fit.the-variants as Fit
 use Rattle.grammar.specs.Tree.{Stream}
 use Rattle.grammar.specs.Bytes.{streamOf, streamBytes}
-use Rattle.grammar.specs.Names as Names
-use Rattle.grammar.specs.Names.{streamContext, withContexts, underStreams}
+use Rattle.grammar.specs.Environment as Names
+use Rattle.grammar.specs.Environment.{streamContext, withContexts, underStreams}
 use Rattle.grammar.specs.Rows.{contextRow, streamRows}
 use Rattle.grammar.specs.Reader.{Read, read, refused, onRead, code}
 use Rattle.grammar.specs.Statements.{stream, streams, countByte, rseHead}

@@ -10,7 +10,7 @@ use lib.Seq.{sets, set-comm, set-set}
 use Rattle.dictionary.specs.Dictionary.{Relation}
 use Rattle.grammar.specs.Tree.{Stream, Heading, loop, modify, handler, receive, send, store, label}
 use Rattle.grammar.specs.Bytes.{streamBytes, headingBytes}
-use Rattle.grammar.specs.Names.{Scope, streamContext}
+use Rattle.grammar.specs.Environment.{Scope, streamContext}
 use Rattle.grammar.specs.Sizes.{headingContexts}
 use Rattle.grammar.specs.Rows.{relationId, streamRows, headingRows}
 use Rattle.reader.specs.Promises.{openRow}

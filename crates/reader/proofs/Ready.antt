@@ -8,8 +8,8 @@ use Rattle.grammar.specs.declared.Cursor.{Cursor}
 use Rattle.grammar.specs.declared.Fit.{Fit}
 use Rattle.grammar.specs.declared.Step.{Step}
 use Rattle.grammar.specs.declared.Step.the-variants as Step
-use Rattle.grammar.specs.Names as Names
-use Rattle.grammar.specs.Names.{Environment}
+use Rattle.grammar.specs.Environment as Names
+use Rattle.grammar.specs.Environment.{Environment}
 use mathlib.Core.Bool.{Bool}
 use Rattle.wire.specs.Classes.{directionClass}
 use Rattle.grammar.specs.Reader.{Read, read, coded}
@@ -24,8 +24,8 @@ use Rattle.grammar.proofs.SoundStatements.{statement-sound}
 use Rattle.grammar.proofs.Codes.{direction-due, coded-went}
 use Rattle.reader.proofs.Laid.{clauses-few, conditions-within}
 use Rattle.scopes.specs.declared.scope.Scope.{Scope}
-use Rattle.reader.specs.declared.cycle.Part.{Part}
-use Rattle.reader.specs.declared.cycle.Part.the-variants as Part
+use Rattle.reader.specs.declared.cycle.Construct.{Construct}
+use Rattle.reader.specs.declared.cycle.Construct.the-variants as Construct
 use Rattle.reader.specs.Cycle.{Tables, Wrote, From, Given, GivenAfter, Descended}
 use Rattle.reader.proofs.Steps.{not-both, same-cursor}
 
@@ -172,8 +172,8 @@ module _ {s d : List ℕ} {sc : Scope} where
       refl-le n = omega arith
 
   -- after a part one level down
-  pub given-descended : (part : Part) (e : Environment) (n : Names.Scope) (m parent : ℕ) (t t′ : Tables) (from r : Step) {l : ℕ} →
+  pub given-descended : (part : Construct) (e : Environment) (n : Names.Scope) (m parent : ℕ) (t t′ : Tables) (from r : Step) {l : ℕ} →
       GivenAfter s d sc from l → Descended part e n m parent s from t t′ r → GivenAfter s d sc r l
-  given-descended Part.Statement e n m parent t t′ from r g w = given-again g w (statement-onward s (g .octets) e n (suc m))
-  given-descended Part.Boolean e n m parent t t′ from r g w = given-again g w (boolean-onward s (g .octets) e n (suc m))
-  given-descended Part.Value e n m parent t t′ from r g w = given-again g w (value-onward s (g .octets) e n (suc m))
+  given-descended Construct.Statement e n m parent t t′ from r g w = given-again g w (statement-onward s (g .octets) e n (suc m))
+  given-descended Construct.Boolean e n m parent t t′ from r g w = given-again g w (boolean-onward s (g .octets) e n (suc m))
+  given-descended Construct.Value e n m parent t t′ from r g w = given-again g w (value-onward s (g .octets) e n (suc m))

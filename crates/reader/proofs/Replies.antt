@@ -10,15 +10,15 @@ use lib.Seq.{sets}
 use borrow.Author.Tests.{le-leb, lt-leb, leb-true, leb-false}
 use Rattle.dictionary.specs.Dictionary.{Relation, Checked, proper, atFault, dictionary}
 use Rattle.dictionary.specs.Answers.{answerOf}
-use Rattle.dictionary.specs.declared.check.Answer.the-variants as Answer
+use Rattle.dictionary.specs.declared.check.DictionaryCheck.the-variants as DictionaryCheck
 use Rattle.grammar.specs.declared.Cursor.{Cursor}
 use Rattle.grammar.specs.declared.Refusal.{Refusal}
 use Rattle.grammar.specs.declared.Refusal.the-variants.{TablesTooShort, RequestTooLong, BadDictionary}
 use Rattle.grammar.specs.declared.Fit.{Fit}
 use Rattle.grammar.specs.declared.Step.{Step}
 use Rattle.grammar.specs.declared.Step.the-variants as Step
-use Rattle.grammar.specs.declared.Reading.{Reading}
-use Rattle.grammar.specs.declared.Reading.the-variants.{Accepted, Refused}
+use Rattle.grammar.specs.declared.ReadAnswer.{ReadAnswer}
+use Rattle.grammar.specs.declared.ReadAnswer.the-variants.{Accepted, Refused}
 use Rattle.grammar.specs.Tree.{Request}
 use Rattle.grammar.specs.Sizes.{statementsCount, parameterCount, contextsCount}
 use Rattle.grammar.specs.Rows.{requestStatementRows, parameterRows, requestContextRows}
@@ -40,11 +40,11 @@ use Rattle.reader.specs.Request.{Requested, AnsweredNoting, conditionTab
 
 -- ---- the dictionary's answer
 
-pub proper-goes : (x : Checked) → Answer.Proper ≡ answerOf x → Before.Go ≡ besideAnswer x
+pub proper-goes : (x : Checked) → DictionaryCheck.Proper ≡ answerOf x → Before.Go ≡ besideAnswer x
 proper-goes (proper rs) e = refl
 proper-goes (atFault p) e = absurd-eq (cc)
 
-pub fault-stops : (x : Checked) (p : ℕ) → Answer.Fault p ≡ answerOf x → Before.Stop BadDictionary p ≡ besideAnswer x
+pub fault-stops : (x : Checked) (p : ℕ) → DictionaryCheck.Fault p ≡ answerOf x → Before.Stop BadDictionary p ≡ besideAnswer x
 fault-stops (proper rs) p e = absurd-eq (cc)
 fault-stops (atFault q) p e = let u : p ≡ q = cc in rw u
 
@@ -186,7 +186,7 @@ zeros-own t e h = h ∙ ap (λ n. replicate n 0) (sym (cleared-length t e h))
 module _ (s d st pa ct nd st₀ pa₀ ct₀ nd₀ : List ℕ) (a : st ≡ replicate (length st₀) 0) (b : pa ≡ replicate (length pa₀) 0)
     (c : ct ≡ replicate (length ct₀) 0) (f : nd ≡ replicate (length nd₀) 0) where
   -- what was read into cleared tables was read into those that were lent
-  pub as-lent : (st′ pa′ ct′ nd′ : List ℕ) (r : Reading) → AnsweredNoting s d st pa ct nd st′ pa′ ct′ nd′ r →
+  pub as-lent : (st′ pa′ ct′ nd′ : List ℕ) (r : ReadAnswer) → AnsweredNoting s d st pa ct nd st′ pa′ ct′ nd′ r →
       AnsweredNoting s d st₀ pa₀ ct₀ nd₀ st′ pa′ ct′ nd′ r
   as-lent st′ pa′ ct′ nd′ r h =
       let i = cleared-length st st₀ a in

@@ -28,8 +28,8 @@ use Rattle.reader.specs.declared.heads.ClauseHead.the-variants as Clause
 use Rattle.wire.specs.declared.codes.StatementCode.{StatementCode}
 use Rattle.dictionary.specs.Dictionary.{Relation}
 use Rattle.grammar.specs.Tree.{Stream, Heading}
-use Rattle.grammar.specs.Names as Names
-use Rattle.grammar.specs.Names.{Environment}
+use Rattle.grammar.specs.Environment as Names
+use Rattle.grammar.specs.Environment.{Environment}
 use Rattle.grammar.specs.Statements.{rseHead}
 use Rattle.grammar.specs.Steps.{stepOf, noKind}
 use Rattle.grammar.specs.Demands.{Octets}

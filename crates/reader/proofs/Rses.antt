@@ -23,7 +23,7 @@ use Rattle.grammar.specs.declared.ByteStep.the-variants as ByteStep
 use Rattle.grammar.specs.Tree.{Value, Boolean, noKeys, key, Clauses, noClauses, such, sorted}
 use Rattle.grammar.specs.Bytes.{valueBytes, booleanBytes, keysBytes}
 use Rattle.grammar.specs.Rows.{booleanRows, keysRows, clausesRows}
-use Rattle.grammar.specs.Names.{Environment, Scope}
+use Rattle.grammar.specs.Environment.{Environment, Scope}
 use Rattle.grammar.specs.Conditions.{clausesConditions}
 use Rattle.grammar.specs.Reader.{Read, read, refused, onRead, Reader, coded, withCondition}
 use Rattle.grammar.specs.Values.{readValue, readBoolean}

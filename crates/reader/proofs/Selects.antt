@@ -22,12 +22,12 @@ use Rattle.grammar.specs.declared.Fit.the-variants as Fit
 use Rattle.grammar.specs.declared.Step.{Step}
 use Rattle.grammar.specs.declared.Step.the-variants as Step
 use Rattle.grammar.specs.Tree.{Statement, select, Receives, last, more}
-use Rattle.grammar.specs.Names.{Environment, Scope}
+use Rattle.grammar.specs.Environment.{Environment, Scope}
 use Rattle.grammar.specs.Scope.{declared, updating}
 use Rattle.grammar.specs.Sizes.{statementCount}
 use Rattle.grammar.specs.Rows.{size, receiveRow, statementRows, receivesRows, contextRows, receivesContextRows}
 use Rattle.grammar.specs.Conditions.{conditions, receivesConditions}
-use Rattle.grammar.specs.Reader.{Read, read, refused, onRead, Reader, byte, peek, tested, code, counted, withStatement}
+use Rattle.grammar.specs.Reader.{Read, read, refused, onRead, Reader, byte, peek, tested, code, countStatement, withStatement}
 use Rattle.grammar.specs.Statements.{manyReceives, receiveUnder, selectUnder, statementUnder, readStatement, readReceive}
 use Rattle.grammar.specs.Steps.{noKind, byteStep}
 use Rattle.grammar.specs.declared.ByteStep.{ByteStep}
@@ -36,7 +36,7 @@ use Rattle.grammar.specs.Demands.{Octets}
 use Rattle.grammar.proofs.StepLaws.{absurd-eq, byte-read, byte-refused}
 use Rattle.scopes.specs.declared.scope.Scope as Scopes
 use Rattle.reader.specs.declared.parts.Selected.{Selected}
-use Rattle.reader.specs.declared.cycle.Part.the-variants as Part
+use Rattle.reader.specs.declared.cycle.Construct.the-variants as Construct
 use Rattle.reader.proofs.Ready.{given-at}
 use Rattle.reader.proofs.Values.{level}
 use Rattle.reader.proofs.Messages.{one-selected}
@@ -77,11 +77,11 @@ module _ (e : Environment) (sc : Scope) (l : ℕ) (before : List ℕ) (s : List 
 
     module _ (e₂ : ltb 0 l ≡ true) (e₃ : ltb (q .statements) 512 ≡ true) (e₄ : updating sc ≡ false) where
       coded-at : receiveCoded (suc n) l e sc before s c ≡ Message
-      unfolding receiveCoded counted
+      unfolding receiveCoded countStatement
       coded-at = rw (receiveCoded, one n, e₁, e₂, e₃, e₄)
 
       receive-at : readReceive (suc l) e sc before s c ≡ onRead Message (λ m q₁. onRead (readStatement l e sc s q₁) (λ t q₂. read (m, t) q₂))
-      unfolding readReceive receiveUnder counted
+      unfolding readReceive receiveUnder countStatement
       receive-at = rw (readReceive, e₁, e₂, e₃, receiveUnder, e₄)
 
       from-message : Same (suc n)
@@ -107,7 +107,7 @@ module _ (e : Environment) (sc : Scope) (l : ℕ) (before : List ℕ) (s : List 
     from-refusal i j = rw (manyReceives, j, i)
 
     by-tests : (b₂ b₃ b₄ : Bool) → ltb 0 l ≡ b₂ → ltb (q .statements) 512 ≡ b₃ → updating sc ≡ b₄ → Same (suc n)
-    unfolding receiveCoded readReceive receiveUnder counted
+    unfolding receiveCoded readReceive receiveUnder countStatement
     by-tests true true false e₂ e₃ e₄ = from-message e₂ e₃ e₄
     by-tests true true true e₂ e₃ e₄ = from-refusal {r = Misplaced} {p = c .at} (rw (receiveCoded, one n, e₁, e₂, e₃, e₄)) (rw (readReceive, e₁, e₂, e₃, receiveUnder, e₄))
     by-tests true false b e₂ e₃ e₄ = from-refusal {r = TooGreat} {p = c .at} (rw (receiveCoded, one n, e₁, e₂, e₃)) (rw (readReceive, e₁, e₂, e₃))
@@ -134,7 +134,7 @@ pub receive-went : (n l : ℕ) (e : Environment) (sc : Scope) (before s : List �
     receiveCoded n l e sc before s c ≡ read m q → Received s c n l m q
 unfolding receiveCoded
 receive-went n l e sc before s c {m} {q} h = needed (ltb 0 n) _ _ _ _ _ h (λ z₁ w₁. undo (code blr.receive NotDue s c) _ w₁ (λ x q₁ e₁ w₂.
-    needed (ltb 0 l) _ _ _ _ _ w₂ (λ z₂ w₃. undo (counted (c .at) s q₁) _ w₃ (λ u q₂ e₂ w₄. needed (negation (updating sc)) _ _ _ _ _ w₄ (λ z₃ w₅.
+    needed (ltb 0 l) _ _ _ _ _ w₂ (λ z₂ w₃. undo (countStatement (c .at) s q₁) _ w₃ (λ u q₂ e₂ w₄. needed (negation (updating sc)) _ _ _ _ _ w₄ (λ z₃ w₅.
     let g = code-went blr.receive NotDue s c e₁ in
     let k = counted-went (c .at) s q₁ e₂ in
     let b = byte-went s q₂ (tested-read s q₂ byte (λ m. declared e m && negation (among m before)) BadMessage w₅ .0) in
@@ -150,7 +150,7 @@ receive-small : (n l : ℕ) (e : Environment) (sc : Scope) (before s : List ℕ)
     receiveCoded n l e sc before s c ≡ read m q → m < 256
 unfolding receiveCoded
 receive-small n l e sc before s c {m} {q} octets h = needed (ltb 0 n) _ _ _ _ _ h (λ z₁ w₁. undo (code blr.receive NotDue s c) _ w₁ (λ x q₁ e₁ w₂.
-    needed (ltb 0 l) _ _ _ _ _ w₂ (λ z₂ w₃. undo (counted (c .at) s q₁) _ w₃ (λ u q₂ e₂ w₄. needed (negation (updating sc)) _ _ _ _ _ w₄ (λ z₃ w₅.
+    needed (ltb 0 l) _ _ _ _ _ w₂ (λ z₂ w₃. undo (countStatement (c .at) s q₁) _ w₃ (λ u q₂ e₂ w₄. needed (negation (updating sc)) _ _ _ _ _ w₄ (λ z₃ w₅.
     let b = taken-read s q₂ 1 byteAt (tested-read s q₂ byte (λ m. declared e m && negation (among m before)) BadMessage w₅ .0) in
     rw (b .1) (octets (q₂ .at)))))))
 
@@ -311,7 +311,7 @@ ends-given g = record { ends = λ f c i. let u = g .given f c i .ready in omega 
 
 -- two levels down
 pub statements-two-below : (e : Environment) (sc : Scope) (s : List ℕ) (l : ℕ) → 0 < l - 1 → {from : Step} {t t′ : Tables} {r : Step} (parent : ℕ) →
-    Descended Part.Statement e sc (l - 2) parent s from t t′ r →
+    Descended Construct.Statement e sc (l - 2) parent s from t t′ r →
     From from (readStatement (l - 1) e sc s) noKind (λ c t. statementTables (e .relations) sc t (c .at) (c .statements) parent) t t′ r
 statements-two-below e sc s l deep {from} {t} {t′} {r} parent w =
     subst (λ z. From from (readStatement z e sc s) noKind (λ c t. statementTables (e .relations) sc t (c .at) (c .statements) parent) t t′ r)

@@ -24,13 +24,13 @@ use Rattle.grammar.specs.declared.Step.{Step}
 use Rattle.grammar.specs.declared.Step.the-variants as Step
 use Rattle.grammar.specs.Tree.{Heading, loop, modify, handler, receive, send, store, label, Value, Boolean, Statement, assignment, begin, erase, for, headed, leave, if, ifElse, select, Statements, none as nothing′, _then_}
 use Rattle.grammar.specs.Bytes.{headingBytes, booleanBytes, statementBytes}
-use Rattle.grammar.specs.Names.{Environment, Scope}
+use Rattle.grammar.specs.Environment.{Environment, Scope}
 use Rattle.grammar.specs.Scope.{ofFor}
 use Rattle.grammar.specs.Kinds.{kindOf, referenceKind, oneKind}
 use Rattle.grammar.specs.Sizes.{statementCount}
 use Rattle.grammar.specs.Rows.{statementRows, statementsRows, valueRows, booleanRows, contextRows, contextsRows}
 use Rattle.grammar.specs.Conditions.{conditions, statementsConditions}
-use Rattle.grammar.specs.Reader.{Read, read, refused, onRead, Reader, on, need, byte, peek, tested, code, coded, counted, withCondition}
+use Rattle.grammar.specs.Reader.{Read, read, refused, onRead, Reader, on, need, byte, peek, tested, code, coded, countStatement, withCondition}
 use Rattle.grammar.specs.Values.{contextByte, readValue, readBoolean, readTarget}
 use Rattle.grammar.specs.Statements.{numberedBoolean, many, assignmentUnder, eraseUnder, leaveUnder, beginUnder, forUnder, ifUnder, statementUnder, readStatement}
 use Rattle.grammar.specs.Steps.{kindIn, stepOf, noKind}
@@ -48,8 +48,8 @@ use Rattle.reader.specs.declared.heads.StatementHead.{StatementHead}
 use Rattle.reader.specs.declared.heads.StatementHead.the-variants as StatementHead
 use Rattle.reader.specs.declared.heads.Ending.{Ending}
 use Rattle.reader.specs.declared.heads.Ending.the-variants as Ending
-use Rattle.reader.specs.declared.cycle.Part as PartOf
-use Rattle.reader.specs.declared.cycle.Part.the-variants as Part
+use Rattle.reader.specs.declared.cycle.Construct as PartOf
+use Rattle.reader.specs.declared.cycle.Construct.the-variants as Construct
 use Rattle.reader.specs.Cycle.{Tables, tables, nothing, joined, laid, Wrote, From, Descended, onStep, fromStep, testStep, noRows, valueFit, valueTables, leveled, statementCoded, statementHead, endingOf, innerAt, places, statementTables, statementsTables, belowRows, belowTables, stepped, Given, GivenAfter, Ends}
 use Rattle.reader.proofs.Steps.{passed-on, started, from-next, stop, fill, kept, likewise, by-read, on-next, stopped}
 use Rattle.reader.proofs.Chains.{from-equal, rows-as, then-wrote, last-wrote, numbered-wrote}
@@ -202,7 +202,7 @@ module _ (s : List ℕ) (octets : Octets s) (e : Environment) (sc : Scope) (l : 
   goes-given {d} {scope} {levels} {q} g i = on-goes s from at i (λ f y u v w. g .given f q u)
 
 pub statements-below : (e : Environment) (sc : Scope) (s : List ℕ) (l : ℕ) → 0 < l → {from : Step} {t t′ : Tables} {r : Step} (parent : ℕ) →
-    Descended Part.Statement e sc (l - 1) parent s from t t′ r →
+    Descended Construct.Statement e sc (l - 1) parent s from t t′ r →
     From from (readStatement l e sc s) noKind (λ c t. statementTables (e .relations) sc t (c .at) (c .statements) parent) t t′ r
 statements-below e sc s l deep {from} {t} {t′} {r} parent w =
     subst (λ z. From from (readStatement z e sc s) noKind (λ c t. statementTables (e .relations) sc t (c .at) (c .statements) parent) t t′ r)
@@ -242,7 +242,7 @@ head-byte s (b ∷ bs) rest p h z e =
 module _ (s : List ℕ) (octets : Octets s) (e : Environment) (sc : Scope) (l : ℕ) where
   statement-leveled : (c : Cursor) → readStatement (suc l) e sc s c ≡
       onRead (statementCoded l s c) (λ k q. statementUnder (innerAt l e) e sc (c .at) k s q)
-  unfolding readStatement statementCoded leveled counted
+  unfolding readStatement statementCoded leveled countStatement
   statement-leveled c = go (coded statementClass s c) (ltb 0 l) refl refl
     where
       few : (k : StatementCode) (q : Cursor) (b : Bool) → coded statementClass s c ≡ read k q → ltb 0 l ≡ true → ltb (q .statements) 512 ≡ b →
@@ -314,11 +314,11 @@ module _ (s : List ℕ) (octets : Octets s) (e : Environment) (sc : Scope) (l : 
               omega (arith, o .fine .inside, g .ready .short);
         }
 
-pub part-passed : (part : PartOf.Part) (e : Environment) (sc : Scope) (l parent : ℕ) (s : List ℕ) (t t′ : Tables) {from : Step} {n : Refusal} {p : ℕ} →
+pub part-passed : (part : PartOf.Construct) (e : Environment) (sc : Scope) (l parent : ℕ) (s : List ℕ) (t t′ : Tables) {from : Step} {n : Refusal} {p : ℕ} →
     from ≡ Step.Refused n p → Descended part e sc l parent s from t t′ (Step.Refused n p)
-part-passed Part.Value e sc l parent s t t′ h = passed-on h
-part-passed Part.Boolean e sc l parent s t t′ h = passed-on h
-part-passed Part.Statement e sc l parent s t t′ h = passed-on h
+part-passed Construct.Value e sc l parent s t t′ h = passed-on h
+part-passed Construct.Boolean e sc l parent s t t′ h = passed-on h
+part-passed Construct.Statement e sc l parent s t t′ h = passed-on h
 
 -- ---- statements that hold no other
 

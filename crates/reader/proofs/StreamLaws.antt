@@ -11,7 +11,7 @@ use Rattle.wire.specs.Lists.{isSome}
 use Rattle.wire.specs.Classes.{Class}
 use Rattle.wire.specs.declared.codes.StreamCode.{StreamCode}
 use Rattle.dictionary.specs.Dictionary.{Relation, nameAt}
-use Rattle.dictionary.specs.Names.{Name, named, numbered, relationOf}
+use Rattle.dictionary.specs.Naming.{Name, named, numbered, relationOf}
 use Rattle.dictionary.specs.Walk.{relationPlace, relationAt}
 use Rattle.dictionary.specs.Answers.{placeAnswer}
 use Rattle.dictionary.proofs.Bounds as Bounds
@@ -20,7 +20,7 @@ use Rattle.grammar.specs.declared.Cursor.{Cursor}
 use Rattle.grammar.specs.declared.Refusal.{Refusal}
 use Rattle.grammar.specs.declared.Refusal.the-variants.{LeftOut, NotDue, Unknown}
 use Rattle.grammar.specs.Tree.{Stream}
-use Rattle.grammar.specs.Names as Names
+use Rattle.grammar.specs.Environment as Names
 use Rattle.grammar.specs.Reader.{Read, read, refused, onRead, Reader, need, byte, word, name, tested, coded}
 use Rattle.grammar.specs.Values.{byName, byNumber}
 use Rattle.grammar.specs.Statements.{naming}

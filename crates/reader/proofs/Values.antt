@@ -30,13 +30,14 @@ use Rattle.grammar.specs.declared.Step.the-variants as Step
 use Rattle.grammar.specs.Tree.{Literal, Reference, Value, literal, reference, arithmetic, negate, Boolean}
 use Rattle.grammar.specs.Bytes.{valueBytes, booleanBytes}
 use Rattle.grammar.specs.Rows.{valueRows, booleanRows}
-use Rattle.grammar.specs.Names.{Environment, Scope}
+use Rattle.grammar.specs.Environment.{Environment, Scope}
 use Rattle.grammar.specs.Kinds.{kindOf, arithmeticKind, negatedKind, oneKind, bothText, allOneKind}
 use Rattle.grammar.specs.Reader.{Read, read, refused, onRead, need, coded}
 use Rattle.grammar.specs.Values.{readLiteral, readReference, valueUnder, readValue, booleanUnder, readBoolean}
 use Rattle.grammar.specs.Steps.{fitOf, kindIn, stepOf, noKind}
 use Rattle.grammar.proofs.StepLaws.{absurd-eq}
-use Rattle.grammar.proofs.Went.{Octets, undo, same, needed, coded-read, byte-went}
+use Rattle.grammar.specs.Demands.{Octets}
+use Rattle.grammar.proofs.Went.{undo, same, needed, coded-read, byte-went}
 use Rattle.grammar.proofs.SoundValues.{value-sound, boolean-sound}
 use Rattle.grammar.proofs.RowCounts.{value-rows, boolean-rows}
 use Rattle.scopes.proofs.Scopes.{kind-fit}
@@ -45,8 +46,8 @@ use Rattle.reader.specs.declared.heads.ValueHead.{ValueHead}
 use Rattle.reader.specs.declared.heads.ValueHead.the-variants as ValueHead
 use Rattle.reader.specs.declared.heads.BooleanHead.{BooleanHead}
 use Rattle.reader.specs.declared.heads.BooleanHead.the-variants as BooleanHead
-use Rattle.reader.specs.declared.cycle.Part.{Part}
-use Rattle.reader.specs.declared.cycle.Part.the-variants as Part
+use Rattle.reader.specs.declared.cycle.Construct.{Construct}
+use Rattle.reader.specs.declared.cycle.Construct.the-variants as Construct
 use Rattle.reader.specs.Operands.{operandPart, operandCount, booleanAnswer}
 use Rattle.reader.specs.Promises.{after}
 use Rattle.reader.specs.Cycle.{Tables, joined, laid, Wrote, From, Descended, onStep, kindStep, testStep, valueFit, valueTables, booleanTables, operandsAt, leveled, valueHead, booleanHead}
@@ -186,11 +187,11 @@ abbrev pub Judged : Environment → Scope → ℕ → List ℕ → Step → Tabl
 Judged e sc l s from = From from (readBoolean l e sc s) noKind (λ c b. booleanTables e sc (c .at) b)
 
 module _ (e : Environment) (sc : Scope) (s : List ℕ) (l : ℕ) (deep : 0 < l) where
-  pub values-below : {from : Step} {t t′ : Tables} {r : Step} (parent : ℕ) → Descended Part.Value e sc (l - 1) parent s from t t′ r →
+  pub values-below : {from : Step} {t t′ : Tables} {r : Step} (parent : ℕ) → Descended Construct.Value e sc (l - 1) parent s from t t′ r →
       Valued e sc l s from t t′ r
   values-below {from} {t} {t′} {r} parent w = subst (λ z. Valued e sc z s from t t′ r) (level l deep) w
 
-  pub booleans-below : {from : Step} {t t′ : Tables} {r : Step} (parent : ℕ) → Descended Part.Boolean e sc (l - 1) parent s from t t′ r →
+  pub booleans-below : {from : Step} {t t′ : Tables} {r : Step} (parent : ℕ) → Descended Construct.Boolean e sc (l - 1) parent s from t t′ r →
       Judged e sc l s from t t′ r
   booleans-below {from} {t} {t′} {r} parent w = subst (λ z. Judged e sc z s from t t′ r) (level l deep) w
 
@@ -344,7 +345,7 @@ module _ (s : List ℕ) (octets : Octets s) (e : Environment) (sc : Scope) (l p 
 
 -- ---- a boolean from its operands
 
-module _ (part : Part) (e : Environment) (sc : Scope) (l : ℕ) (s : List ℕ) (c : Cursor) (t t′ : Tables) where
+module _ (part : Construct) (e : Environment) (sc : Scope) (l : ℕ) (s : List ℕ) (c : Cursor) (t t′ : Tables) where
   -- two parts one level down, and three
   pub record Two (x y : Step) : Type 0 where
     pub between : Tables
@@ -365,7 +366,7 @@ module _ (part : Part) (e : Environment) (sc : Scope) (l : ℕ) (s : List ℕ) (
     pub triple : n ≡ 3 → Three x y z
 
 module _ (s : List ℕ) (octets : Octets s) (e : Environment) (sc : Scope) (l p : ℕ) (c : Cursor) (here : c .at ≡ p + 1) (deep : 0 < l) where
-  pub boolean-kept : (k : BooleanCode) {n : ℕ} {part : Part} (x y z : Step) {t t′ : Tables} {r : Step} → n ≡ operandCount k → part ≡ operandPart k →
+  pub boolean-kept : (k : BooleanCode) {n : ℕ} {part : Construct} (x y z : Step) {t t′ : Tables} {r : Step} → n ≡ operandCount k → part ≡ operandPart k →
       Operated part e sc (l - 1) s c t t′ n x y z → r ≡ booleanAnswer k x y z p →
       Wrote (booleanUnder (operandsAt l e) e sc p k s c) noKind c (booleanTables e sc p) t t′ r
   boolean-kept k {n} {part} x y z {t} {t′} {r} i j w h = go k (subst (λ m. Operated m e sc (l - 1) s c t t′ (operandCount k) x y z) j

@@ -18,13 +18,13 @@ use Rattle.grammar.specs.declared.Step.the-variants as Step
 use Rattle.grammar.specs.Tree as Tree
 use Rattle.grammar.specs.Tree.{Request, Statements}
 use Rattle.grammar.specs.Bytes.{messagesBytes, statementsBytes}
-use Rattle.grammar.specs.Names as Names
-use Rattle.grammar.specs.Names.{Environment}
+use Rattle.grammar.specs.Environment as Names
+use Rattle.grammar.specs.Environment.{Environment}
 use Rattle.grammar.specs.Sizes.{parameterCount, statementsCount, contextsCount}
 use Rattle.grammar.specs.Rows.{statementsStart, outerEnd, statementsRows, requestStatementRows, parameterRows, contextsRows, requestContextRows}
 use Rattle.grammar.specs.Conditions.{statementsConditions, requestConditions}
 use Rattle.grammar.specs.declared.Refusal.the-variants.{BadVersion, NotDue}
-use Rattle.grammar.specs.Reader.{Read, read, refused, Reader, onRead, code, counted}
+use Rattle.grammar.specs.Reader.{Read, read, refused, Reader, onRead, code, countStatement}
 use Rattle.grammar.specs.Messages.{messages}
 use Rattle.grammar.specs.Statements.{many}
 use Rattle.grammar.specs.Reading.{outerStatements, nothingMore, request, start}
@@ -38,7 +38,7 @@ use Rattle.scopes.specs.declared.scope.Scope.{Scope}
 use Rattle.scopes.specs.Scopes.{scopeOf}
 use Rattle.messages.specs.declared.reading.Declaration.{Declaration}
 use Rattle.messages.specs.Entries.{messagesOf, declaredIn, entriesFrom}
-use Rattle.messages.specs.Reading.{Declares}
+use Rattle.messages.specs.Declaring.{Declares}
 use Rattle.messages.proofs.Held.{MessageScales, messages-held, messages-scales}
 use Rattle.references.specs.Promises.{environmentOf}
 use Rattle.reader.specs.declared.request.Whole.{Whole}
@@ -274,9 +274,9 @@ head-refused d s n p h = by (code blr.version4 BadVersion s start) refl
   where
     later : (x : ℕ) (q : Cursor) → code blr.version4 BadVersion s start ≡ read x q → (y : Read ℕ) → code blr.begin NotDue s q ≡ y →
         request d s start ≡ refused n p
-    later x q e (read y q₁) f = last (counted (q .at) s q₁) refl
+    later x q e (read y q₁) f = last (countStatement (q .at) s q₁) refl
       where
-        last : (z : Read (Unit {0})) → counted (q .at) s q₁ ≡ z → request d s start ≡ refused n p
+        last : (z : Read (Unit {0})) → countStatement (q .at) s q₁ ≡ z → request d s start ≡ refused n p
         last (read v q₂) g = absurd-eq (let k = rw (headOf, e, f, g) at h in cc)
         last (refused m o) g = let k = rw (headOf, e, f, g) at h in rw (request, e, f, g) (refusal-as k)
     later x q e (refused m o) f = let k = rw (headOf, e, f) at h in rw (request, e, f) (refusal-as k)

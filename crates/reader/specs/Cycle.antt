@@ -27,15 +27,15 @@ use Rattle.grammar.specs.declared.ByteStep.the-variants as ByteStep
 use Rattle.grammar.specs.declared.Fit.{Fit}
 use Rattle.grammar.specs.declared.Fit.the-variants as Fit
 use Rattle.grammar.specs.Tree.{Value, Boolean, Keys, Clauses, rse, Statement, assignment, begin, erase, for, headed, leave, if, ifElse, select, Statements, Receives}
-use Rattle.grammar.specs.Names as Names
-use Rattle.grammar.specs.Names.{Environment}
+use Rattle.grammar.specs.Environment as Names
+use Rattle.grammar.specs.Environment.{Environment}
 use Rattle.grammar.specs.Kinds.{kindOf}
 use Rattle.grammar.specs.Bytes.{rseBytes, headingBytes, booleanBytes}
 use Rattle.grammar.specs.Scope.{declared, updating}
 use Rattle.grammar.specs.Sizes.{statementCount}
 use Rattle.grammar.specs.Rows.{size, statementRows, statementsRows, receivesRows, valueRows, booleanRows, keysRows, clausesRows, contextRows, contextsRows, receivesContextRows}
 use Rattle.grammar.specs.Conditions.{Condition, clausesConditions, conditions, statementsConditions, receivesConditions}
-use Rattle.grammar.specs.Reader.{Read, read, refused, Reader, _>>=_, _>>_, return, need, place, on, withStatement, byte, tested, code, coded, counted}
+use Rattle.grammar.specs.Reader.{Read, read, refused, Reader, _>>=_, _>>_, return, need, place, on, withStatement, byte, tested, code, coded, countStatement}
 use Rattle.grammar.specs.Values.{Operands, operands, readValue, readBoolean}
 use Rattle.grammar.specs.Statements.{Inner, inner, readStatement, readReceive}
 use Rattle.grammar.specs.Steps.{fitOf, stepOf, noKind, byteStep}
@@ -52,8 +52,8 @@ use Rattle.reader.specs.declared.heads.ClauseHead.the-variants as Clause
 use Rattle.reader.specs.declared.heads.Ending.{Ending}
 use Rattle.reader.specs.declared.heads.Ending.the-variants as Ending
 use Rattle.reader.specs.declared.parts.Selected.{Selected}
-use Rattle.reader.specs.declared.cycle.Part.{Part}
-use Rattle.reader.specs.declared.cycle.Part.the-variants as Part
+use Rattle.reader.specs.declared.cycle.Construct.{Construct}
+use Rattle.reader.specs.declared.cycle.Construct.the-variants as Construct
 use Rattle.reader.specs.Promises.{after, relations, Ready}
 
 -- ---- codes, and a level below them
@@ -71,7 +71,7 @@ unfoldable pub statementCoded : ℕ → Reader StatementCode
 statementCoded l = do
   p ← place
   k ← leveled statementClass l
-  counted p
+  countStatement p
   return k
 
 abbrev pub valueHead : Read ValueCode → ValueHead
@@ -144,7 +144,7 @@ receiveCoded n l e sc before = do
   need (ltb 0 n) TooGreat p
   code blr.receive NotDue
   need (ltb 0 l) TooGreat p
-  counted p
+  countStatement p
   need (negation (updating sc)) Misplaced p
   tested byte (λ m. declared e m && negation (among m before)) BadMessage
 
@@ -152,7 +152,7 @@ receiveCoded n l e sc before = do
 unfoldable pub receiveTests : ℕ → Environment → Names.Scope → List ℕ → ℕ → Reader ℕ
 receiveTests l e sc before p = do
   need (ltb 0 l) TooGreat p
-  counted p
+  countStatement p
   need (negation (updating sc)) Misplaced p
   tested byte (λ m. declared e m && negation (among m before)) BadMessage
 
@@ -245,10 +245,10 @@ abbrev pub keysTables : Environment → Names.Scope → ℕ → Keys → Tables
 keysTables e sc p ks = tables [] (keysRows (e .relations) sc ks p) []
 
 -- one level down, with l levels below that
-abbrev pub Descended : Part → Environment → Names.Scope → ℕ → ℕ → List ℕ → Step → Tables → Tables → Step → Type 0
-Descended Part.Value e sc l parent s from = From from (readValue (suc l) e sc s) (valueFit e sc) (λ c v. valueTables e sc (c .at) v)
-Descended Part.Boolean e sc l parent s from = From from (readBoolean (suc l) e sc s) noKind (λ c b. booleanTables e sc (c .at) b)
-Descended Part.Statement e sc l parent s from =
+abbrev pub Descended : Construct → Environment → Names.Scope → ℕ → ℕ → List ℕ → Step → Tables → Tables → Step → Type 0
+Descended Construct.Value e sc l parent s from = From from (readValue (suc l) e sc s) (valueFit e sc) (λ c v. valueTables e sc (c .at) v)
+Descended Construct.Boolean e sc l parent s from = From from (readBoolean (suc l) e sc s) noKind (λ c b. booleanTables e sc (c .at) b)
+Descended Construct.Statement e sc l parent s from =
     From from (readStatement (suc l) e sc s) noKind (λ c t. statementTables (e .relations) sc t (c .at) (c .statements) parent)
 
 -- the readers one level down

@@ -8,8 +8,8 @@ use Rattle.grammar.specs.declared.Cursor.{Cursor}
 use Rattle.grammar.specs.declared.Refusal.the-variants.{Misplaced}
 use Rattle.grammar.specs.declared.ByteStep.{ByteStep}
 use Rattle.grammar.specs.Tree.{modify}
-use Rattle.grammar.specs.Names as Names
-use Rattle.grammar.specs.Names.{modifyContext}
+use Rattle.grammar.specs.Environment as Names
+use Rattle.grammar.specs.Environment.{modifyContext}
 use Rattle.grammar.specs.Scope.{ofFor}
 use Rattle.grammar.specs.Reader.{read, refused, Reader, _>>=_, _>>_, return, need}
 use Rattle.grammar.specs.Values.{contextByte}

@@ -7,18 +7,18 @@ use Rattle.grammar.specs.declared.Step.the-variants as Step
 use Rattle.grammar.specs.declared.Fit.the-variants as Fit
 use Rattle.grammar.specs.Kinds.{oneKind, bothText, allOneKind}
 use Rattle.grammar.specs.Steps.{kindIn}
-use Rattle.reader.specs.declared.cycle.Part.{Part}
-use Rattle.reader.specs.declared.cycle.Part.the-variants as Part
+use Rattle.reader.specs.declared.cycle.Construct.{Construct}
+use Rattle.reader.specs.declared.cycle.Construct.the-variants as Construct
 use Rattle.reader.specs.Cycle.{onStep, testStep}
 
 -- 01: "eql 47, .. starting 55 with two values; between 56 with three; or 57, and 58, not 59; missing 61 with one value"
-abbrev pub operandPart : BooleanCode → Part
-operandPart (Compare o) = Part.Value
-operandPart (Search o) = Part.Value
-operandPart Between = Part.Value
-operandPart (Connect o) = Part.Boolean
-operandPart Not = Part.Boolean
-operandPart Missing = Part.Value
+abbrev pub operandPart : BooleanCode → Construct
+operandPart (Compare o) = Construct.Value
+operandPart (Search o) = Construct.Value
+operandPart Between = Construct.Value
+operandPart (Connect o) = Construct.Boolean
+operandPart Not = Construct.Boolean
+operandPart Missing = Construct.Value
 
 abbrev pub operandCount : BooleanCode → ℕ
 operandCount (Compare o) = 2

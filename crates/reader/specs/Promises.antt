@@ -14,8 +14,8 @@ use Rattle.grammar.specs.declared.Step.{Step}
 use Rattle.grammar.specs.declared.Fit.{Fit}
 use Rattle.grammar.specs.Tree.{Stream, Heading, loop, modify, handler, receive, send, store, label}
 use Rattle.grammar.specs.Sizes.{headingContexts}
-use Rattle.grammar.specs.Names as Names
-use Rattle.grammar.specs.Names.{Environment, streamContext, modifyContext, underStreams, underHeading}
+use Rattle.grammar.specs.Environment as Names
+use Rattle.grammar.specs.Environment.{Environment, streamContext, modifyContext, underStreams, underHeading}
 use Rattle.grammar.specs.Rows.{contextRow, streamRows}
 use Rattle.grammar.specs.Reader.{Read, read, refused, Reader, return, refuse}
 use Rattle.grammar.specs.Reading.{relationsOf}

@@ -14,11 +14,11 @@ use Rattle.grammar.specs.Rows.{requestStatementRows, parameterRows, requestCont
 use Rattle.grammar.specs.Conditions.{requestConditions}
 use Rattle.wire.specs.Codes as blr
 use Rattle.grammar.specs.declared.Refusal.the-variants.{TablesTooShort, RequestTooLong, BadDictionary, BadVersion, NotDue}
-use Rattle.grammar.specs.Reader.{Read, read, refused, Reader, _>>=_, _>>_, return, place, code, counted}
+use Rattle.grammar.specs.Reader.{Read, read, refused, Reader, _>>=_, _>>_, return, place, code, countStatement}
 use Rattle.grammar.specs.Reading.{answer, room, nothingMore, outerStatements}
 use Rattle.grammar.specs.Messages.{messages}
 use Rattle.grammar.specs.Steps.{stepOf, noKind}
-use Rattle.grammar.specs.declared.Reading.{Reading}
+use Rattle.grammar.specs.declared.ReadAnswer.{ReadAnswer}
 use Rattle.grammar.specs.Demands.{Octets}
 use Rattle.grammar.specs.Answered.{Answered}
 use Rattle.scopes.specs.declared.scope.Scope.{Scope}
@@ -50,7 +50,7 @@ conditionTable d (read r c) n = sets (replicate n 0) 0 (places (requestCondition
 conditionTable d (refused x p) n = replicate n 0
 
 -- a reading, with the places of its conditions
-pub record AnsweredNoting (s d st pa ct nd st′ pa′ ct′ nd′ : List ℕ) (r : Reading) : Type 0 where
+pub record AnsweredNoting (s d st pa ct nd st′ pa′ ct′ nd′ : List ℕ) (r : ReadAnswer) : Type 0 where
   pub answered : Answered s d st pa ct st′ pa′ ct′ r
   pub conditions-filled : nd′ ≡ conditionTable d (answer s d (length st) (length pa) (length ct)) (length nd)
 
@@ -61,7 +61,7 @@ headOf = do
   code blr.version4 BadVersion
   p ← place
   code blr.begin NotDue
-  counted p
+  countStatement p
 
 unfoldable pub endOf : Reader (Unit {0})
 endOf = do

@@ -9,7 +9,7 @@ use lib.Seq.{sets}
 use Rattle.wire.specs.Lists.{isSome}
 use Rattle.wire.specs.declared.codes.StreamCode.{StreamCode}
 use Rattle.dictionary.specs.Dictionary.{Relation, proper, dictionary}
-use Rattle.dictionary.specs.Names.{Name, relationOf}
+use Rattle.dictionary.specs.Naming.{Name, relationOf}
 use Rattle.dictionary.specs.Walk.{relationPlace}
 use Rattle.dictionary.specs.declared.lookup.Place.{Place}
 use Rattle.dictionary.specs.declared.lookup.Place.the-variants as Place
@@ -18,8 +18,8 @@ use Rattle.grammar.specs.declared.Refusal.the-variants.{Unknown, BadContext}
 use Rattle.grammar.specs.declared.Step.{Step}
 use Rattle.grammar.specs.declared.ByteStep.{ByteStep}
 use Rattle.grammar.specs.Tree.{Stream}
-use Rattle.grammar.specs.Names as Names
-use Rattle.grammar.specs.Names.{underStreams}
+use Rattle.grammar.specs.Environment as Names
+use Rattle.grammar.specs.Environment.{underStreams}
 use Rattle.grammar.specs.Rows.{contextRow, streamRows}
 use Rattle.grammar.specs.Scope.{inScope}
 use Rattle.grammar.specs.Reader.{Read, read, refused, Reader, _>>=_, return, byte, tested, opened}

@@ -1,7 +1,7 @@
 // What is judged before the request's first byte: room in the tables, the length, and the dictionary.
 ghost use mathlib.Core.Path.{_≡_};
 ghost use Rattle.reader.specs.Request.{beforeOf};
-use dictionary::check::Answer;
+use dictionary::check::DictionaryCheck;
 use dictionary::check::check;
 use grammar::Refusal;
 
@@ -34,7 +34,7 @@ pub fn judge(
         return Before::Stop(Refusal::RequestTooLong, 0);
     }
     match check(dictionary) {
-        Answer::Proper => Before::Go,
-        Answer::Fault(p) => Before::Stop(Refusal::BadDictionary, p),
+        DictionaryCheck::Proper => Before::Go,
+        DictionaryCheck::Fault(p) => Before::Stop(Refusal::BadDictionary, p),
     }
 }

@@ -16,7 +16,7 @@ ghost use Rattle.grammar.specs.Answered.{Answered};
 ghost use Rattle.reader.specs.Request.{AnsweredNoting, Cleared};
 use before::Before;
 use before::judge;
-use grammar::Reading;
+use grammar::ReadAnswer;
 use grammar::Step;
 use request::read_whole;
 use tables::clear;
@@ -29,7 +29,7 @@ fn read_beside(
     parameters: &mut [u32],
     contexts: &mut [u32],
     conditions: &mut [u32],
-) -> Reading
+) -> ReadAnswer
     requires { ⌜ Cleared (now request) (now dictionary) (now statements) (now parameters) (now contexts) (now conditions) ⌝ }
     ensures { λ r. ⌜ AnsweredNoting (now (request .entry)) (now (dictionary .entry)) (now (statements .entry)) (now (parameters .entry)) (now (contexts .entry)) (now (conditions .entry)) (now (statements .exit)) (now (parameters .exit)) (now (contexts .exit)) (now (conditions .exit)) r ⌝ }
 {
@@ -43,13 +43,13 @@ fn read_beside(
     );
     let step = whole.step;
     match step {
-        Step::Next(_, c) => Reading::Accepted(c.statements, whole.parameters, c.contexts),
+        Step::Next(_, c) => ReadAnswer::Accepted(c.statements, whole.parameters, c.contexts),
         Step::Refused(r, p) => {
             clear(statements);
             clear(parameters);
             clear(contexts);
             clear(conditions);
-            Reading::Refused(r, p)
+            ReadAnswer::Refused(r, p)
         }
     }
 }
@@ -62,7 +62,7 @@ pub fn read_noting(
     parameters: &mut [u32],
     contexts: &mut [u32],
     conditions: &mut [u32],
-) -> Reading
+) -> ReadAnswer
     ensures { λ r. ⌜ AnsweredNoting (now (request .entry)) (now (dictionary .entry)) (now (statements .entry)) (now (parameters .entry)) (now (contexts .entry)) (now (conditions .entry)) (now (statements .exit)) (now (parameters .exit)) (now (contexts .exit)) (now (conditions .exit)) r ⌝ }
 {
     clear(statements);
@@ -84,7 +84,7 @@ pub fn read_noting(
             contexts,
             conditions,
         ),
-        Before::Stop(r, p) => Reading::Refused(r, p),
+        Before::Stop(r, p) => ReadAnswer::Refused(r, p),
     }
 }
 
@@ -95,7 +95,7 @@ pub fn read(
     statements: &mut [u32],
     parameters: &mut [u32],
     contexts: &mut [u32],
-) -> Reading
+) -> ReadAnswer
     ensures { λ r. ⌜ Answered (now (request .entry)) (now (dictionary .entry)) (now (statements .entry)) (now (parameters .entry)) (now (contexts .entry)) (now (statements .exit)) (now (parameters .exit)) (now (contexts .exit)) r ⌝ }
 {
     let mut places = [0u32; 512];

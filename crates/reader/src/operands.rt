@@ -1,7 +1,7 @@
 // The operands of a boolean: how many there are, what stands at their places, and what the boolean answers from their answers.
 ghost use mathlib.Core.Path.{_≡_};
 ghost use Rattle.reader.specs.Operands.{operandPart, operandCount, booleanAnswer};
-use crate::cycle::Part;
+use crate::cycle::Construct;
 use crate::fits::alike;
 use crate::fits::all_alike;
 use crate::fits::plain;
@@ -9,16 +9,16 @@ use crate::fits::texts;
 use grammar::Step;
 use wire::codes::BooleanCode;
 
-pub fn operand_part(k: BooleanCode) -> Part
+pub fn operand_part(k: BooleanCode) -> Construct
     ensures { λ r. ⌜ r ≡ operandPart k ⌝ }
 {
     match k {
-        BooleanCode::Compare(_) => Part::Value,
-        BooleanCode::Search(_) => Part::Value,
-        BooleanCode::Between => Part::Value,
-        BooleanCode::Connect(_) => Part::Boolean,
-        BooleanCode::Not => Part::Boolean,
-        BooleanCode::Missing => Part::Value,
+        BooleanCode::Compare(_) => Construct::Value,
+        BooleanCode::Search(_) => Construct::Value,
+        BooleanCode::Between => Construct::Value,
+        BooleanCode::Connect(_) => Construct::Boolean,
+        BooleanCode::Not => Construct::Boolean,
+        BooleanCode::Missing => Construct::Value,
     }
 }
 

@@ -2,7 +2,7 @@
 ghost use mathlib.Core.Path.{_≡_};
 ghost use mathlib.Core.List.{List, [], _∷_};
 ghost use lib.Seq.{sets};
-ghost use Rattle.grammar.specs.Reader.{counted as countedAt};
+ghost use Rattle.grammar.specs.Reader.{countStatement as countStatementAt};
 ghost use Rattle.grammar.specs.Reading.{request as requestOf, start};
 ghost use Rattle.grammar.specs.Steps.{stepOf, noKind};
 ghost use Rattle.reader.specs.Promises.{relations};
@@ -53,8 +53,8 @@ fn outermost() -> Scope
 }
 
 // The outer begin is counted as a statement.
-fn counted(at: usize, c: Cursor) -> Step
-    ensures { λ r. ⌜ r ≡ stepOf noKind (countedAt at [] c) ⌝ }
+fn count_statement(at: usize, c: Cursor) -> Step
+    ensures { λ r. ⌜ r ≡ stepOf noKind (countStatementAt at [] c) ⌝ }
 {
     if c.statements < 512 {
         let mut next = c;
@@ -76,7 +76,7 @@ fn head(request: &[u8]) -> Step
     };
     match due_code(request, first, 4, Refusal::BadVersion) {
         Step::Next(_, c) => match due_code(request, c, 2, Refusal::NotDue) {
-            Step::Next(_, d) => counted(c.at, d),
+            Step::Next(_, d) => count_statement(c.at, d),
             Step::Refused(r, p) => Step::Refused(r, p),
         },
         Step::Refused(r, p) => Step::Refused(r, p),

@@ -11,7 +11,7 @@ use borrow.Author.Tests.{ltb-false}
 use Rattle.wire.specs.Lists.{isSome, _andThen_}
 use Rattle.wire.specs.Words.{byteAt}
 use Rattle.dictionary.specs.Dictionary.{Relation, nameAt}
-use Rattle.dictionary.specs.Names.{Name, named, numbered, fieldOf, formatOf}
+use Rattle.dictionary.specs.Naming.{Name, named, numbered, fieldOf, formatOf}
 use Rattle.dictionary.specs.Walk.{relationAt, fieldsOf, entryField}
 use Rattle.dictionary.specs.declared.lookup.Place.{Place}
 use Rattle.dictionary.specs.declared.lookup.Place.the-variants as Place

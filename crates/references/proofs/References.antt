@@ -8,7 +8,7 @@ use lib.ListN.{length}
 use Rattle.wire.specs.Words.{byteAt}
 use Rattle.wire.specs.Lists.{isSome}
 use Rattle.dictionary.specs.Dictionary.{Relation}
-use Rattle.dictionary.specs.Names.{Name}
+use Rattle.dictionary.specs.Naming.{Name}
 use Rattle.grammar.specs.Kind.{Kind}
 use Rattle.grammar.specs.Kind as Kind
 use Rattle.grammar.specs.declared.Refusal.{Refusal}
@@ -20,7 +20,7 @@ use Rattle.grammar.specs.declared.Step.the-variants as Step
 use Rattle.grammar.specs.declared.Role.{Role}
 use Rattle.grammar.specs.declared.Role.the-variants.{AsValue, AsTarget}
 use Rattle.grammar.specs.Tree.{Reference, field, parameter, parameter2}
-use Rattle.grammar.specs.Names.{Environment, Scope, relationOfContext, fieldFormat}
+use Rattle.grammar.specs.Environment.{Environment, Scope, relationOfContext, fieldFormat}
 use Rattle.grammar.specs.Scope.{inScope, declared}
 use Rattle.grammar.specs.Kinds.{formatKind, flagged, referenceKind}
 use Rattle.grammar.specs.Reader.{Read, read, refused, Reader, _>>=_, _>>_, return, onRead, need, byte, word, tested}

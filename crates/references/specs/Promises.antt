@@ -7,7 +7,7 @@ use Rattle.wire.specs.Lists.{isSome, _andThen_}
 use Rattle.wire.specs.declared.codes.ReferenceCode.{ReferenceCode}
 use Rattle.wire.specs.declared.codes.ReferenceCode.the-variants as Code
 use Rattle.dictionary.specs.Dictionary.{Relation, dictionary}
-use Rattle.dictionary.specs.Names.{Name, fieldOf, formatOf}
+use Rattle.dictionary.specs.Naming.{Name, fieldOf, formatOf}
 use Rattle.grammar.specs.Kind.{Kind}
 use Rattle.grammar.specs.declared.Cursor.{Cursor}
 use Rattle.grammar.specs.declared.Fit.{Fit}
@@ -19,7 +19,7 @@ use Rattle.grammar.specs.declared.Refusal.the-variants.{Unknown, NoParameter, U
 use Rattle.grammar.specs.declared.Role.{Role}
 use Rattle.grammar.specs.declared.Role.the-variants.{AsValue, AsTarget}
 use Rattle.grammar.specs.Tree.{Literal, Reference}
-use Rattle.grammar.specs.Names.{Environment, Scope}
+use Rattle.grammar.specs.Environment.{Environment, Scope}
 use Rattle.grammar.specs.Scope.{fieldTarget, parameterTarget}
 use Rattle.grammar.specs.Kinds.{formatKind, literalKind, referenceKind}
 use Rattle.grammar.specs.Reader.{Read, Reader, word, tested}

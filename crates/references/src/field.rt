@@ -1,9 +1,9 @@
 // Fields, by the context that they stand in.
 ghost use Prim.Native.Nat.{ℕ};
 ghost use mathlib.Core.Path.{_≡_};
-ghost use Rattle.dictionary.specs.Names.{named};
+ghost use Rattle.dictionary.specs.Naming.{named};
 ghost use Rattle.dictionary.specs.Walk.{relationAt};
-ghost use Rattle.grammar.specs.Names.{Environment};
+ghost use Rattle.grammar.specs.Environment.{Environment};
 ghost use Rattle.grammar.specs.Values.{byName, byNumber};
 ghost use Rattle.grammar.specs.Steps.{fitOf};
 ghost use Rattle.scopes.specs.Scopes.{scopeOf};

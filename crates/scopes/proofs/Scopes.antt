@@ -17,7 +17,7 @@ use Rattle.grammar.specs.Kind as Kind
 use Rattle.grammar.specs.declared.Fit.{Fit}
 use Rattle.grammar.specs.declared.Fit.the-variants as Fit
 use Rattle.grammar.specs.Steps.{fitOf, kindIn}
-use Rattle.grammar.specs.Names as Names
+use Rattle.grammar.specs.Environment as Names
 use Rattle.grammar.specs.Scope.{inScope, ofFor}
 use Rattle.scopes.specs.declared.scope.Numbers.{Numbers}
 use Rattle.scopes.specs.declared.scope.Context.{Context}

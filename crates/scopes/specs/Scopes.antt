@@ -7,7 +7,7 @@ use lib.Dec.{eqb, ltb}
 use lib.ListN.{take, set}
 use Rattle.wire.specs.Lists.{find}
 use Rattle.dictionary.specs.Walk.{relationAt}
-use Rattle.grammar.specs.Names as Names
+use Rattle.grammar.specs.Environment as Names
 use Rattle.grammar.specs.declared.Fit.{Fit}
 use Rattle.grammar.specs.declared.Fit.the-variants as Fit
 use Rattle.scopes.specs.declared.scope.Numbers.{Numbers}

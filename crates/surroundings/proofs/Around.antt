@@ -8,11 +8,11 @@ use lib.Dec.{eqb}
 use lib.ListN.{length, drop, getElem?}
 use Rattle.wire.specs.Lists.{indexOf, _andThen_}
 use Rattle.dictionary.specs.Dictionary.{Relation, proper, dictionary}
-use Rattle.dictionary.specs.Names.{Name}
+use Rattle.dictionary.specs.Naming.{Name}
 use Rattle.dictionary.specs.Walk.{relationAt}
 use Rattle.records.specs.Record.{asDue, records}
 use Rattle.grammar.specs.Tree.{Message, Reference, field, parameter, parameter2, Request}
-use Rattle.grammar.specs.Names.{Context, Scope, outermost}
+use Rattle.grammar.specs.Environment.{Context, Scope, outermost}
 use Rattle.grammar.specs.Scope.{Distinct}
 use Rattle.grammar.specs.Sizes.{parameterCount, contextsCount}
 use Rattle.grammar.specs.Rules.{Allowed, environment}

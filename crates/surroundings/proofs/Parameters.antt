@@ -16,7 +16,7 @@ use Rattle.wire.specs.declared.codes.TextType.the-variants.{Text, Varying, Cstr
 use Rattle.dictionary.specs.Format.{Format, held}
 use Rattle.grammar.specs.Tree.{Descriptor, Message}
 use Rattle.grammar.specs.Bytes.{descriptorBytes}
-use Rattle.grammar.specs.Names.{descriptorFormat}
+use Rattle.grammar.specs.Environment.{descriptorFormat}
 use Rattle.grammar.specs.Scope.{Distinct}
 use Rattle.grammar.specs.Sizes.{descriptorsSize, messageSize, parameterCount}
 use Rattle.grammar.specs.Rows.{descriptorRows, parameterRows}

@@ -8,10 +8,10 @@ use lib.Dec.{eqb}
 use lib.ListN.{length}
 use Rattle.wire.specs.Lists.{find, isSome, _andThen_}
 use Rattle.dictionary.specs.Dictionary.{Relation}
-use Rattle.dictionary.specs.Names.{Name, relationOf}
+use Rattle.dictionary.specs.Naming.{Name, relationOf}
 use Rattle.grammar.specs.Tree.{Stream, Heading, loop, modify, handler, receive, send, store, label, Rse, rse, Statement, assignment, begin, erase, for, headed, leave, if, ifElse, select, Statements, none as nothing, _then_, Receives, last, more}
 use Rattle.grammar.specs.Bytes.{streamBytes, headBytes, rseBytes, headingBytes, booleanBytes}
-use Rattle.grammar.specs.Names.{Environment, Context, Scope, streamContext, modifyContext, contextOf, relationOfContext, underStreams, underRse, underHeading}
+use Rattle.grammar.specs.Environment.{Environment, Context, Scope, streamContext, modifyContext, contextOf, relationOfContext, underStreams, underRse, underHeading}
 use Rattle.grammar.specs.Scope.{StreamScoped, StreamsScoped, HeadingScoped, ofFor, openedByFor}
 use Rattle.grammar.specs.Rules.{RseAllowed, StatementAllowed, StatementsAllowed, ReceivesAllowed}
 use Rattle.grammar.specs.Rows.{size}

@@ -8,7 +8,7 @@ use Rattle.wire.specs.Words.{wordBytes}
 use Rattle.wire.specs.Codes as blr
 use Rattle.grammar.specs.Tree.{Descriptor, Message, Request}
 use Rattle.grammar.specs.Bytes.{descriptorBytes, descriptorsBytes, messageBytes, messagesBytes, statementsBytes, requestBytes}
-use Rattle.grammar.specs.Names.{descriptorFormat}
+use Rattle.grammar.specs.Environment.{descriptorFormat}
 use Rattle.grammar.specs.Demands.{Octets}
 use Rattle.surroundings.specs.Parameters.{ScaleByte, ScalesIn, ScaleBytes}
 use Rattle.walking.proofs.Sites.{All}

@@ -10,10 +10,10 @@ use lib.ListN.{length, drop, getElem?, take}
 use Rattle.wire.specs.Words.{wordAt}
 use Rattle.wire.specs.Lists.{indexOf, sumOf, _andThen_}
 use Rattle.dictionary.specs.Dictionary.{Relation, proper, dictionary}
-use Rattle.dictionary.specs.Names.{Name, numbered, fieldOf}
+use Rattle.dictionary.specs.Naming.{Name, numbered, fieldOf}
 use Rattle.dictionary.specs.Walk.{relationPlace, relationAt}
 use Rattle.records.specs.Record.{asDue, records}
-use Rattle.grammar.specs.Names.{Context}
+use Rattle.grammar.specs.Environment.{Context}
 use Rattle.grammar.specs.Rows.{relationId}
 use Rattle.meaning.specs.Inputs.{Fetched, onFound, lengthOf, recordPlace, fieldIn, fieldNamed}
 use Rattle.meaning.specs.Evaluation.{dueRelations}

@@ -5,7 +5,7 @@ use mathlib.Core.List.{List, [], _∷_}
 use mathlib.Core.Option.{Option, none, some}
 use lib.Dec.{eqb}
 use Rattle.wire.specs.Words.{wordAt}
-use Rattle.dictionary.specs.Names.{Name, fieldOf}
+use Rattle.dictionary.specs.Naming.{Name, fieldOf}
 use Rattle.dictionary.specs.Walk.{relationAt}
 use Rattle.grammar.specs.Tree.{Reference, field, parameter, parameter2}
 use Rattle.meaning.specs.Inputs.{Fetched, onFound, valueAt, fieldIn, flagged, unlessFlagged}

@@ -13,7 +13,7 @@ use Rattle.wire.specs.declared.codes.DataType.the-variants.{Number, Date, Chars
 use Rattle.wire.specs.declared.codes.FieldType.the-variants.{Plain}
 use Rattle.dictionary.specs.Format.{Format}
 use Rattle.grammar.specs.Tree.{Descriptor, Message}
-use Rattle.grammar.specs.Names.{descriptorFormat}
+use Rattle.grammar.specs.Environment.{descriptorFormat}
 
 -- the n of a type that holds so many bytes; 01: "text 14, varying 37, cstring 40, each with a word n (n, n+2, n bytes)"
 abbrev pub sizeHeld : DataType → ℕ → ℕ

@@ -6,7 +6,7 @@ use mathlib.Core.List.{List, [], _∷_, map}
 use mathlib.Core.Option.{Option, none, some}
 use lib.Dec.{leb, ltb}
 use lib.ListN.{getD}
-use Rattle.dictionary.specs.Names.{numbered}
+use Rattle.dictionary.specs.Naming.{numbered}
 use Rattle.dictionary.specs.Walk.{relationPlace}
 
 -- a context in scope: its number, and where its relation's entry stands in the dictionary

@@ -2,7 +2,7 @@
 // declarations at most, and rows and slots after those are not looked at.
 ghost use mathlib.Core.Path.{_≡_};
 ghost use Prim.Native.Nat.{_≤_, min};
-ghost use Rattle.dictionary.specs.Names.{numbered};
+ghost use Rattle.dictionary.specs.Naming.{numbered};
 ghost use Rattle.dictionary.specs.Walk.{relationPlace};
 ghost use Rattle.surroundings.specs.Slots.{rowHolds, placeOr, slotsFrom};
 ghost use Rattle.surroundings.specs.Around.{slotAt};

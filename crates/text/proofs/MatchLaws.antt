@@ -11,8 +11,8 @@ use borrow.Author.Tests.{eq-eqb, ne-eqb}
 use lib.Dec.{eqb, eqb·suc-zero}
 use lib.ListN.{length, getD, drop, length-drop}
 use lib.Seq.{drop-nil, drop-drop}
-use Rattle.text.specs.declared.matching.Answer.{Answer}
-use Rattle.text.specs.declared.matching.Answer.the-variants.{Yes, No, Never}
+use Rattle.text.specs.declared.matching.Matched.{Matched}
+use Rattle.text.specs.declared.matching.Matched.the-variants.{Yes, No, Never}
 use Rattle.text.specs.Tests.{anyRun-sign, afterRun, afterByte, matches}
 use Rattle.text.specs.Matching.{signMatches, Told}
 
@@ -102,7 +102,7 @@ module _ (p t : List ℕ) (n : length p ≡ 0 → ⊥) where
       longer : matches p t ≡ matches p (drop 1 t)
       longer = matches-run p t n e ∙ run-more (matches (drop 1 p)) t h ∙ sym (matches-run p (drop 1 t) n e)
 
-      pub run-longer : (a : Answer) → Told a p (drop 1 t) → Told a p t
+      pub run-longer : (a : Matched) → Told a p (drop 1 t) → Told a p t
       run-longer Yes w = longer ∙ w
       run-longer No w = longer ∙ w
       run-longer Never w = λ i. every i
@@ -127,7 +127,7 @@ module _ (p t : List ℕ) (n : length p ≡ 0 → ⊥) where
         both : matches p t ≡ matches (drop 1 p) (drop 1 t)
         both = first ∙ ap (λ (b : Bool). b && matches (drop 1 p) (drop 1 t)) o
 
-        pub byte-agrees : (a : Answer) → Told a (drop 1 p) (drop 1 t) → Told a p t
+        pub byte-agrees : (a : Matched) → Told a (drop 1 p) (drop 1 t) → Told a p t
         byte-agrees Yes w = both ∙ w
         byte-agrees No w = both ∙ w
         byte-agrees Never w = λ i.

@@ -13,10 +13,10 @@ use Rattle.wire.specs.Words.{byteAt, wordAt}
 use Rattle.wire.specs.Lists.{indexOf}
 use Rattle.wire.specs.declared.codes.TextType.{TextType}
 use Rattle.wire.specs.declared.codes.TextType.the-variants.{Text, Varying, Cstring}
-use Rattle.text.specs.declared.Part.{Part}
-use Rattle.text.specs.declared.Part.the-variants.{Is, Malformed}
+use Rattle.text.specs.declared.TextPart.{TextPart}
+use Rattle.text.specs.declared.TextPart.the-variants.{Is, Malformed}
 use Rattle.text.specs.Value.{blank, kept, trimmed, cutAt, textPart, bytesOf}
-use Rattle.text.specs.Reading.{Within, TextRead}
+use Rattle.text.specs.TextRead.{Within, TextRead}
 
 module _ (s : List ℕ) (p : ℕ) where
   pub kept-none : kept s p 0 ≡ 0
@@ -105,5 +105,5 @@ module _ (t : TextType) (s : List ℕ) where
   pub part-within : (start end : ℕ) → textPart t s ≡ Is start end → (start ≤ end) × (end ≤ length s)
   part-within start end e = rw e at (text-within t s)
 
-  pub text-read : (p : Part) (r : List ℕ) → textPart t s ≡ p → r ≡ bytesOf s p → TextRead t s r
+  pub text-read : (p : TextPart) (r : List ℕ) → textPart t s ≡ p → r ≡ bytesOf s p → TextRead t s r
   text-read p r e h = record { bytes = h ∙ ap (bytesOf s) (sym e); within = text-within t s }

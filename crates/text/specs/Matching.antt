@@ -5,8 +5,8 @@ use mathlib.Core.Bool.{Bool, true, false, _||_}
 use mathlib.Core.List.{List}
 use lib.Dec.{eqb}
 use lib.ListN.{drop}
-use Rattle.text.specs.declared.matching.Answer.{Answer}
-use Rattle.text.specs.declared.matching.Answer.the-variants.{Yes, No, Never}
+use Rattle.text.specs.declared.matching.Matched.{Matched}
+use Rattle.text.specs.declared.matching.Matched.the-variants.{Yes, No, Never}
 use Rattle.text.specs.Tests.{oneByte-sign, sameLetter, matches}
 
 -- the sign c of a pattern, which is no `*`, matches the byte x
@@ -14,7 +14,7 @@ abbrev pub signMatches : ℕ → ℕ → Bool
 signMatches c x = eqb c oneByte-sign || sameLetter c x
 
 -- what an answer tells of a pattern and a text; Never: of the text and of all its ends
-abbrev pub Told : Answer → List ℕ → List ℕ → Type 0
+abbrev pub Told : Matched → List ℕ → List ℕ → Type 0
 Told Yes p t = matches p t ≡ true
 Told No p t = matches p t ≡ false
 Told Never p t = (i : ℕ) → matches p (drop i t) ≡ false

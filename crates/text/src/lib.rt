@@ -5,7 +5,7 @@ pub mod order;
 pub mod search;
 pub mod value;
 
-pub enum Part {
+pub enum TextPart {
     Is(usize, usize),
     Malformed,
 }

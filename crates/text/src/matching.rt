@@ -7,7 +7,7 @@ ghost use Rattle.text.specs.Tests.{matches};
 ghost use Rattle.text.specs.Matching.{signMatches, Told};
 
 // Never: the pattern matches no end of the text, so a run before it needs no more tries.
-enum Answer {
+enum Matched {
     Yes,
     No,
     Never,
@@ -32,39 +32,39 @@ fn sign_matches(c: u8, x: u8) -> bool
 }
 
 // In time pattern × text: once the part up to the next `*` is found, no later place for it is tried.
-fn answer_of(p: &[u8], t: &[u8]) -> Answer
+fn answer_of(p: &[u8], t: &[u8]) -> Matched
     ensures { λ r. ⌜ Told r (now (p .entry)) (now (t .entry)) ⌝ }
 {
     if p.len() == 0 {
         if t.len() == 0 {
-            return Answer::Yes;
+            return Matched::Yes;
         }
-        return Answer::No;
+        return Matched::No;
     }
     let c = p[0];
     if c == 42 {
         match answer_of(rest(p), t) {
-            Answer::Yes => {
-                return Answer::Yes;
+            Matched::Yes => {
+                return Matched::Yes;
             }
-            Answer::Never => {
-                return Answer::Never;
+            Matched::Never => {
+                return Matched::Never;
             }
-            Answer::No => {
+            Matched::No => {
                 if t.len() == 0 {
-                    return Answer::Never;
+                    return Matched::Never;
                 }
                 return answer_of(p, rest(t));
             }
         }
     }
     if t.len() == 0 {
-        return Answer::Never;
+        return Matched::Never;
     }
     if sign_matches(c, t[0]) {
         return answer_of(rest(p), rest(t));
     }
-    Answer::No
+    Matched::No
 }
 
 // Whether the text a matches the pattern b.
@@ -72,8 +72,8 @@ pub fn matching(a: &[u8], b: &[u8]) -> bool
     ensures { λ r. ⌜ r ≡ matches (now (b .entry)) (now (a .entry)) ⌝ }
 {
     match answer_of(b, a) {
-        Answer::Yes => true,
-        Answer::No => false,
-        Answer::Never => false,
+        Matched::Yes => true,
+        Matched::No => false,
+        Matched::Never => false,
     }
 }

@@ -1,11 +1,11 @@
 // The value of a text: the part of the lent slice that holds it, without trailing blanks.
-use crate::Part;
+use crate::TextPart;
 use wire::codes::TextType;
 ghost use mathlib.Core.Path.{_≡_};
 ghost use Prim.Native.Nat.{_+_, _≤_};
 ghost use lib.ListN.{length};
 ghost use Rattle.text.specs.Value.{kept, trimmed, textPart};
-ghost use Rattle.text.specs.Reading.{TextRead};
+ghost use Rattle.text.specs.TextRead.{TextRead};
 
 // How many of the n bytes from p on are left without the blanks at their end.
 fn kept_length(s: &[u8], p: usize, n: usize) -> usize
@@ -22,11 +22,11 @@ fn kept_length(s: &[u8], p: usize, n: usize) -> usize
     0
 }
 
-fn trimmed_part(s: &[u8], p: usize, n: usize) -> Part
+fn trimmed_part(s: &[u8], p: usize, n: usize) -> TextPart
     requires { ⌜ p + n ≤ length (now s) ⌝ }
     ensures { λ r. ⌜ r ≡ trimmed (now (s .entry)) p n ⌝ }
 {
-    Part::Is(p, p + kept_length(s, p, n))
+    TextPart::Is(p, p + kept_length(s, p, n))
 }
 
 fn wide(b: u8) -> usize
@@ -36,21 +36,21 @@ fn wide(b: u8) -> usize
 }
 
 // A length word, and the text after it.
-fn varying_part(s: &[u8]) -> Part
+fn varying_part(s: &[u8]) -> TextPart
     ensures { λ r. ⌜ r ≡ textPart TextType.Varying (now (s .entry)) ⌝ }
 {
     if s.len() < 2 {
-        return Part::Malformed;
+        return TextPart::Malformed;
     }
     let n = wide(s[0]) + 256 * wide(s[1]);
     if s.len() - 2 < n {
-        return Part::Malformed;
+        return TextPart::Malformed;
     }
     trimmed_part(s, 2, n)
 }
 
 // The bytes before the first zero.
-fn cstring_part(s: &[u8]) -> Part
+fn cstring_part(s: &[u8]) -> TextPart
     ensures { λ r. ⌜ r ≡ textPart TextType.Cstring (now (s .entry)) ⌝ }
 {
     let mut i: usize = 0;
@@ -60,11 +60,11 @@ fn cstring_part(s: &[u8]) -> Part
         }
         i = i + 1;
     }
-    Part::Malformed
+    TextPart::Malformed
 }
 
 // Where the text starts and ends in the bytes that hold it.
-pub fn text_part(t: TextType, s: &[u8]) -> Part
+pub fn text_part(t: TextType, s: &[u8]) -> TextPart
     ensures { λ r. ⌜ r ≡ textPart t (now (s .entry)) ⌝ }
 {
     match t {
@@ -79,7 +79,7 @@ pub fn text_of<'a>(t: TextType, s: &'a [u8]) -> &'a [u8]
     ensures { λ r. ⌜ TextRead t (now (s .entry)) (now r) ⌝ }
 {
     match text_part(t, s) {
-        Part::Is(start, end) => &s[start..end],
-        Part::Malformed => &s[0..0],
+        TextPart::Is(start, end) => &s[start..end],
+        TextPart::Malformed => &s[0..0],
     }
 }

@@ -51,8 +51,8 @@ MissingOf x r = (m : Lent) → r ≡ missingOf (datum m x)
 
 -- ---- arithmetic on values alone, and the place after them
 
-abbrev pub Given : Computed → ℕ → Position → Valued → Type 0
-Given a place end r = (m : Lent) → valued m r ≡ ended (result place a) (end .at)
+abbrev pub ResultIs : Computed → ℕ → Position → Valued → Type 0
+ResultIs a place end r = (m : Lent) → valued m r ≡ ended (result place a) (end .at)
 
 -- a missing operand of arithmetic or negation, by its kind and cause
 pub record MissingNumber (k : Kind) (w : Cause) (end : Position) (r : Valued) : Type 0 where

@@ -1,5 +1,5 @@
 // The arithmetic operators and negation.
-ghost use Rattle.values.specs.Outcomes.{Given, MissingNumber, CalculatedOf, NegatedOf};
+ghost use Rattle.values.specs.Outcomes.{ResultIs, MissingNumber, CalculatedOf, NegatedOf};
 ghost use Rattle.values.specs.Promises.{Calculated, Negated};
 use crate::Position;
 use crate::Value;
@@ -16,7 +16,7 @@ use wire::codes::Operator;
 
 // What a computation gives; a refusal is at the operator's place.
 fn given(a: Computed, place: usize, end: Position) -> Valued
-    ensures { λ r. ⌜ Given a place end r ⌝ }
+    ensures { λ r. ⌜ ResultIs a place end r ⌝ }
 {
     match a {
         Computed::Value(x) => Valued::Is(Value::Number(x), end),

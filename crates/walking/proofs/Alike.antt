@@ -11,9 +11,9 @@ use Rattle.wire.specs.Words.{byteAt}
 use Rattle.wire.specs.Lists.{sumOf}
 use Rattle.dictionary.specs.Format.{Format, held}
 use Rattle.dictionary.specs.Dictionary.{Relation}
-use Rattle.dictionary.specs.Names.{formatOf}
+use Rattle.dictionary.specs.Naming.{formatOf}
 use Rattle.records.specs.Record.{fieldPlace, fieldMissing}
-use Rattle.grammar.specs.Names.{Context}
+use Rattle.grammar.specs.Environment.{Context}
 use Rattle.grammar.proofs.StepLaws.{absurd-eq}
 use Rattle.meaning.specs.Inputs.{lengthOf, recordPlace}
 use Rattle.meaning.specs.Demand as Places

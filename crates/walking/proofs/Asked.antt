@@ -9,7 +9,7 @@ use Rattle.wire.specs.Codes as blr
 use Rattle.dictionary.specs.Dictionary.{Relation}
 use Rattle.grammar.specs.Tree.{Request}
 use Rattle.grammar.specs.Bytes.{messagesBytes, statementsBytes, booleanBytes, requestBytes}
-use Rattle.grammar.specs.Names.{outermost}
+use Rattle.grammar.specs.Environment.{outermost}
 use Rattle.grammar.specs.Rules.{environment}
 use Rattle.grammar.specs.Rows.{statementsStart, requestContextRows}
 use Rattle.grammar.specs.Conditions.{Condition, requestConditions}

@@ -19,12 +19,12 @@ use Rattle.meaning.specs.Data.{number, date, absent}
 use Rattle.wire.specs.Words.{byteAt, wordAt, longAt, signed}
 use Rattle.dictionary.specs.Format.{Format, held, typeBytes, textBytes}
 use Rattle.dictionary.specs.Dictionary.{Field, Relation}
-use Rattle.dictionary.specs.Names.{Name, fieldOf, formatOf, fieldFormat}
+use Rattle.dictionary.specs.Naming.{Name, fieldOf, formatOf, fieldFormat}
 use Rattle.records.specs.Record.{fieldCount, missingBytes, packed, offsetOf, recordLength, bitAt, fieldPlace, readingMissing, fieldMissing, presenceOf, fieldPresence, isMissing}
 use Rattle.records.specs.declared.missing.Presence.{Presence}
 use Rattle.records.specs.declared.missing.Presence.the-variants.{There, Missing}
 use Rattle.grammar.specs.Tree.{Message, Reference, field, parameter, parameter2, Boolean}
-use Rattle.grammar.specs.Names.{Context, Scope}
+use Rattle.grammar.specs.Environment.{Context, Scope}
 use Rattle.grammar.proofs.StepLaws.{absurd-eq}
 use Rattle.meaning.specs.Meaning.{truthOf}
 use Rattle.meaning.specs.Inputs.{Fetched, value, onFound, lengthOf, recordPlace, fieldIn, fieldNamed, fieldValue, valueAt, typeValue, textIn, unlessMissing, fetch}

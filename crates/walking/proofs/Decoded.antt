@@ -14,7 +14,7 @@ use Rattle.wire.specs.Words.{wordBytes, longBytes}
 use Rattle.wire.specs.Classes.{Class, due, classify, valueClass, booleanClass, literalClass, targetClass, streamClass, clauseClass, directionClass, statementClass, descriptorClass}
 use Rattle.wire.specs.declared.codes.Width.{Width}
 use Rattle.wire.specs.declared.codes.Width.the-variants.{Short, Long}
-use Rattle.dictionary.specs.Names.{Name, named, numbered}
+use Rattle.dictionary.specs.Naming.{Name, named, numbered}
 use Rattle.grammar.specs.Tree as Tree
 use Rattle.grammar.specs.Tree.{Descriptor, Message, Stream, Heading, loop, modify, handler, receive, send, store, label, Keys, noKeys, key, Clauses, noClauses, such, sorted, Rse, rse, Statement, assignment, begin, erase, for, headed, leave, if, ifElse, select, Statements, none as nothing, Receives, last, more, Request, Literal, Reference, field, parameter, parameter2, Value, literal, reference, arithmetic, negate, Boolean, compare, search, between, connect, not, missing}
 use Rattle.grammar.specs.Bytes as Bytes
@@ -23,7 +23,7 @@ use Rattle.grammar.specs.Sizes.{valueDepth, booleanDepth, keysDepth, clausesDep
 use Rattle.grammar.proofs.Due.{width-due, text-due, number-due, operator-due, comparison-due, search-due, connective-due, direction-due}
 use Rattle.grammar.proofs.Found.{Other, other-first}
 use Rattle.grammar.proofs.CompleteStatements.{statement-first}
-use Rattle.meaning.specs.Decoding.{Decoder, onward, _>>=_, return, one, byte, peek, bytes, word, long, code, coded, several, atEnd, counted, id, numberOf, literalUnder, referenceUnder, valueUnder, value, booleanUnder, boolean, streamUnder, stream, keys, clausesUnder, clauses, rseOf, many, manyReceives, statementUnder, statement, descriptorUnder, descriptor, message, messages, request, ended, whole, decode}
+use Rattle.meaning.specs.Decoding.{Decoder, onward, _>>=_, return, one, byte, peek, bytes, word, long, code, coded, several, atEnd, countedName, id, numberOf, literalUnder, referenceUnder, valueUnder, value, booleanUnder, boolean, streamUnder, stream, keys, clausesUnder, clauses, rseOf, many, manyReceives, statementUnder, statement, descriptorUnder, descriptor, message, messages, request, ended, whole, decode}
 
 word-back : (n : ℕ) (post : List ℕ) → word (wordBytes n ++ post) ≡ some (n, post)
 unfolding word byte
@@ -54,8 +54,8 @@ unfolding literalBytes literalClass classify coded byte
 literal-back (Tree.Literal.number w scale n) post = rw (number-due w, number-back w n post)
 literal-back (Tree.Literal.text t) post = rw (append-assoc (wordBytes (length t)) t post, word-back (length t) (t ++ post), bytes-back t post)
 
-counted-back : (n post : List ℕ) → counted (Bytes.counted n ++ post) ≡ some (named n, post)
-unfolding counted byte
+counted-back : (n post : List ℕ) → countedName (Bytes.countedBytes n ++ post) ≡ some (named n, post)
+unfolding countedName byte
 counted-back n post = rw (bytes-back n post)
 
 id-back : (i : ℕ) (post : List ℕ) → id (wordBytes i ++ post) ≡ some (numbered i, post)
@@ -121,7 +121,7 @@ unfolding streamBytes stream streamClass classify coded byte
 stream-back x post = go (x .relation)
   where
     go : (n : Name) → stream (Bytes.streamOf n (x .context) ++ post) ≡ some (record { relation = n; context = x .context }, post)
-    go (named n) = rw (append-assoc (Bytes.counted n) (x .context ∷ []) post, counted-back n (x .context ∷ post))
+    go (named n) = rw (append-assoc (Bytes.countedBytes n) (x .context ∷ []) post, counted-back n (x .context ∷ post))
     go (numbered i) = rw (append-assoc (wordBytes i) (x .context ∷ []) post, id-back i (x .context ∷ post))
 
 streams-back : (xs : List Stream) (post : List ℕ) → several (length xs) stream (streamsBytes xs ++ post) ≡ some (xs, post)

@@ -19,7 +19,7 @@ use Rattle.wire.specs.declared.codes.BooleanCode.{BooleanCode}
 use Rattle.wire.specs.declared.codes.BooleanCode.the-variants as Boolean
 use Rattle.dictionary.specs.Dictionary.{nameAt}
 use Rattle.dictionary.specs.Format.{widthBytes}
-use Rattle.dictionary.specs.Names.{named, numbered}
+use Rattle.dictionary.specs.Naming.{named, numbered}
 use Rattle.grammar.specs.Tree as Tree
 use Rattle.grammar.specs.Tree.{Literal, Reference, field, parameter, parameter2, Value, literal, reference, arithmetic, negate, compare, search, between, connect, not, missing}
 use Rattle.grammar.specs.Bytes.{widthCode, operatorCode, comparisonCode, searchCode, connectiveCode, numberBytes, literalBytes, referenceBytes, valueBytes, booleanBytes}

@@ -14,7 +14,7 @@ use Rattle.dictionary.specs.Dictionary.{Relation}
 use Rattle.dictionary.proofs.Tests.{both-left, both-right}
 use Rattle.records.specs.Record.{fieldCount, missingBytes, recordLength, bitAt, bitsClear, spareClear, properRecord, Run, asDue, wrongAt, nextRecord, records}
 use Rattle.records.proofs.Records.{shortest}
-use Rattle.grammar.specs.Names.{Context}
+use Rattle.grammar.specs.Environment.{Context}
 use Rattle.meaning.specs.Evaluation.{dueRelations}
 use Rattle.grammar.proofs.StepLaws.{absurd-eq}
 use Rattle.meaning.specs.Demand.{ProperRecord, Records, noRecord, entry}

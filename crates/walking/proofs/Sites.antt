@@ -11,7 +11,7 @@ use borrow.Author.Tests.{lt-ltb, le-leb, lt-leb, le-ltb}
 use Rattle.dictionary.specs.Dictionary.{Relation}
 use Rattle.grammar.specs.Tree.{Boolean, Keys, Clauses, noClauses, such, sorted, Stream, Heading, loop, modify, handler, receive, send, store, label, Rse, rse, Statement, assignment, begin, erase, for, headed, leave, if, ifElse, select, Statements, none as nothing, _then_, Receives, last, more, Request}
 use Rattle.grammar.specs.Bytes.{streamBytes, streamsBytes, headBytes, rseBytes, keysBytes, clausesBytes, headingBytes, booleanBytes, statementBytes, statementsBytes, receivesBytes}
-use Rattle.grammar.specs.Names.{Environment, Context, Scope, streamContext, modifyContext, underStreams, underRse, underHeading}
+use Rattle.grammar.specs.Environment.{Environment, Context, Scope, streamContext, modifyContext, underStreams, underRse, underHeading}
 use Rattle.grammar.specs.Sizes.{booleanDepth, clausesDepth, rseDepth, statementDepth, statementsDepth, receivesDepth}
 use Rattle.grammar.specs.Rules.{BooleanAllowed, ClausesAllowed, RseAllowed, StatementAllowed, StatementsAllowed, ReceivesAllowed}
 use Rattle.grammar.specs.Rows.{size, contextRow, streamRows, rseRows, headingRows, contextRows, contextsRows, receivesContextRows}

@@ -15,7 +15,7 @@ use Rattle.decimal.specs.declared.Computed.the-variants as Computed
 use Rattle.decimal.specs.Number.{computed, negated}
 use Rattle.grammar.specs.Kind as Scaled
 use Rattle.grammar.specs.Tree.{Literal, Reference, Value, literal, reference, arithmetic, negate, Boolean, compare, search, between, connect, not, missing}
-use Rattle.grammar.specs.Names.{Environment, Scope}
+use Rattle.grammar.specs.Environment.{Environment, Scope}
 use Rattle.grammar.specs.Kinds.{kindOf, referenceKind, literalKind, alike, oneKind, bothText, allOneKind, resultScale, arithmeticKind, negatedKind}
 use Rattle.grammar.specs.Rules.{ValueAllowed, BooleanAllowed}
 use Rattle.grammar.proofs.StepLaws.{absurd-eq}

@@ -12,12 +12,12 @@ use Rattle.wire.specs.Lists.{find, indexOf, _andThen_}
 use Rattle.wire.specs.declared.codes.FieldType.{FieldType}
 use Rattle.wire.specs.declared.codes.FieldType.the-variants.{Plain, Reading}
 use Rattle.wire.specs.declared.codes.DataType.the-variants as Data
-use Rattle.text.specs.declared.Part.{Part}
-use Rattle.text.specs.declared.Part.the-variants as Part
+use Rattle.text.specs.declared.TextPart.{TextPart}
+use Rattle.text.specs.declared.TextPart.the-variants as TextPart
 use Rattle.text.specs.Value.{textPart}
 use Rattle.dictionary.specs.Format.{Format, textBytes}
 use Rattle.dictionary.specs.Dictionary.{Relation}
-use Rattle.dictionary.specs.Names.{Name, fieldOf, formatOf}
+use Rattle.dictionary.specs.Naming.{Name, fieldOf, formatOf}
 use Rattle.records.specs.declared.missing.Presence.{Presence}
 use Rattle.records.specs.declared.missing.Presence.the-variants.{There, Missing}
 use Rattle.records.specs.Record.{fieldPresence, fieldPlace}
@@ -25,7 +25,7 @@ use Rattle.decimal.specs.declared.Number.{Number}
 use Rattle.grammar.specs.Kind as Scaled
 use Rattle.grammar.specs.Kind.{Kind}
 use Rattle.grammar.specs.Tree.{Message, Reference, field, parameter, parameter2}
-use Rattle.grammar.specs.Names.{Environment, Context, Scope, contextOf, messageOf, relationIn, relationOfContext, descriptorFormat, parameterFormat, fieldFormat}
+use Rattle.grammar.specs.Environment.{Environment, Context, Scope, contextOf, messageOf, relationIn, relationOfContext, descriptorFormat, parameterFormat, fieldFormat}
 use Rattle.grammar.specs.Kinds.{typeKind, formatKind, referenceKind, parameterKind, flagged as flaggedKind}
 use Rattle.grammar.proofs.StepLaws.{absurd-eq}
 use Rattle.meaning.specs.declared.Kind.the-variants as Unscaled
@@ -50,10 +50,10 @@ module _ {A : Type 0} (test : A → Bool) where
 
 -- ---- values
 
-text-of : (s : List ℕ) (p : Part) → FetchedOf Unscaled.Text (textFound s p)
+text-of : (s : List ℕ) (p : TextPart) → FetchedOf Unscaled.Text (textFound s p)
 unfolding kind
-text-of s (Part.Is start end) = refl
-text-of s Part.Malformed = tt
+text-of s (TextPart.Is start end) = refl
+text-of s TextPart.Malformed = tt
 
 type-of : (t : FieldType) (scale n : ℕ) (s : List ℕ) (p : ℕ) → FetchedOf (unscaled (typeKind t scale)) (typeValue t scale n s p)
 unfolding kind

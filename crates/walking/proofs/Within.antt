@@ -11,7 +11,7 @@ use Rattle.wire.specs.declared.codes.TextSearch.{TextSearch}
 use Rattle.decimal.specs.declared.Computed.{Computed}
 use Rattle.decimal.specs.declared.Computed.the-variants as Computed
 use Rattle.decimal.specs.Number.{computed, negated}
-use Rattle.dictionary.specs.Names.{named, numbered}
+use Rattle.dictionary.specs.Naming.{named, numbered}
 use Rattle.grammar.specs.Tree.{Reference, field, parameter, parameter2, Value, literal, reference, arithmetic, negate, Boolean, compare, search, between, connect, not, missing}
 use Rattle.grammar.specs.Bytes.{referenceBytes, valueBytes, booleanBytes}
 use Rattle.meaning.specs.declared.Truth.{Truth}

@@ -15,7 +15,7 @@ use Rattle.wire.specs.declared.codes.ValueCode.the-variants as Code
 use Rattle.wire.specs.declared.codes.BooleanCode.{BooleanCode}
 use Rattle.wire.specs.declared.codes.BooleanCode.the-variants as Boolean
 use Rattle.dictionary.specs.Dictionary.{nameAt}
-use Rattle.dictionary.specs.Names.{named, numbered}
+use Rattle.dictionary.specs.Naming.{named, numbered}
 use Rattle.dictionary.specs.Format.{widthBytes}
 use Rattle.grammar.specs.Tree as Tree
 use Rattle.grammar.specs.Tree.{Reference, field, parameter, parameter2}

@@ -7,7 +7,7 @@ use mir.Val.{SFits, toZ, ofZ}
 use mir.Facts.{sfits-widen, toZ-ofZ}
 use Rattle.decimal.specs.declared.Computed.{Computed}
 use Rattle.decimal.specs.declared.Computed.the-variants.{Value, Overflow, ZeroDivisor}
-use Rattle.leaf_exports.specs.Exports.{Given, operation, valueOf, scaleOf, refusalOf}
+use Rattle.leaf_exports.specs.Exports.{ComputedInto, operation, valueOf, scaleOf, refusalOf}
 use borrow.Author.Needs.{needs}
 use Rattle.leaf_exports.proofs.leaf_compute.Statement.{statement}
 use Rattle.leaf_exports.proofs.leaf_compute.Tie as tie
@@ -39,7 +39,7 @@ enum-told-2 c = search needs
 -- what the code has found is what the operation gives; each part of a number is read back from its bits
 given : (x : Computed) {r : Computed} (o : ℕ) {a p b q : ℤ} → SFits w64 a → SFits w8 p → SFits w64 b → SFits w8 q →
     r ≡ operation o (record { value = toZ w64 (ofZ w64 a); scale = toZ w8 (ofZ w8 p) }) (record { value = toZ w64 (ofZ w64 b); scale = toZ w8 (ofZ w8 q) }) →
-    r ≡ x → Given (operation o (record { value = a; scale = p }) (record { value = b; scale = q })) (valueOf x ∷ scaleOf x ∷ []) (refusalOf x)
+    r ≡ x → ComputedInto (operation o (record { value = a; scale = p }) (record { value = b; scale = q })) (valueOf x ∷ scaleOf x ∷ []) (refusalOf x)
 given x o f g h i e k =
     let found = sym k ∙ (rw (toZ-ofZ f, toZ-ofZ g, toZ-ofZ h, toZ-ofZ i) at e) in
     record { number-is = ap refusalOf found; answer-filled = ap (λ z. valueOf z ∷ scaleOf z ∷ []) found }

@@ -8,7 +8,7 @@ use Rattle.dictionary.specs.Walk.{isField, nextPlace, fieldsFrom, fields
 use Rattle.dictionary.proofs.FieldSearches.{hasName, passed, named-start, named-end, named-here, named-next}
 use Rattle.dictionary.specs.FieldAnswers.{indexAnswer}
 use Rattle.wire.specs.Lists.{indexOf}
-use Rattle.dictionary.specs.Names.{named, fieldOf}
+use Rattle.dictionary.specs.Naming.{named, fieldOf}
 use borrow.Author.Needs.{needs}
 use Rattle.dictionary.proofs.field.field_named.Statement.{statement}
 use Rattle.dictionary.proofs.field.field_named.Tie as tie

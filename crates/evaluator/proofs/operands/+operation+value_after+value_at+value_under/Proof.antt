@@ -1,5 +1,5 @@
 use mathlib.Core.Path.{refl}
-use Rattle.evaluator.specs.Given.{fetchedBy}
+use Rattle.evaluator.specs.Slices.{fetchedBy}
 use Rattle.evaluator.proofs.Walks.{no-level, no-value, no-code, due-value, literal-is, reference-is, value-formed, arithmetic-is, negation-is}
 use borrow.Author.Needs.{needs}
 use Prim.Native.Nat.{ℕ, _<_, _+_, _*_}

@@ -1,4 +1,4 @@
-use Rattle.evaluator.specs.Given.{Given, given}
+use Rattle.evaluator.specs.Slices.{Slices, slices}
 use Rattle.evaluator.proofs.Walks.{third-is}
 use borrow.Author.Needs.{needs}
 use Rattle.evaluator.proofs.tests.between_after.Statement.{statement}
@@ -8,9 +8,9 @@ use Rattle.evaluator.proofs.tests.between_after.Lts as lts
 use Rattle.evaluator.proofs.operands.value_after.Reads as value-after-reads
 use Rattle.values.proofs.between.between.Reads as between-reads
 
-abbrev around : tie.Start → Given
+abbrev around : tie.Start → Slices
 around s =
-    given (s .args .request .now) (s .args .dictionary .now) (s .args .numbers .now) (s .args .relations .now)
+    slices (s .args .request .now) (s .args .dictionary .now) (s .args .numbers .now) (s .args .relations .now)
     (s .args .parameters .now) (s .args .images .now) (s .args .records .now)
 
 -- src/tests.rt:129:9

@@ -1,4 +1,4 @@
-use Rattle.evaluator.specs.Given.{Given, given}
+use Rattle.evaluator.specs.Slices.{Slices, slices}
 use Rattle.evaluator.proofs.Walks.{between-is, comparison-is, search-is}
 use borrow.Author.Needs.{needs}
 use Rattle.evaluator.proofs.tests.pair_after.Statement.{statement}
@@ -10,9 +10,9 @@ use Rattle.evaluator.proofs.tests.between_after.Reads as between-after-
 use Rattle.values.proofs.comparison.comparison.Reads as comparison-reads
 use Rattle.values.proofs.search.text_search.Reads as text-search-reads
 
-abbrev around : tie.Start → Given
+abbrev around : tie.Start → Slices
 around s =
-    given (s .args .request .now) (s .args .dictionary .now) (s .args .numbers .now) (s .args .relations .now)
+    slices (s .args .request .now) (s .args .dictionary .now) (s .args .numbers .now) (s .args .relations .now)
     (s .args .parameters .now) (s .args .images .now) (s .args .records .now)
 
 -- src/tests.rt:82:9

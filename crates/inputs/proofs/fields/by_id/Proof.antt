@@ -1,6 +1,6 @@
 -- `inputs::fields::by_id` meets its contract. Assumes nothing.
 use mathlib.Core.Path.{sym, _∙_}
-use Rattle.dictionary.specs.Names.{numbered}
+use Rattle.dictionary.specs.Naming.{numbered}
 use Rattle.inputs.specs.Answers.{slotsLent}
 use Rattle.inputs.proofs.FieldLaws.{field-numbered, by-slot, no-slot}
 use borrow.Author.Needs.{needs}

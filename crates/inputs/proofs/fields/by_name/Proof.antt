@@ -1,6 +1,6 @@
 -- `inputs::fields::by_name` meets its contract. Assumes nothing.
 use mathlib.Core.Path.{sym, _∙_}
-use Rattle.dictionary.specs.Names.{named}
+use Rattle.dictionary.specs.Naming.{named}
 use Rattle.inputs.specs.Answers.{slotsLent}
 use Rattle.inputs.proofs.FieldLaws.{by-slot, no-slot}
 use borrow.Author.Needs.{needs}

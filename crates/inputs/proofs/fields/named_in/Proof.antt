@@ -1,7 +1,7 @@
 -- `inputs::fields::named_in` meets its contract. Assumes nothing.
 use mathlib.Core.Path.{sym, _∙_}
 use Rattle.dictionary.specs.Walk.{relationAt}
-use Rattle.dictionary.specs.Names.{named, fieldOf}
+use Rattle.dictionary.specs.Naming.{named, fieldOf}
 use Rattle.meaning.specs.Inputs.{fieldIn}
 use Rattle.inputs.proofs.FieldLaws.{field-found, field-unknown}
 use borrow.Author.Needs.{needs}

@@ -2,7 +2,7 @@
 use Prim.Native.Nat.{ℕ}
 use mathlib.Core.Path.{refl, ap₂, _∙_}
 use mathlib.Core.List.{List}
-use Rattle.dictionary.specs.Names.{named, numbered}
+use Rattle.dictionary.specs.Naming.{named, numbered}
 use Rattle.grammar.specs.Tree.{field, parameter, parameter2}
 use Rattle.surroundings.specs.Around.{around}
 use Rattle.values.specs.Values.{lent}

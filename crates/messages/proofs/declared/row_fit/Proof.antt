@@ -4,7 +4,7 @@ use borrow.Author.Tests.{eq-eqb, ne-eqb}
 use mir.Facts.{toZ-ofZ}
 use Rattle.grammar.specs.declared.Fit.the-variants.{Number}
 use Rattle.grammar.specs.Kinds.{formatKind}
-use Rattle.grammar.specs.Names.{descriptorFormat}
+use Rattle.grammar.specs.Environment.{descriptorFormat}
 use Rattle.messages.specs.Entries.{descriptorOf}
 use borrow.Author.Needs.{needs}
 use Rattle.messages.proofs.declared.row_fit.Statement.{statement}

@@ -2,7 +2,7 @@
 use mathlib.Core.Path.{sym, _∙_}
 use Rattle.dictionary.specs.Format.{held}
 use Rattle.grammar.specs.Messages.{scaleByte, sizeWord, descriptorUnder}
-use Rattle.grammar.specs.Names.{descriptorFormat}
+use Rattle.grammar.specs.Environment.{descriptorFormat}
 use Rattle.grammar.proofs.StepLaws.{byte-read, byte-refused, word-read, word-refused}
 use Rattle.messages.proofs.Descriptors.{size-read}
 use borrow.Author.Needs.{needs}

@@ -2,7 +2,7 @@ use Rattle.reader.specs.Request.{headOf}
 use Rattle.grammar.proofs.StepLaws.{step-read, step-refused}
 use Rattle.grammar.specs.Steps.{noKind}
 use Rattle.grammar.specs.Reading.{start}
-use Rattle.grammar.specs.Reader.{code, counted}
+use Rattle.grammar.specs.Reader.{code, countStatement}
 use Rattle.grammar.specs.declared.Refusal.the-variants.{BadVersion, NotDue}
 use Rattle.wire.specs.Codes as blr
 use mathlib.Core.Path.{sym, _∙_}
@@ -11,7 +11,7 @@ use Rattle.reader.proofs.request.head.Statement.{statement}
 use Rattle.reader.proofs.request.head.Tie as tie
 use Rattle.reader.proofs.request.head.Reads as reads
 use Rattle.reader.proofs.request.head.Lts as lts
-use Rattle.reader.proofs.request.counted.Reads as counted-reads
+use Rattle.reader.proofs.request.count_statement.Reads as count-statement-reads
 use Rattle.steps.proofs.due_code.Reads as due-code-reads
 
 -- src/request.rt:75:11
@@ -31,8 +31,8 @@ enum-known-d : tie.Need-enum-known-d
 enum-known-d c = search needs
 
 -- src/request.rt:77:33
-counted-requires : tie.Need-counted-requires
-counted-requires c κs = search needs
+count-statement-requires : tie.Need-count-statement-requires
+count-statement-requires c κs = search needs
 
 -- src/request.rt:78:27
 enum-known-r : tie.Need-enum-known-r
@@ -44,17 +44,17 @@ enum-known-r-2 c = search needs
 
 -- src/request.rt:66:1
 returns : tie.Need-returns
-unfolding headOf counted
+unfolding headOf countStatement
 returns c =
     let args′ = c .before .before .before .before .before .before .before .before .before .before .args in
     let c′ = c .before .before .before .before .before .before .c in
     let due-code′ = c .before .before .before .before .before .before .before .before .due-code in
     let d′ = c .before .before .d in
     let due-code2′ = c .before .before .before .before .due-code2 in
-    let counted′ = c .counted in
+    let count-statement′ = c .count-statement in
     let u = step-read noKind (code blr.version4 BadVersion (args′ .request .now) start) (sym (c′ .given .1) ∙ due-code′ .ensures) in
     let v = step-read noKind (code blr.begin NotDue (args′ .request .now) (c′ .given .0 .1 .0)) (sym (d′ .given .1) ∙ due-code2′ .ensures) in
-    rw (counted′ .ensures, headOf, u .1, v .1)
+    rw (count-statement′ .ensures, headOf, u .1, v .1)
 
 -- src/request.rt:66:1
 returns-2 : tie.Need-returns-2
@@ -87,7 +87,7 @@ head-spec =
     enum-known-c
     due-code-requires-2
     enum-known-d
-    counted-requires
+    count-statement-requires
     enum-known-r
     enum-known-r-2
     returns

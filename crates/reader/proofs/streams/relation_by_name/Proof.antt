@@ -1,5 +1,5 @@
 use mathlib.Core.Path.{_≡_, refl, sym, ap, _∙_}
-use Rattle.dictionary.specs.Names.{named}
+use Rattle.dictionary.specs.Naming.{named}
 use Rattle.dictionary.specs.Walk.{relationPlace}
 use Rattle.dictionary.specs.Answers.{placeAnswer}
 use Rattle.grammar.specs.Reader.{name, tested}

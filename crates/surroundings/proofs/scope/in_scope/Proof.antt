@@ -2,7 +2,7 @@
 use Prim.Native.Nat.{_-_}
 use mathlib.Core.Path.{sym, ap, subst, _∙_}
 use mathlib.Core.Logic.{⊎-elim}
-use Rattle.dictionary.specs.Names.{numbered}
+use Rattle.dictionary.specs.Naming.{numbered}
 use Rattle.dictionary.specs.Walk.{relationPlace}
 use Rattle.surroundings.specs.Slots.{placeOr, slotsFrom}
 use Rattle.surroundings.specs.Tables.{Laid}

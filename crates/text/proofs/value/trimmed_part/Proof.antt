@@ -4,7 +4,7 @@ use native.Mathlib.Omega.{arith}
 use mathlib.Core.Path.{ap}
 use Prim.Native.Nat.{ℕ, _+_}
 use Rattle.text.proofs.PartLaws.{kept-le}
-use Rattle.text.specs.declared.Part.the-variants.{Is}
+use Rattle.text.specs.declared.TextPart.the-variants.{Is}
 use Rattle.text.proofs.value.trimmed_part.Statement.{statement}
 use Rattle.text.proofs.value.trimmed_part.Tie as tie
 

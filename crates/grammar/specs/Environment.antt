@@ -10,7 +10,7 @@ use Rattle.wire.specs.declared.codes.DataType.the-variants.{Number, Date, Chars
 use Rattle.wire.specs.declared.codes.FieldType.the-variants.{Plain}
 use Rattle.dictionary.specs.Format.{Format, widthBytes}
 use Rattle.dictionary.specs.Dictionary.{Relation}
-use Rattle.dictionary.specs.Names.{Name, relationOf, fieldOf, formatOf}
+use Rattle.dictionary.specs.Naming.{Name, relationOf, fieldOf, formatOf}
 use Rattle.grammar.specs.Tree.{Descriptor, Message, Stream, Heading, loop, modify, handler, receive, send, store, label, Rse, rse}
 
 -- what stands around all statements: the relations of the dictionary and the messages of the request

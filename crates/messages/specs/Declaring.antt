@@ -14,7 +14,7 @@ use Rattle.grammar.specs.declared.Refusal.the-variants.{BadMessage, TooGreat}
 use Rattle.grammar.specs.declared.Step.{Step}
 use Rattle.grammar.specs.Tree as Tree
 use Rattle.grammar.specs.Bytes.{descriptorBytes}
-use Rattle.grammar.specs.Names.{descriptorFormat}
+use Rattle.grammar.specs.Environment.{descriptorFormat}
 use Rattle.grammar.specs.Sizes.{parameterCount}
 use Rattle.grammar.specs.Rows.{descriptorRows, parameterRows}
 use Rattle.grammar.specs.Reader.{Read, read, refused, Reader, _>>=_, return, byte, word, tested}

@@ -4,12 +4,12 @@ use mathlib.Core.Path.{_≡_}
 use mathlib.Core.List.{List}
 use lib.ListN.{length}
 use Rattle.wire.specs.declared.codes.TextType.{TextType}
-use Rattle.text.specs.declared.Part.{Part}
-use Rattle.text.specs.declared.Part.the-variants.{Is, Malformed}
+use Rattle.text.specs.declared.TextPart.{TextPart}
+use Rattle.text.specs.declared.TextPart.the-variants.{Is, Malformed}
 use Rattle.text.specs.Value.{textPart, bytesOf}
 
 -- a part that starts and ends within n bytes
-abbrev pub Within : ℕ → Part → Type 0
+abbrev pub Within : ℕ → TextPart → Type 0
 Within n (Is start end) = (start ≤ end) × (end ≤ n)
 Within n Malformed = Unit {0}
 
