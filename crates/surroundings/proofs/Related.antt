@@ -9,13 +9,13 @@ use lib.ListN.{length}
 use Rattle.wire.specs.Lists.{find, isSome, _andThen_}
 use Rattle.dictionary.specs.Dictionary.{Relation}
 use Rattle.dictionary.specs.Naming.{Name, relationOf}
-use Rattle.grammar.specs.Tree.{Stream, Heading, loop, modify, handler, receive, send, store, label, Rse, rse, Statement, assignment, begin, erase, for, headed, leave, if, ifElse, select, Statements, none as nothing, _then_, Receives, last, more}
-use Rattle.grammar.specs.Bytes.{streamBytes, headBytes, rseBytes, headingBytes, booleanBytes}
+use Rattle.grammar.specs.Tree.{Stream, Heading, loop, modify, handler, receive, send, store, label, Value, literal, reference, arithmetic, negate, Boolean, compare, search, between, connect, not, missing, Keys, noKeys, key, Clauses, noClauses, such, sorted, Rse, rse, Statement, assignment, begin, erase, for, headed, leave, if, ifElse, select, Statements, none as nothing, _then_, Receives, last, more}
+use Rattle.grammar.specs.Bytes.{streamBytes, headBytes, rseBytes, headingBytes, valueBytes, booleanBytes, keysBytes}
 use Rattle.grammar.specs.Environment.{Environment, Context, Scope, streamContext, modifyContext, contextOf, relationOfContext, underStreams, underRse, underHeading}
 use Rattle.grammar.specs.Scope.{StreamScoped, StreamsScoped, HeadingScoped, ofFor, openedByFor}
-use Rattle.grammar.specs.Rules.{RseAllowed, StatementAllowed, StatementsAllowed, ReceivesAllowed}
+use Rattle.grammar.specs.Rules.{ValueAllowed, BooleanAllowed, KeysAllowed, ClausesAllowed, RseAllowed, StatementAllowed, StatementsAllowed, ReceivesAllowed}
 use Rattle.grammar.specs.Rows.{size}
-use Rattle.walking.specs.Declared.{Declared, streamsDeclared, rseDeclared, headingDeclared, declared, declaredAll, receivesDeclared, keptIf, holdsAt, contextsAt}
+use Rattle.walking.specs.Declared.{Declared, streamsDeclared, valueDeclared, booleanDeclared, keysDeclared, clausesDeclared, rseDeclared, headingDeclared, declared, declaredAll, receivesDeclared, keptIf, holdsAt, contextsAt}
 use Rattle.grammar.proofs.StepLaws.{absurd-eq}
 use Rattle.walking.proofs.Sites.{All, all-append}
 
@@ -92,50 +92,106 @@ module _ (e : Environment) where
       ((x, tt), all-append (Named relations) (sc .contexts) (streamContext relations false s ∷ []) a (x, tt))
   heading-named sc (label n) p end a h = (tt, a)
 
-  rse-named : (sc : Scope) (r : Rse) (p end : ℕ) → ScopeNamed sc → RseAllowed e sc r →
-      DeclaredNamed (rseDeclared relations r p end) × ScopeNamed (underRse relations sc r)
-  unfolding rseDeclared underRse underStreams
-  rse-named sc (rse ss cs) p end a h = (
-    streams-declared relations sc ss (p + 2) (p + length (headBytes ss)) end (h .1),
-    all-append (Named relations) (sc .contexts) (map (streamContext relations true) ss) a (streams-named relations sc ss (h .1)),
-  )
+  both-named : (a b : List Declared) → DeclaredNamed a → DeclaredNamed b → DeclaredNamed (a ++ b)
+  both-named a b h k = all-append (NamedAt relations) a b h k
+
+  streams-scope : (sc : Scope) (ss : List Stream) → ScopeNamed sc → StreamsScoped relations sc ss → ScopeNamed (underStreams relations sc ss)
+  unfolding underStreams
+  streams-scope sc ss a h = all-append (Named relations) (sc .contexts) (map (streamContext relations true) ss) a (streams-named relations sc ss h)
+
+  rse-scope : (sc : Scope) (r : Rse) → ScopeNamed sc → RseAllowed e sc r → ScopeNamed (underRse relations sc r)
+  unfolding underRse
+  rse-scope sc (rse ss cs) a h = streams-scope sc ss a (h .1)
+
+  mutual
+    unfolding valueDeclared
+
+    value-named : (v : Value) (sc : Scope) (p : ℕ) → ScopeNamed sc → ValueAllowed e sc v → DeclaredNamed (valueDeclared relations sc v p)
+    value-named (literal l) sc p a h = tt
+    value-named (reference r) sc p a h = tt
+    value-named (arithmetic o v w) sc p a h =
+        both-named (valueDeclared relations sc v (p + 1)) _ (value-named v sc (p + 1) a (h .0))
+        (value-named w sc (p + 1 + length (valueBytes v)) a (h .1))
+    value-named (negate v) sc p a h = value-named v sc (p + 1) a (h .0)
+
+    boolean-named : (b : Boolean) (sc : Scope) (p : ℕ) → ScopeNamed sc → BooleanAllowed e sc b → DeclaredNamed (booleanDeclared relations sc b p)
+    boolean-named (compare c v w) sc p a h =
+        both-named (valueDeclared relations sc v (p + 1)) _ (value-named v sc (p + 1) a (h .0))
+        (value-named w sc (p + 1 + length (valueBytes v)) a (h .1))
+    boolean-named (search t v w) sc p a h =
+        both-named (valueDeclared relations sc v (p + 1)) _ (value-named v sc (p + 1) a (h .0))
+        (value-named w sc (p + 1 + length (valueBytes v)) a (h .1))
+    boolean-named (between v w x) sc p a h =
+        let q = p + 1 + length (valueBytes v) in
+        both-named (valueDeclared relations sc v (p + 1) ++ valueDeclared relations sc w q) _
+        (both-named (valueDeclared relations sc v (p + 1)) _ (value-named v sc (p + 1) a (h .0)) (value-named w sc q a (h .1)))
+        (value-named x sc (q + length (valueBytes w)) a (h .2))
+    boolean-named (connect c x y) sc p a h =
+        both-named (booleanDeclared relations sc x (p + 1)) _ (boolean-named x sc (p + 1) a (h .0))
+        (boolean-named y sc (p + 1 + length (booleanBytes x)) a (h .1))
+    boolean-named (not x) sc p a h = boolean-named x sc (p + 1) a h
+    boolean-named (missing v) sc p a h = value-named v sc (p + 1) a h
+
+    keys-named : (ks : Keys) (sc : Scope) (p : ℕ) → ScopeNamed sc → KeysAllowed e sc ks → DeclaredNamed (keysDeclared relations sc ks p)
+    keys-named noKeys sc p a h = tt
+    keys-named (key o v ks) sc p a h =
+        both-named (valueDeclared relations sc v (p + 1)) _ (value-named v sc (p + 1) a (h .0))
+        (keys-named ks sc (p + 1 + length (valueBytes v)) a (h .1))
+
+    clauses-named : (cs : Clauses) (sc : Scope) (b k : Bool) (p : ℕ) → ScopeNamed sc → ClausesAllowed e sc b k cs →
+        DeclaredNamed (clausesDeclared relations sc cs p)
+    clauses-named noClauses sc b k p a h = tt
+    clauses-named (such x cs) sc b k p a h =
+        both-named (booleanDeclared relations sc x (p + 1)) _ (boolean-named x sc (p + 1) a (h .1))
+        (clauses-named cs sc true k (p + 1 + length (booleanBytes x)) a (h .2))
+    clauses-named (sorted ks cs) sc b k p a h =
+        both-named (keysDeclared relations sc ks (p + 2)) _ (keys-named ks sc (p + 2) a (h .2))
+        (clauses-named cs sc b true (p + 2 + length (keysBytes ks)) a (h .3))
+
+    rse-named : (r : Rse) (sc : Scope) (p end : ℕ) → ScopeNamed sc → RseAllowed e sc r → DeclaredNamed (rseDeclared relations sc r p end)
+    rse-named (rse ss cs) sc p end a h =
+        let q = p + length (headBytes ss) in
+        both-named (streamsDeclared relations ss (p + 2) q end) _ (streams-declared relations sc ss (p + 2) q end (h .1))
+        (clauses-named cs (underStreams relations sc ss) false false q (streams-scope sc ss a (h .1)) (h .2))
 
   mutual
     unfolding declared
 
     pub declared-named : (t : Statement) (sc : Scope) (p : ℕ) → ScopeNamed sc → StatementAllowed e sc t →
         DeclaredNamed (declared relations sc t p)
-    declared-named (assignment v t) sc p a h = tt
+    declared-named (assignment v t) sc p a h = value-named v sc (p + 1) a (h .0)
     declared-named (begin ss) sc p a h = all-named ss sc (p + 1) a h
     declared-named (erase c) sc p a h = tt
     declared-named (for r s) sc p a h =
-        let x = rse-named sc r (p + 1) (p + size (for r s)) a (h .0) in
-        all-append (NamedAt relations) (rseDeclared relations r (p + 1) (p + size (for r s))) _ (x .0)
-        (declared-named s (underRse relations sc r) (p + 1 + length (rseBytes r)) (x .1) (h .1))
+        both-named (rseDeclared relations sc r (p + 1) (p + size (for r s))) _ (rse-named r sc (p + 1) (p + size (for r s)) a (h .0))
+        (declared-named s (underRse relations sc r) (p + 1 + length (rseBytes r)) (rse-scope sc r a (h .0)) (h .1))
     declared-named (headed g s) sc p a h =
         let x = heading-named sc g p (p + size (headed g s)) a (h .0) in
-        all-append (NamedAt relations) (headingDeclared relations sc g p (p + size (headed g s))) _ (x .0)
+        both-named (headingDeclared relations sc g p (p + size (headed g s))) _ (x .0)
         (declared-named s (underHeading relations sc g) (p + length (headingBytes g)) (x .1) (h .1))
     declared-named (leave n) sc p a h = tt
-    declared-named (if b s) sc p a h = declared-named s sc (p + 1 + length (booleanBytes b)) a (h .1)
-    declared-named (ifElse b s t) sc p a h =
-        all-append (NamedAt relations) (declared relations sc s (p + 1 + length (booleanBytes b))) _
+    declared-named (if b s) sc p a h =
+        both-named (booleanDeclared relations sc b (p + 1)) _ (boolean-named b sc (p + 1) a (h .0))
         (declared-named s sc (p + 1 + length (booleanBytes b)) a (h .1))
-        (declared-named t sc (p + 1 + length (booleanBytes b) + size s) a (h .2))
+    declared-named (ifElse b s t) sc p a h =
+        let q = p + 1 + length (booleanBytes b) in
+        both-named (booleanDeclared relations sc b (p + 1) ++ declared relations sc s q) _
+        (both-named (booleanDeclared relations sc b (p + 1)) _ (boolean-named b sc (p + 1) a (h .0)) (declared-named s sc q a (h .1)))
+        (declared-named t sc (q + size s) a (h .2))
     declared-named (select rs) sc p a h = receives-named rs [] sc (p + 1) a h
 
     pub all-named : (ts : Statements) (sc : Scope) (p : ℕ) → ScopeNamed sc → StatementsAllowed e sc ts →
         DeclaredNamed (declaredAll relations sc ts p)
     all-named nothing sc p a h = tt
     all-named (s then ss) sc p a h =
-        all-append (NamedAt relations) (declared relations sc s p) _ (declared-named s sc p a (h .0))
+        both-named (declared relations sc s p) _ (declared-named s sc p a (h .0))
         (all-named ss sc (p + size s) a (h .1))
 
     receives-named : (rs : Receives) (before : List ℕ) (sc : Scope) (p : ℕ) → ScopeNamed sc → ReceivesAllowed e sc before rs →
         DeclaredNamed (receivesDeclared relations sc rs p)
     receives-named (last m s) before sc p a h = declared-named s sc (p + 2) a (h .1)
     receives-named (more m s rs) before sc p a h =
-        all-append (NamedAt relations) (declared relations sc s (p + 2)) _ (declared-named s sc (p + 2) a (h .1))
+        both-named (declared relations sc s (p + 2)) _ (declared-named s sc (p + 2) a (h .1))
         (receives-named rs (before ++ (m ∷ [])) sc (p + 2 + size s) a (h .2))
 
 -- so every context in scope has one

@@ -9,14 +9,14 @@ use lib.Dec.{leb, ltb}
 use lib.ListN.{length, drop, length-append}
 use borrow.Author.Tests.{lt-ltb, le-leb, lt-leb, le-ltb}
 use Rattle.dictionary.specs.Dictionary.{Relation}
-use Rattle.grammar.specs.Tree.{Boolean, Keys, Clauses, noClauses, such, sorted, Stream, Heading, loop, modify, handler, receive, send, store, label, Rse, rse, Statement, assignment, begin, erase, for, headed, leave, if, ifElse, select, Statements, none as nothing, _then_, Receives, last, more, Request}
-use Rattle.grammar.specs.Bytes.{streamBytes, streamsBytes, headBytes, rseBytes, keysBytes, clausesBytes, headingBytes, booleanBytes, statementBytes, statementsBytes, receivesBytes}
+use Rattle.grammar.specs.Tree.{Value, literal, reference, arithmetic, negate, Boolean, compare, search, between, connect, not, missing, Keys, noKeys, key, Clauses, noClauses, such, sorted, Stream, Heading, loop, modify, handler, receive, send, store, label, Rse, rse, Statement, assignment, begin, erase, for, headed, leave, if, ifElse, select, Statements, none as nothing, _then_, Receives, last, more, Request}
+use Rattle.grammar.specs.Bytes.{streamBytes, streamsBytes, headBytes, rseBytes, keysBytes, clausesBytes, headingBytes, referenceBytes, valueBytes, booleanBytes, statementBytes, statementsBytes, receivesBytes}
 use Rattle.grammar.specs.Environment.{Environment, Context, Scope, streamContext, modifyContext, underStreams, underRse, underHeading}
 use Rattle.grammar.specs.Sizes.{booleanDepth, clausesDepth, rseDepth, statementDepth, statementsDepth, receivesDepth}
 use Rattle.grammar.specs.Rules.{BooleanAllowed, ClausesAllowed, RseAllowed, StatementAllowed, StatementsAllowed, ReceivesAllowed}
-use Rattle.grammar.specs.Rows.{size, contextRow, streamRows, rseRows, headingRows, contextRows, contextsRows, receivesContextRows}
+use Rattle.grammar.specs.Rows.{size, contextRow, streamRows, valueRows, booleanRows, keysRows, clausesRows, rseRows, headingRows, contextRows, contextsRows, receivesContextRows}
 use Rattle.grammar.specs.Conditions.{Condition, clausesConditions, rseConditions, conditions, statementsConditions, receivesConditions}
-use Rattle.walking.specs.Declared.{Declared, declaration, streamsDeclared, rseDeclared, headingDeclared, declared, declaredAll, receivesDeclared, rowsOf, keptIf, holdsAt, contextsAt}
+use Rattle.walking.specs.Declared.{Declared, declaration, streamsDeclared, valueDeclared, booleanDeclared, keysDeclared, clausesDeclared, rseDeclared, headingDeclared, declared, declaredAll, receivesDeclared, rowsOf, keptIf, holdsAt, contextsAt}
 use Rattle.walking.proofs.Link.{past}
 
 -- ---- the rows are those of the declarations
@@ -32,9 +32,50 @@ module _ (d : List Relation) where
   stream-rows [] p start end = refl
   stream-rows (s ∷ ss) p start end = ap (λ z. contextRow (streamContext d true s) p start end ++ z) (stream-rows ss (p + length (streamBytes s)) start end)
 
-  rse-rows : (r : Rse) (p end : ℕ) → rseRows d r p end ≡ rowsOf (rseDeclared d r p end)
-  unfolding rseRows rseDeclared
-  rse-rows (rse ss cs) p end = stream-rows ss (p + 2) (p + length (headBytes ss)) end
+  -- two parts one after another
+  both-rows : (x y : List ℕ) (a b : List Declared) → x ≡ rowsOf a → y ≡ rowsOf b → x ++ y ≡ rowsOf (a ++ b)
+  both-rows x y a b e f = ap₂ (λ x y. x ++ y) e f ∙ sym (rows-append a b)
+
+  mutual
+    unfolding valueRows valueDeclared rowsOf
+
+    value-rows : (v : Value) (sc : Scope) (p : ℕ) → valueRows d sc v p ≡ rowsOf (valueDeclared d sc v p)
+    value-rows (literal l) sc p = refl
+    value-rows (reference r) sc p = refl
+    value-rows (arithmetic o v w) sc p =
+        both-rows _ _ (valueDeclared d sc v (p + 1)) _ (value-rows v sc (p + 1)) (value-rows w sc (p + 1 + length (valueBytes v)))
+    value-rows (negate v) sc p = value-rows v sc (p + 1)
+
+    boolean-rows : (b : Boolean) (sc : Scope) (p : ℕ) → booleanRows d sc b p ≡ rowsOf (booleanDeclared d sc b p)
+    boolean-rows (compare c v w) sc p =
+        both-rows _ _ (valueDeclared d sc v (p + 1)) _ (value-rows v sc (p + 1)) (value-rows w sc (p + 1 + length (valueBytes v)))
+    boolean-rows (search t v w) sc p =
+        both-rows _ _ (valueDeclared d sc v (p + 1)) _ (value-rows v sc (p + 1)) (value-rows w sc (p + 1 + length (valueBytes v)))
+    boolean-rows (between v w x) sc p =
+        let q = p + 1 + length (valueBytes v) in
+        both-rows _ _ (valueDeclared d sc v (p + 1) ++ valueDeclared d sc w q) _
+        (both-rows _ _ (valueDeclared d sc v (p + 1)) _ (value-rows v sc (p + 1)) (value-rows w sc q)) (value-rows x sc (q + length (valueBytes w)))
+    boolean-rows (connect c a b) sc p =
+        both-rows _ _ (booleanDeclared d sc a (p + 1)) _ (boolean-rows a sc (p + 1)) (boolean-rows b sc (p + 1 + length (booleanBytes a)))
+    boolean-rows (not a) sc p = boolean-rows a sc (p + 1)
+    boolean-rows (missing v) sc p = value-rows v sc (p + 1)
+
+    keys-rows : (ks : Keys) (sc : Scope) (p : ℕ) → keysRows d sc ks p ≡ rowsOf (keysDeclared d sc ks p)
+    keys-rows noKeys sc p = refl
+    keys-rows (key o v ks) sc p =
+        both-rows _ _ (valueDeclared d sc v (p + 1)) _ (value-rows v sc (p + 1)) (keys-rows ks sc (p + 1 + length (valueBytes v)))
+
+    clauses-rows : (cs : Clauses) (sc : Scope) (p : ℕ) → clausesRows d sc cs p ≡ rowsOf (clausesDeclared d sc cs p)
+    clauses-rows noClauses sc p = refl
+    clauses-rows (such b cs) sc p =
+        both-rows _ _ (booleanDeclared d sc b (p + 1)) _ (boolean-rows b sc (p + 1)) (clauses-rows cs sc (p + 1 + length (booleanBytes b)))
+    clauses-rows (sorted ks cs) sc p =
+        both-rows _ _ (keysDeclared d sc ks (p + 2)) _ (keys-rows ks sc (p + 2)) (clauses-rows cs sc (p + 2 + length (keysBytes ks)))
+
+    rse-rows : (r : Rse) (sc : Scope) (p end : ℕ) → rseRows d sc r p end ≡ rowsOf (rseDeclared d sc r p end)
+    rse-rows (rse ss cs) sc p end =
+        let q = p + length (headBytes ss) in
+        both-rows _ _ (streamsDeclared d ss (p + 2) q end) _ (stream-rows ss (p + 2) q end) (clauses-rows cs (underStreams d sc ss) q)
 
   heading-rows : (sc : Scope) (h : Heading) (p end : ℕ) → headingRows d sc h p end ≡ rowsOf (headingDeclared d sc h p end)
   unfolding headingRows headingDeclared rowsOf
@@ -50,31 +91,33 @@ module _ (d : List Relation) where
     unfolding contextRows declared rowsOf
 
     pub context-rows : (t : Statement) (sc : Scope) (p : ℕ) → contextRows d sc t p ≡ rowsOf (declared d sc t p)
-    context-rows (assignment v t) sc p = refl
+    context-rows (assignment v t) sc p = value-rows v sc (p + 1)
     context-rows (begin ss) sc p = contexts-rows ss sc (p + 1)
     context-rows (erase c) sc p = refl
     context-rows (for r s) sc p =
-        ap₂ (λ x y. x ++ y) (rse-rows r (p + 1) (p + size (for r s))) (context-rows s (underRse d sc r) (p + 1 + length (rseBytes r)))
-        ∙ sym (rows-append (rseDeclared d r (p + 1) (p + size (for r s))) _)
+        both-rows _ _ (rseDeclared d sc r (p + 1) (p + size (for r s))) _ (rse-rows r sc (p + 1) (p + size (for r s)))
+        (context-rows s (underRse d sc r) (p + 1 + length (rseBytes r)))
     context-rows (headed h s) sc p =
-        ap₂ (λ x y. x ++ y) (heading-rows sc h p (p + size (headed h s))) (context-rows s (underHeading d sc h) (p + length (headingBytes h)))
-        ∙ sym (rows-append (headingDeclared d sc h p (p + size (headed h s))) _)
+        both-rows _ _ (headingDeclared d sc h p (p + size (headed h s))) _ (heading-rows sc h p (p + size (headed h s)))
+        (context-rows s (underHeading d sc h) (p + length (headingBytes h)))
     context-rows (leave n) sc p = refl
-    context-rows (if b s) sc p = context-rows s sc (p + 1 + length (booleanBytes b))
+    context-rows (if b s) sc p =
+        both-rows _ _ (booleanDeclared d sc b (p + 1)) _ (boolean-rows b sc (p + 1)) (context-rows s sc (p + 1 + length (booleanBytes b)))
     context-rows (ifElse b s t) sc p =
-        ap₂ (λ x y. x ++ y) (context-rows s sc (p + 1 + length (booleanBytes b))) (context-rows t sc (p + 1 + length (booleanBytes b) + size s))
-        ∙ sym (rows-append (declared d sc s (p + 1 + length (booleanBytes b))) _)
+        let q = p + 1 + length (booleanBytes b) in
+        both-rows _ _ (booleanDeclared d sc b (p + 1) ++ declared d sc s q) _
+        (both-rows _ _ (booleanDeclared d sc b (p + 1)) _ (boolean-rows b sc (p + 1)) (context-rows s sc q)) (context-rows t sc (q + size s))
     context-rows (select rs) sc p = receives-rows rs sc (p + 1)
 
     pub contexts-rows : (ts : Statements) (sc : Scope) (p : ℕ) → contextsRows d sc ts p ≡ rowsOf (declaredAll d sc ts p)
     contexts-rows nothing sc p = refl
     contexts-rows (s then ss) sc p =
-        ap₂ (λ x y. x ++ y) (context-rows s sc p) (contexts-rows ss sc (p + size s)) ∙ sym (rows-append (declared d sc s p) _)
+        both-rows _ _ (declared d sc s p) _ (context-rows s sc p) (contexts-rows ss sc (p + size s))
 
     pub receives-rows : (rs : Receives) (sc : Scope) (p : ℕ) → receivesContextRows d sc rs p ≡ rowsOf (receivesDeclared d sc rs p)
     receives-rows (last m s) sc p = context-rows s sc (p + 2)
     receives-rows (more m s rs) sc p =
-        ap₂ (λ x y. x ++ y) (context-rows s sc (p + 2)) (receives-rows rs sc (p + 2 + size s)) ∙ sym (rows-append (declared d sc s (p + 2)) _)
+        both-rows _ _ (declared d sc s (p + 2)) _ (context-rows s sc (p + 2)) (receives-rows rs sc (p + 2 + size s))
 
 -- ---- which declarations hold a place
 
@@ -131,9 +174,88 @@ module _ (d : List Relation) where
   streams-between lo start end h [] p = tt
   streams-between lo start end h (s ∷ ss) p = (h, omega arith, streams-between lo start end h ss (p + length (streamBytes s)))
 
-  rse-between : (r : Rse) (p end : ℕ) → Between p end (rseDeclared d r p end)
-  unfolding rseDeclared
-  rse-between (rse ss cs) p end = streams-between p (p + length (headBytes ss)) end (omega arith) ss (p + 2)
+  -- two parts one after another
+  both-between : (lo hi lo₂ hi₂ lo′ hi′ : ℕ) (a b : List Declared) → lo′ ≤ lo → hi ≤ hi′ → lo′ ≤ lo₂ → hi₂ ≤ hi′ → Between lo hi a →
+      Between lo₂ hi₂ b → Between lo′ hi′ (a ++ b)
+  both-between lo hi lo₂ hi₂ lo′ hi′ a b h i j k w v =
+      between-append lo′ hi′ a b (between-widen lo hi lo′ hi′ a h i w) (between-widen lo₂ hi₂ lo′ hi′ b j k v)
+
+  mutual
+    unfolding valueDeclared valueBytes
+
+    pub value-between : (v : Value) (sc : Scope) (p : ℕ) → Between p (p + length (valueBytes v)) (valueDeclared d sc v p)
+    value-between (literal l) sc p = tt
+    value-between (reference r) sc p = tt
+    value-between (arithmetic o v w) sc p =
+        let z = length-append (valueBytes v) (valueBytes w) in
+        let q = p + 1 + length (valueBytes v) in
+        both-between (p + 1) q q (q + length (valueBytes w)) p (p + length (valueBytes (arithmetic o v w))) (valueDeclared d sc v (p + 1)) _
+        (omega arith) (omega (arith, z)) (omega arith) (omega (arith, z)) (value-between v sc (p + 1)) (value-between w sc q)
+    value-between (negate v) sc p =
+        between-widen (p + 1) (p + 1 + length (valueBytes v)) p (p + length (valueBytes (negate v))) (valueDeclared d sc v (p + 1)) (omega arith)
+        (omega arith) (value-between v sc (p + 1))
+
+    pub boolean-between : (b : Boolean) (sc : Scope) (p : ℕ) → Between (p + 1) (p + length (booleanBytes b)) (booleanDeclared d sc b p)
+    boolean-between (compare c v w) sc p =
+        let z = length-append (valueBytes v) (valueBytes w) in
+        let q = p + 1 + length (valueBytes v) in
+        both-between (p + 1) q q (q + length (valueBytes w)) (p + 1) (p + length (booleanBytes (compare c v w))) (valueDeclared d sc v (p + 1)) _
+        (omega arith) (omega (arith, z)) (omega arith) (omega (arith, z)) (value-between v sc (p + 1)) (value-between w sc q)
+    boolean-between (search t v w) sc p =
+        let z = length-append (valueBytes v) (valueBytes w) in
+        let q = p + 1 + length (valueBytes v) in
+        both-between (p + 1) q q (q + length (valueBytes w)) (p + 1) (p + length (booleanBytes (search t v w))) (valueDeclared d sc v (p + 1)) _
+        (omega arith) (omega (arith, z)) (omega arith) (omega (arith, z)) (value-between v sc (p + 1)) (value-between w sc q)
+    boolean-between (between v w x) sc p =
+        let z = length-append (valueBytes v) (valueBytes w) in
+        let y = length-append (valueBytes v ++ valueBytes w) (valueBytes x) in
+        let q = p + 1 + length (valueBytes v) in
+        let r = q + length (valueBytes w) in
+        both-between (p + 1) r r (r + length (valueBytes x)) (p + 1) (p + length (booleanBytes (between v w x)))
+        (valueDeclared d sc v (p + 1) ++ valueDeclared d sc w q) _ (omega arith) (omega (arith, y, z)) (omega arith) (omega (arith, y, z))
+        (both-between (p + 1) q q r (p + 1) r (valueDeclared d sc v (p + 1)) _ (omega arith) (omega arith) (omega arith) (omega arith)
+        (value-between v sc (p + 1)) (value-between w sc q))
+        (value-between x sc r)
+    boolean-between (connect c a b) sc p =
+        let z = length-append (booleanBytes a) (booleanBytes b) in
+        let q = p + 1 + length (booleanBytes a) in
+        both-between (p + 1 + 1) q (q + 1) (q + length (booleanBytes b)) (p + 1) (p + length (booleanBytes (connect c a b)))
+        (booleanDeclared d sc a (p + 1)) _ (omega arith) (omega (arith, z)) (omega arith) (omega (arith, z)) (boolean-between a sc (p + 1))
+        (boolean-between b sc q)
+    boolean-between (not a) sc p =
+        between-widen (p + 1 + 1) (p + 1 + length (booleanBytes a)) (p + 1) (p + length (booleanBytes (not a))) (booleanDeclared d sc a (p + 1))
+        (omega arith) (omega arith) (boolean-between a sc (p + 1))
+    boolean-between (missing v) sc p =
+        between-widen (p + 1) (p + 1 + length (valueBytes v)) (p + 1) (p + length (booleanBytes (missing v))) (valueDeclared d sc v (p + 1))
+        (omega arith) (omega arith) (value-between v sc (p + 1))
+
+    keys-between : (ks : Keys) (sc : Scope) (p : ℕ) → Between p (p + length (keysBytes ks)) (keysDeclared d sc ks p)
+    keys-between noKeys sc p = tt
+    keys-between (key o v ks) sc p =
+        let z = length-append (valueBytes v) (keysBytes ks) in
+        let q = p + 1 + length (valueBytes v) in
+        both-between (p + 1) q q (q + length (keysBytes ks)) p (p + length (keysBytes (key o v ks))) (valueDeclared d sc v (p + 1)) _
+        (omega arith) (omega (arith, z)) (omega arith) (omega (arith, z)) (value-between v sc (p + 1)) (keys-between ks sc q)
+
+    pub clauses-between : (cs : Clauses) (sc : Scope) (p : ℕ) → Between p (p + length (clausesBytes cs)) (clausesDeclared d sc cs p)
+    clauses-between noClauses sc p = tt
+    clauses-between (such b cs) sc p =
+        let z = length-append (booleanBytes b) (clausesBytes cs) in
+        let q = p + 1 + length (booleanBytes b) in
+        both-between (p + 1 + 1) q q (q + length (clausesBytes cs)) p (p + length (clausesBytes (such b cs))) (booleanDeclared d sc b (p + 1)) _
+        (omega arith) (omega (arith, z)) (omega arith) (omega (arith, z)) (boolean-between b sc (p + 1)) (clauses-between cs sc q)
+    clauses-between (sorted ks cs) sc p =
+        let z = length-append (keysBytes ks) (clausesBytes cs) in
+        let q = p + 2 + length (keysBytes ks) in
+        both-between (p + 2) q q (q + length (clausesBytes cs)) p (p + length (clausesBytes (sorted ks cs))) (keysDeclared d sc ks (p + 2)) _
+        (omega arith) (omega (arith, z)) (omega arith) (omega (arith, z)) (keys-between ks sc (p + 2)) (clauses-between cs sc q)
+
+    rse-between : (r : Rse) (sc : Scope) (p end : ℕ) → p + length (rseBytes r) ≤ end → Between p end (rseDeclared d sc r p end)
+    rse-between (rse ss cs) sc p end h =
+        let q = p + length (headBytes ss) in
+        let z = length-append (headBytes ss) (clausesBytes cs) in
+        both-between p end q (q + length (clausesBytes cs)) p end (streamsDeclared d ss (p + 2) q end) _ (omega arith) (omega arith) (omega arith)
+        (omega (arith, z, h)) (streams-between p q end (omega arith) ss (p + 2)) (clauses-between cs (underStreams d sc ss) q)
 
   heading-between : (sc : Scope) (h : Heading) (p end : ℕ) → Between (p + 1) end (headingDeclared d sc h p end)
   unfolding headingDeclared
@@ -160,14 +282,17 @@ module _ (d : List Relation) where
     unfolding declared statementBytes
 
     pub declared-between : (t : Statement) (sc : Scope) (p : ℕ) → Between (p + 1) (p + size t) (declared d sc t p)
-    declared-between (assignment v t) sc p = tt
+    declared-between (assignment v t) sc p =
+        between-widen (p + 1) (p + 1 + length (valueBytes v)) (p + 1) (p + size (assignment v t)) (valueDeclared d sc v (p + 1)) (omega arith)
+        (omega (arith, length-append (valueBytes v) (referenceBytes t))) (value-between v sc (p + 1))
     declared-between (begin ss) sc p =
         between-widen (p + 1) (p + 1 + length (statementsBytes ss)) (p + 1) (p + size (begin ss)) (declaredAll d sc ss (p + 1)) (omega arith)
         (omega (arith, length-append (statementsBytes ss) (255 ∷ []))) (all-between ss sc (p + 1))
     declared-between (erase c) sc p = tt
     declared-between (for r s) sc p =
         let z : size (for r s) ≡ 1 + length (rseBytes r) + size s = omega (arith, length-append (rseBytes r) (statementBytes s)) in
-        between-append (p + 1) (p + size (for r s)) (rseDeclared d r (p + 1) (p + size (for r s))) _ (rse-between r (p + 1) (p + size (for r s)))
+        between-append (p + 1) (p + size (for r s)) (rseDeclared d sc r (p + 1) (p + size (for r s))) _
+        (rse-between r sc (p + 1) (p + size (for r s)) (omega (arith, z)))
         (between-widen (p + 1 + length (rseBytes r) + 1) (p + 1 + length (rseBytes r) + size s) (p + 1) (p + size (for r s))
         (declared d (underRse d sc r) s (p + 1 + length (rseBytes r))) (omega arith) (omega (arith, z))
         (declared-between s (underRse d sc r) (p + 1 + length (rseBytes r))))
@@ -180,17 +305,19 @@ module _ (d : List Relation) where
     declared-between (leave n) sc p = tt
     declared-between (if b s) sc p =
         let q = p + 1 + length (booleanBytes b) in
-        between-widen (q + 1) (q + size s) (p + 1) (p + size (if b s)) (declared d sc s q) (omega arith)
-        (omega (arith, length-append (booleanBytes b ++ statementBytes s) (255 ∷ []), length-append (booleanBytes b) (statementBytes s)))
-        (declared-between s sc q)
+        let z = length-append (booleanBytes b ++ statementBytes s) (255 ∷ []) in
+        let y = length-append (booleanBytes b) (statementBytes s) in
+        both-between (p + 1 + 1) q (q + 1) (q + size s) (p + 1) (p + size (if b s)) (booleanDeclared d sc b (p + 1)) _ (omega arith)
+        (omega (arith, z, y)) (omega arith) (omega (arith, z, y)) (boolean-between b sc (p + 1)) (declared-between s sc q)
     declared-between (ifElse b s t) sc p =
         let q = p + 1 + length (booleanBytes b) in
         let z = length-append (booleanBytes b ++ statementBytes s) (statementBytes t) in
         let y = length-append (booleanBytes b) (statementBytes s) in
-        between-append (p + 1) (p + size (ifElse b s t)) (declared d sc s q) _
-        (between-widen (q + 1) (q + size s) (p + 1) (p + size (ifElse b s t)) (declared d sc s q) (omega arith) (omega (arith, z, y)) (declared-between s sc q))
-        (between-widen (q + size s + 1) (q + size s + size t) (p + 1) (p + size (ifElse b s t)) (declared d sc t (q + size s)) (omega arith)
-        (omega (arith, z, y)) (declared-between t sc (q + size s)))
+        both-between (p + 1) (q + size s) (q + size s + 1) (q + size s + size t) (p + 1) (p + size (ifElse b s t))
+        (booleanDeclared d sc b (p + 1) ++ declared d sc s q) _ (omega arith) (omega (arith, z, y)) (omega arith) (omega (arith, z, y))
+        (both-between (p + 1 + 1) q (q + 1) (q + size s) (p + 1) (q + size s) (booleanDeclared d sc b (p + 1)) _ (omega arith) (omega arith)
+        (omega arith) (omega arith) (boolean-between b sc (p + 1)) (declared-between s sc q))
+        (declared-between t sc (q + size s))
     declared-between (select rs) sc p =
         between-widen (p + 1) (p + 1 + length (receivesBytes rs)) (p + 1) (p + size (select rs)) (receivesDeclared d sc rs (p + 1)) (omega arith)
         (omega (arith, length-append (receivesBytes rs) (255 ∷ []))) (receives-between rs sc (p + 1))
@@ -269,15 +396,37 @@ module _ (s : List ℕ) (e : Environment) where
         scoped = w .scoped ∙ f (x .place) (w .after) (w .before);
       }
 
+  -- the first of two parts in a row, and the second
+  first-part : (q lo hi : ℕ) (outer : List Context) (a b : List Declared) → Between lo hi b → q < lo →
+      outer ++ contextsAt q a ≡ outer ++ contextsAt q (a ++ b)
+  first-part q lo hi outer a b w h =
+      ap (λ z. outer ++ z) (sym (contexts-append q a b ∙ ap (λ z. contextsAt q a ++ z) (none-before q lo hi b w h) ∙ append-nil (contextsAt q a)))
+
+  second-part : (q lo hi : ℕ) (outer : List Context) (a b : List Declared) → Between lo hi a → hi ≤ q →
+      outer ++ contextsAt q b ≡ outer ++ contextsAt q (a ++ b)
+  second-part q lo hi outer a b w h =
+      ap (λ z. outer ++ z) (sym (contexts-append q a b ∙ ap (λ z. z ++ contextsAt q b) (none-after q lo hi a w h)))
+
+  -- before both parts
+  before-parts : (q lo hi lo₂ hi₂ : ℕ) (outer : List Context) (a b : List Declared) → Between lo hi a → Between lo₂ hi₂ b → q < lo → q < lo₂ →
+      outer ≡ outer ++ contextsAt q (a ++ b)
+  before-parts q lo hi lo₂ hi₂ outer a b w v h k =
+      sym (append-nil outer) ∙ ap (λ z. outer ++ z) (sym (none-before q lo hi a w h)) ∙ first-part q lo₂ hi₂ outer a b v k
+
   clauses-sites : (cs : Clauses) (sc : Scope) (b k : Bool) (p n : ℕ) (post : List ℕ) → clausesDepth cs ≤ n → ClausesAllowed e sc b k cs →
-      drop p s ≡ clausesBytes cs ++ post → All (Holds (p + 1) (p + length (clausesBytes cs)) n (sc .contexts) []) (clausesConditions sc cs p)
-  unfolding clausesDepth clausesBytes clausesConditions contextsAt
+      drop p s ≡ clausesBytes cs ++ post →
+      All (Holds (p + 1) (p + length (clausesBytes cs)) n (sc .contexts) (clausesDeclared d sc cs p)) (clausesConditions sc cs p)
+  unfolding clausesDepth clausesBytes clausesConditions clausesDeclared
   clauses-sites noClauses sc b k p n post h a f = tt
   clauses-sites (such x cs) sc b k p n post h a f =
       let z = length-append (booleanBytes x) (clausesBytes cs) in
       let y = boolean-size x in
       let f1 : drop (p + 1) s ≡ booleanBytes x ++ (clausesBytes cs ++ post) = past s p (71 ∷ []) _ f ∙ append-assoc (booleanBytes x) (clausesBytes cs) post in
-      let q = p + 1 + length (booleanBytes x) in (
+      let q = p + 1 + length (booleanBytes x) in
+      let one = booleanDeclared d sc x (p + 1) in
+      let two = clausesDeclared d sc cs q in
+      let w : Between (p + 1 + 1) q one = boolean-between d x sc (p + 1) in
+      let v : Between q (q + length (clausesBytes cs)) two = clauses-between d cs sc q in (
         record {
           after = omega arith;
           before = omega (arith, z, y);
@@ -285,20 +434,23 @@ module _ (s : List ℕ) (e : Environment) where
           rest = clausesBytes cs ++ post;
           stands = f1;
           allowed = a .1;
-          scoped = sym (append-nil (sc .contexts));
+          scoped = before-parts (p + 1) (p + 1 + 1) q q (q + length (clausesBytes cs)) (sc .contexts) one two w v (omega arith) (omega (arith, y));
         },
-        all-map (Holds (q + 1) (q + length (clausesBytes cs)) n (sc .contexts) []) _ (clausesConditions sc cs q)
-            (widen (q + 1) (q + length (clausesBytes cs)) n (p + 1) (p + length (clausesBytes (such x cs))) n (sc .contexts) (sc .contexts) [] []
-            (omega arith) (omega (arith, z)) (omega arith) (λ q i j. refl))
+        all-map (Holds (q + 1) (q + length (clausesBytes cs)) n (sc .contexts) two) _ (clausesConditions sc cs q)
+            (widen (q + 1) (q + length (clausesBytes cs)) n (p + 1) (p + length (clausesBytes (such x cs))) n (sc .contexts) (sc .contexts) two (one ++ two)
+            (omega arith) (omega (arith, z)) (omega arith) (λ o i j. second-part o (p + 1 + 1) q (sc .contexts) one two w (omega (arith, i))))
             (clauses-sites cs sc true k q n post (omega arith) (a .2) (past s (p + 1) (booleanBytes x) _ f1)),
       )
   clauses-sites (sorted ks cs) sc b k p n post h a f =
       let z = length-append (keysBytes ks) (clausesBytes cs) in
       let f1 : drop (p + 2) s ≡ keysBytes ks ++ (clausesBytes cs ++ post) = past s p (70 ∷ _ ∷ []) _ f ∙ append-assoc (keysBytes ks) (clausesBytes cs) post in
       let q = p + 2 + length (keysBytes ks) in
-      all-map (Holds (q + 1) (q + length (clausesBytes cs)) n (sc .contexts) []) _ (clausesConditions sc cs q)
-      (widen (q + 1) (q + length (clausesBytes cs)) n (p + 1) (p + length (clausesBytes (sorted ks cs))) n (sc .contexts) (sc .contexts) [] []
-      (omega arith) (omega (arith, z)) (omega arith) (λ q i j. refl))
+      let one = keysDeclared d sc ks (p + 2) in
+      let two = clausesDeclared d sc cs q in
+      all-map (Holds (q + 1) (q + length (clausesBytes cs)) n (sc .contexts) two) _ (clausesConditions sc cs q)
+      (widen (q + 1) (q + length (clausesBytes cs)) n (p + 1) (p + length (clausesBytes (sorted ks cs))) n (sc .contexts) (sc .contexts) two (one ++ two)
+      (omega arith) (omega (arith, z)) (omega arith)
+      (λ o i j. second-part o (p + 2) q (sc .contexts) one two (keys-between d ks sc (p + 2)) (omega (arith, i))))
       (clauses-sites cs sc b true q n post (omega arith) (a .3) (past s (p + 2) (keysBytes ks) _ f1))
 
   heading-hold : (sc : Scope) (h : Heading) (p end q : ℕ) → p + length (headingBytes h) ≤ q → q < end →
@@ -313,17 +465,6 @@ module _ (s : List ℕ) (e : Environment) where
       let k : p + 1 + length (streamBytes t) ≤ q = omega (arith, i) in rw (le-leb (p + 1 + length (streamBytes t)) q k, lt-ltb q end j)
   heading-hold sc (label n) p end q i j = sym (append-nil (sc .contexts))
 
-  -- the first of two parts in a row, and the second
-  first-part : (q lo hi : ℕ) (outer : List Context) (a b : List Declared) → Between lo hi b → q < lo →
-      outer ++ contextsAt q a ≡ outer ++ contextsAt q (a ++ b)
-  first-part q lo hi outer a b w h =
-      ap (λ z. outer ++ z) (sym (contexts-append q a b ∙ ap (λ z. contextsAt q a ++ z) (none-before q lo hi b w h) ∙ append-nil (contextsAt q a)))
-
-  second-part : (q lo hi : ℕ) (outer : List Context) (a b : List Declared) → Between lo hi a → hi ≤ q →
-      outer ++ contextsAt q b ≡ outer ++ contextsAt q (a ++ b)
-  second-part q lo hi outer a b w h =
-      ap (λ z. outer ++ z) (sym (contexts-append q a b ∙ ap (λ z. z ++ contextsAt q b) (none-after q lo hi a w h)))
-
   -- a part under contexts that were just declared
   under : (q : ℕ) (outer inner : List Context) (a b : List Declared) → inner ≡ outer ++ contextsAt q a →
       inner ++ contextsAt q b ≡ outer ++ contextsAt q (a ++ b)
@@ -331,7 +472,7 @@ module _ (s : List ℕ) (e : Environment) where
       ap (λ z. z ++ contextsAt q b) h ∙ append-assoc outer (contextsAt q a) (contextsAt q b) ∙ ap (λ z. outer ++ z) (sym (contexts-append q a b))
 
   mutual
-    unfolding statementDepth statementBytes conditions declared rseDepth rseBytes rseConditions rseDeclared underRse underStreams contextsAt
+    unfolding statementDepth statementBytes conditions declared rseDepth rseBytes rseConditions rseDeclared underRse underStreams
 
     pub sites : (t : Statement) (sc : Scope) (p n : ℕ) (post : List ℕ) → statementDepth t ≤ n → StatementAllowed e sc t →
         drop p s ≡ statementBytes t ++ post → All (Holds (p + 1) (p + size t) n (sc .contexts) (declared d sc t p)) (conditions d sc t p)
@@ -351,25 +492,28 @@ module _ (s : List ℕ) (e : Environment) where
         let m = p + 1 + length (headBytes ss) in
         let o = p + 1 + length (rseBytes r) in
         let inner = declared d (underRse d sc r) t o in
-        let streams = rseDeclared d r (p + 1) end in
+        let streams = streamsDeclared d ss (p + 1 + 2) m end in
+        let below = clausesDeclared d (underStreams d sc ss) cs m in
         let f0 : drop (p + 1) s ≡ rseBytes r ++ (statementBytes t ++ post) = past s p (7 ∷ []) _ f ∙ append-assoc (rseBytes r) (statementBytes t) post in
         let f1 : drop (p + 1) s ≡ headBytes ss ++ (clausesBytes cs ++ (statementBytes t ++ post)) = f0 ∙ append-assoc (headBytes ss) (clausesBytes cs) (statementBytes t ++ post) in
         let in-clauses : (q : ℕ) → m + 1 ≤ q → q < m + length (clausesBytes cs) →
-        (underStreams d sc ss) .contexts ++ contextsAt q [] ≡ sc .contexts ++ contextsAt q (streams ++ inner) =
-        λ q i j. under q (sc .contexts) ((underStreams d sc ss) .contexts) streams []
+        (underStreams d sc ss) .contexts ++ contextsAt q below ≡ sc .contexts ++ contextsAt q (streams ++ below ++ inner) =
+        λ q i j. under q (sc .contexts) ((underStreams d sc ss) .contexts) streams below
         (ap (λ z. sc .contexts ++ z) (sym (streams-hold d q m end (omega (arith, i)) (omega (arith, j, y, z)) ss (p + 1 + 2))))
-        ∙ ap (λ z. sc .contexts ++ z) (contexts-append q streams [] ∙ ap (λ z. contextsAt q streams ++ z) (sym (none-before q (o + 1) (o + size t) inner (declared-between d t (underRse d sc r) o) (omega (arith, j, y)))) ∙ sym (contexts-append q streams inner)) in
+        ∙ first-part q (o + 1) (o + size t) (sc .contexts) (streams ++ below) inner (declared-between d t (underRse d sc r) o) (omega (arith, j, y)) in
         let in-body : (q : ℕ) → o + 1 ≤ q → q < o + size t →
-        (underRse d sc r) .contexts ++ contextsAt q inner ≡ sc .contexts ++ contextsAt q (streams ++ inner) =
-        λ q i j. under q (sc .contexts) ((underRse d sc r) .contexts) streams inner
-        (ap (λ z. sc .contexts ++ z) (sym (streams-hold d q m end (omega (arith, i, y)) (omega (arith, j, z)) ss (p + 1 + 2)))) in
+        (underRse d sc r) .contexts ++ contextsAt q inner ≡ sc .contexts ++ contextsAt q (streams ++ below ++ inner) =
+        λ q i j. under q (sc .contexts) ((underRse d sc r) .contexts) (streams ++ below) inner
+        (ap (λ z. sc .contexts ++ z) (sym (streams-hold d q m end (omega (arith, i, y)) (omega (arith, j, z)) ss (p + 1 + 2)))
+        ∙ ap (λ z. sc .contexts ++ z) (sym (contexts-append q streams below ∙ ap (λ z. contextsAt q streams ++ z)
+        (none-after q m (m + length (clausesBytes cs)) below (clauses-between d cs (underStreams d sc ss) m) (omega (arith, i, y))) ∙ append-nil _))) in
         all-append _ (rseConditions d sc r (p + 1)) _
-        (all-map (Holds (m + 1) (m + length (clausesBytes cs)) n ((underStreams d sc ss) .contexts) []) _ (rseConditions d sc r (p + 1))
-        (widen (m + 1) (m + length (clausesBytes cs)) n (p + 1) end n ((underStreams d sc ss) .contexts) (sc .contexts) [] (streams ++ inner)
+        (all-map (Holds (m + 1) (m + length (clausesBytes cs)) n ((underStreams d sc ss) .contexts) below) _ (rseConditions d sc r (p + 1))
+        (widen (m + 1) (m + length (clausesBytes cs)) n (p + 1) end n ((underStreams d sc ss) .contexts) (sc .contexts) below (streams ++ below ++ inner)
         (omega arith) (omega (arith, y, z)) (omega arith) in-clauses)
         (clauses-sites cs (underStreams d sc ss) false false m n _ (omega arith) (a .0 .2) (past s (p + 1) (headBytes ss) _ f1)))
         (all-map (Holds (o + 1) (o + size t) n ((underRse d sc r) .contexts) inner) _ (conditions d (underRse d sc r) t o)
-        (widen (o + 1) (o + size t) n (p + 1) end n ((underRse d sc r) .contexts) (sc .contexts) inner (streams ++ inner)
+        (widen (o + 1) (o + size t) n (p + 1) end n ((underRse d sc r) .contexts) (sc .contexts) inner (streams ++ below ++ inner)
         (omega arith) (omega (arith, z)) (omega arith) in-body)
         (sites t (underRse d sc r) o n post (omega arith) (a .1) (past s (p + 1) (rseBytes r) _ f0)))
     sites (headed x t) sc p n post h a f =
@@ -388,7 +532,9 @@ module _ (s : List ℕ) (e : Environment) where
     sites (if b t) sc p n post h a f =
         let y = boolean-size b in
         let o = p + 1 + length (booleanBytes b) in
+        let below = booleanDeclared d sc b (p + 1) in
         let own = declared d sc t o in
+        let u : Between (p + 1 + 1) o below = boolean-between d b sc (p + 1) in
         let z = length-append (booleanBytes b ++ statementBytes t) (255 ∷ []) in
         let x = length-append (booleanBytes b) (statementBytes t) in
         let f1 : drop (p + 1) s ≡ booleanBytes b ++ (statementBytes t ++ (255 ∷ post)) =
@@ -400,17 +546,22 @@ module _ (s : List ℕ) (e : Environment) where
             rest = statementBytes t ++ (255 ∷ post);
             stands = f1;
             allowed = a .0;
-            scoped = sym (append-nil (sc .contexts)) ∙ ap (λ z. sc .contexts ++ z) (sym (none-before (p + 1) (o + 1) (o + size t) own (declared-between d t sc o) (omega (arith, y))));
+            scoped =
+                before-parts (p + 1) (p + 1 + 1) o (o + 1) (o + size t) (sc .contexts) below own u (declared-between d t sc o) (omega arith)
+                (omega (arith, y));
           },
           all-map (Holds (o + 1) (o + size t) n (sc .contexts) own) _ (conditions d sc t o)
-              (widen (o + 1) (o + size t) n (p + 1) (p + size (if b t)) n (sc .contexts) (sc .contexts) own own (omega arith) (omega (arith, x, z)) (omega arith) (λ q i j. refl))
+              (widen (o + 1) (o + size t) n (p + 1) (p + size (if b t)) n (sc .contexts) (sc .contexts) own (below ++ own) (omega arith) (omega (arith, x, z)) (omega arith)
+              (λ q i j. second-part q (p + 1 + 1) o (sc .contexts) below own u (omega (arith, i))))
               (sites t sc o n (255 ∷ post) (omega arith) (a .1) (past s (p + 1) (booleanBytes b) _ f1)),
         )
     sites (ifElse b t u) sc p n post h a f =
         let y = boolean-size b in
         let o = p + 1 + length (booleanBytes b) in
+        let below = booleanDeclared d sc b (p + 1) in
         let one = declared d sc t o in
         let two = declared d sc u (o + size t) in
+        let k : Between (p + 1 + 1) o below = boolean-between d b sc (p + 1) in
         let z = length-append (booleanBytes b ++ statementBytes t) (statementBytes u) in
         let x = length-append (booleanBytes b) (statementBytes t) in
         let f1 : drop (p + 1) s ≡ booleanBytes b ++ (statementBytes t ++ (statementBytes u ++ post)) =
@@ -426,17 +577,20 @@ module _ (s : List ℕ) (e : Environment) where
             stands = f1;
             allowed = a .0;
             scoped =
-                sym (append-nil (sc .contexts)) ∙ ap (λ z. sc .contexts ++ z) (sym (none-before (p + 1) (o + 1) (o + size t) one w (omega (arith, y))))
-                ∙ first-part (p + 1) (o + size t + 1) (o + size t + size u) (sc .contexts) one two v (omega (arith, y));
+                before-parts (p + 1) (p + 1 + 1) o (o + 1) (o + size t) (sc .contexts) below one k w (omega arith) (omega (arith, y))
+                ∙ first-part (p + 1) (o + size t + 1) (o + size t + size u) (sc .contexts) (below ++ one) two v (omega (arith, y));
           },
           all-append _ (conditions d sc t o) _
               (all-map (Holds (o + 1) (o + size t) n (sc .contexts) one) _ (conditions d sc t o)
-              (widen (o + 1) (o + size t) n (p + 1) (p + size (ifElse b t u)) n (sc .contexts) (sc .contexts) one (one ++ two) (omega arith) (omega (arith, x, z)) (omega arith)
-              (λ q i j. first-part q (o + size t + 1) (o + size t + size u) (sc .contexts) one two v (omega (arith, j))))
+              (widen (o + 1) (o + size t) n (p + 1) (p + size (ifElse b t u)) n (sc .contexts) (sc .contexts) one (below ++ one ++ two) (omega arith) (omega (arith, x, z)) (omega arith)
+              (λ q i j. second-part q (p + 1 + 1) o (sc .contexts) below one k (omega (arith, i))
+              ∙ first-part q (o + size t + 1) (o + size t + size u) (sc .contexts) (below ++ one) two v (omega (arith, j))))
               (sites t sc o n _ (omega arith) (a .1) f2))
               (all-map (Holds (o + size t + 1) (o + size t + size u) n (sc .contexts) two) _ (conditions d sc u (o + size t))
-              (widen (o + size t + 1) (o + size t + size u) n (p + 1) (p + size (ifElse b t u)) n (sc .contexts) (sc .contexts) two (one ++ two) (omega arith) (omega (arith, x, z)) (omega arith)
-              (λ q i j. second-part q (o + 1) (o + size t) (sc .contexts) one two w (omega (arith, i))))
+              (widen (o + size t + 1) (o + size t + size u) n (p + 1) (p + size (ifElse b t u)) n (sc .contexts) (sc .contexts) two (below ++ one ++ two) (omega arith) (omega (arith, x, z)) (omega arith)
+              (λ q i j. second-part q (p + 1 + 1) (o + size t) (sc .contexts) (below ++ one) two
+              (both-between d (p + 1 + 1) o (o + 1) (o + size t) (p + 1 + 1) (o + size t) below one (omega arith) (omega arith) (omega (arith, y)) (omega arith) k w)
+              (omega (arith, i))))
               (sites u sc (o + size t) n post (omega arith) (a .2) (past s o (statementBytes t) _ f2))),
         )
     sites (select rs) sc p n post h a f =
