@@ -11,7 +11,7 @@ use lib.Signed.{mag, ltZ}
 use mir.Syntax.{Width, w64}
 use mir.Val.{SFits, toZ, ofZ, hbits}
 use mir.Facts.{toZ-pos, toZ-neg, toZ-ofZ}
-use Rattle.decimal.specs.Signs.{isNegative, complementOf}
+use Rattle.decimal.specs.Internal.Signs.{isNegative, complementOf}
 
 pub clash : {X : Type 0} → false ≡ true → X
 clash e = absurd (subst (λ (b : Bool). T (not b)) e tt)

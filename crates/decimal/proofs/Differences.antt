@@ -11,7 +11,7 @@ use Rattle.decimal.specs.declared.Number.{Number}
 use Rattle.decimal.specs.declared.Computed.{Computed}
 use Rattle.decimal.specs.declared.Computed.the-variants.{Value}
 use Rattle.decimal.specs.Number.{scaleOf, places, fitted, rescaled, common, added, subtracted}
-use Rattle.decimal.specs.Sums.{negatedIf, valueAtPlaces, sumAt, sumJoined, sumOrDifference}
+use Rattle.decimal.specs.Internal.Sums.{negatedIf, valueAtPlaces, sumAt, sumJoined, sumOrDifference}
 use Rattle.decimal.proofs.Fitted.{fits-in, raised-by-none}
 
 -- a value at its own places is itself

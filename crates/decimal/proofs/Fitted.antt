@@ -11,7 +11,7 @@ use mir.Syntax.{w64}
 use mir.Val.{SFits, ofZ}
 use Rattle.decimal.specs.declared.Computed.the-variants.{Value, Overflow}
 use Rattle.decimal.specs.Number.{fitted}
-use Rattle.decimal.specs.Signs.{signed, limitOf}
+use Rattle.decimal.specs.Internal.Signs.{signed, limitOf}
 
 pub fits-in : (z scale : ℤ) → mag z < 2 ^ 63 → Value (record { value = z; scale = scale }) ≡ fitted z scale
 unfolding fitted

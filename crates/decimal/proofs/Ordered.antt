@@ -11,13 +11,8 @@ use lib.Dec.{ltb}
 use lib.IntN.{ℤ, pos, negsuc}
 use Rattle.wire.specs.declared.order.Order.{Order}
 use Rattle.wire.specs.declared.order.Order.the-variants.{Less, Equal, Greater}
-use Rattle.decimal.specs.Number.{orderBy, orderℤ}
-use Rattle.decimal.specs.Signs.{signed}
-use Rattle.decimal.specs.Comparing.{whereEqual}
-
--- the order of two magnitudes
-orderℕ : ℕ → ℕ → Order
-orderℕ x y = orderBy (ltb x y) (ltb y x)
+use Rattle.wire.specs.Orders.{orderℕ, orderℤ, whereEqual}
+use Rattle.decimal.specs.Internal.Signs.{signed}
 
 is-less : (x y : ℕ) → x < y → orderℕ x y ≡ Less
 unfolding orderℕ

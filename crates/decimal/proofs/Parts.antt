@@ -12,9 +12,10 @@ use lib.Signed.{quotZ, remZ}
 use Rattle.wire.specs.declared.order.Order.{Order}
 use Rattle.wire.specs.declared.order.Order.the-variants.{Less, Equal, Greater}
 use Rattle.decimal.specs.declared.Number.{Number}
-use Rattle.decimal.specs.Number.{orderℤ, places, valueAt, common, compared}
-use Rattle.decimal.specs.Signs.{isNegative, signed}
-use Rattle.decimal.specs.Comparing.{wholePart, fractionAt, whereEqual, byParts}
+use Rattle.decimal.specs.Number.{places, valueAt, common, compared}
+use Rattle.wire.specs.Orders.{orderℤ, whereEqual}
+use Rattle.decimal.specs.Internal.Signs.{isNegative, signed}
+use Rattle.decimal.specs.Comparing.{wholePart, fractionAt, byParts}
 use Rattle.decimal.proofs.Scales.{places-le}
 use Rattle.decimal.proofs.Signed.{product-signed}
 use Rattle.decimal.proofs.Ordered.{signed-parts, common-factor, equal-only, equal-itself}

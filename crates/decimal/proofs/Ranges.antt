@@ -11,8 +11,8 @@ use lib.Signed.{mag, ltZ, leZ}
 use mir.Syntax.{w64}
 use mir.Val.{SFits, toZ, ofZ}
 use Rattle.decimal.specs.Number.{fits}
-use Rattle.decimal.specs.Signs.{isNegative, complementOf, complementIf}
-use Rattle.decimal.specs.Sums.{negatedIf}
+use Rattle.decimal.specs.Internal.Signs.{isNegative, complementOf, complementIf}
+use Rattle.decimal.specs.Internal.Sums.{negatedIf}
 use Rattle.decimal.proofs.Bits.{clash, read-back}
 use Rattle.decimal.proofs.Scales.{mag-subℕ}
 

@@ -11,7 +11,7 @@ use lib.IntN.{ℤ, pos, negsuc, natAbs, _*ℤ_}
 use lib.Signed.{mag}
 use mir.Syntax.{w64}
 use mir.Val.{toZ, ofZ}
-use Rattle.decimal.specs.Signs.{signed, isNegative}
+use Rattle.decimal.specs.Internal.Signs.{signed, isNegative}
 use Rattle.decimal.proofs.Bits.{read-back}
 
 -- a value is that of its sign and magnitude

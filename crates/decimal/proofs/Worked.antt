@@ -4,7 +4,8 @@ use mathlib.Core.Path.{_≡_, refl}
 use lib.IntN.{ℤ, pos, negℤ}
 use Rattle.wire.specs.declared.order.Order.the-variants.{Less, Equal, Greater}
 use Rattle.decimal.specs.declared.Number.{Number}
-use Rattle.decimal.specs.Number.{places, scaleOf, orderℤ, compared}
+use Rattle.decimal.specs.Number.{places, scaleOf, compared}
+use Rattle.wire.specs.Orders.{orderℤ}
 use Rattle.decimal.specs.Comparing.{wholePart, fractionAt}
 
 -- a value with so many places

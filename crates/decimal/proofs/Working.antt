@@ -6,26 +6,20 @@ use native.Mathlib.Omega.{arith}
 use native.Mathlib.Nat.{mod-lt, mul-le-mul-right, pow-le-pow-right}
 use lib.Dec.{lit<}
 use lib.IntN.{ℤ, pos, natAbs, _*ℤ_}
-use lib.Signed.{mag, ltZ, quotZ, remZ, mag-rem}
+use lib.Signed.{mag, quotZ, remZ, mag-rem}
 use mir.Syntax.{w64}
 use mir.Val.{SFits, toZ, ofZ}
 use mir.Facts.{toZ-pos, toZ-ofZ}
 use Rattle.wire.specs.declared.order.Order.{Order}
+use Rattle.wire.specs.Orders.{orderℤ, whereEqual}
 use Rattle.decimal.specs.declared.Number.{Number}
-use Rattle.decimal.specs.Number.{places, common, orderBy, orderℤ}
-use Rattle.decimal.specs.Signs.{isNegative, signed}
-use Rattle.decimal.specs.Comparing.{wholePart, fractionAt, whereEqual, byParts}
+use Rattle.decimal.specs.Number.{places, common}
+use Rattle.decimal.specs.Internal.Signs.{isNegative, signed}
+use Rattle.decimal.specs.Comparing.{wholePart, fractionAt, byParts}
 use Rattle.decimal.proofs.Bits.{read-back}
 use Rattle.decimal.proofs.Fitted.{negative-in}
 use Rattle.decimal.proofs.Quotient.{quotient-fits}
 use Rattle.decimal.proofs.Parts.{power-pos, power-split, remainder}
-
--- the order of two values by the code's two tests, each with its answer
-module _ {x y : ℤ} (f : SFits w64 x) (g : SFits w64 y) where
-  pub by-tests : {a b : Bool} → ltZ (toZ w64 (ofZ w64 x)) (toZ w64 (ofZ w64 y)) ≡ a → ltZ (toZ w64 (ofZ w64 y)) (toZ w64 (ofZ w64 x)) ≡ b
-      → orderBy a b ≡ orderℤ x y
-  unfolding orderℤ
-  by-tests s t = ap₂ orderBy (sym s ∙ ap₂ ltZ (toZ-ofZ f) (toZ-ofZ g)) (sym t ∙ ap₂ ltZ (toZ-ofZ g) (toZ-ofZ f))
 
 -- a value, and a divisor from 1 to 10 ^ 18
 module _ (x : ℤ) (d : ℕ) (f : SFits w64 x) (h : 0 < d) (l : d ≤ 10 ^ 18) where

@@ -4,9 +4,9 @@ use Prim.Native.Nat.{ℕ, _-_, _^_}
 use lib.IntN.{ℤ, pos, _*ℤ_}
 use lib.Signed.{quotZ, remZ}
 use Rattle.wire.specs.declared.order.Order.{Order}
-use Rattle.wire.specs.declared.order.Order.the-variants.{Less, Equal, Greater}
+use Rattle.wire.specs.Orders.{orderℤ, whereEqual}
 use Rattle.decimal.specs.declared.Number.{Number}
-use Rattle.decimal.specs.Number.{places, common, orderℤ}
+use Rattle.decimal.specs.Number.{places, common}
 
 -- the whole part: the value divided by ten to the number of its places, cut toward zero. Of 30.5 it is 30, of -30.5 it is -30, of -0.5
 -- it is 0.
@@ -17,12 +17,6 @@ wholePart a = quotZ (a .value) (pos (10 ^ places (a .scale)))
 -- at two, of -0.5 it is -5 at one place, of 30 it is 0 at any.
 unfoldable pub fractionAt : ℕ → Number → ℤ
 fractionAt k a = remZ (a .value) (pos (10 ^ places (a .scale))) *ℤ pos (10 ^ (k - places (a .scale)))
-
--- the first order, and where that is equal the second
-abbrev pub whereEqual : Order → Order → Order
-whereEqual Less o = Less
-whereEqual Equal o = o
-whereEqual Greater o = Greater
 
 -- 02: "two numbers compare as their whole parts, cut toward zero, and where these are equal as their signed fractions." Both fractions
 -- are counted at the places of the number that has more of them.

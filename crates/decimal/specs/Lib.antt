@@ -1,5 +1,4 @@
 -- Scaled numbers.
 pub mod Number
-pub mod Signs
-pub mod Sums
 pub mod Comparing
+pub mod Internal

@@ -3,25 +3,29 @@ use Prim.Native.Nat.{ℕ, suc, _+_, _-_, _^_, min, max}
 use mathlib.Core.Bool.{Bool, cond}
 use lib.Dec.{ltb}
 use lib.IntN.{ℤ, pos, negsuc, negℤ, _+ℤ_, _-ℤ_, _*ℤ_}
-use lib.Signed.{mag, quotZ, ltZ}
+use lib.Signed.{mag, quotZ}
 use Rattle.wire.specs.declared.order.Order.{Order}
-use Rattle.wire.specs.declared.order.Order.the-variants.{Less, Equal, Greater}
+use Rattle.wire.specs.Orders.{orderℤ}
 use Rattle.wire.specs.declared.codes.Operator.{Operator}
 use Rattle.wire.specs.declared.codes.Operator.the-variants.{Add, Subtract, Multiply, Divide}
 use Rattle.decimal.specs.declared.Number.{Number}
 use Rattle.decimal.specs.declared.Computed.{Computed}
 use Rattle.decimal.specs.declared.Computed.the-variants.{Value, Overflow, ZeroDivisor}
 
--- 01: "arithmetic -18 to 0". A scale of -k is k decimal places. Any other scale counts as the nearest of these.
+-- 01: "arithmetic -18 to 0"
+abbrev pub maxPlaces : ℕ
+maxPlaces = 18
+
+-- a scale of -k is k decimal places; any scale below -18 or above 0 counts as the nearest of these
 unfoldable pub places : ℤ → ℕ
 places (pos n) = 0
-places (negsuc n) = min 18 (suc n)
+places (negsuc n) = min maxPlaces (suc n)
 
 -- the scale of so many places
 abbrev pub scaleOf : ℕ → ℤ
 scaleOf k = negℤ (pos k)
 
--- a value that a signed 64-bit number holds; `mag` is n for n and for -(n + 1)
+-- whether a signed 64-bit number holds a value; `mag` is n for n and for -(n + 1)
 abbrev pub fits : ℤ → Bool
 fits z = ltb (mag z) (2 ^ 63)
 
@@ -33,7 +37,7 @@ fitted z scale = cond (fits z) (Value (record { value = z; scale = scale })) Ove
 abbrev pub valueAt : ℕ → Number → ℤ
 valueAt k a = a .value *ℤ pos (10 ^ (k - places (a .scale)))
 
--- the same number with so many places, or overflow
+-- the same number at k places, or at its own where these are more; or overflow
 unfoldable pub rescaled : ℕ → Number → Computed
 rescaled k a = fitted (valueAt k a) (scaleOf (max k (places (a .scale))))
 
@@ -43,10 +47,11 @@ _>>=_ (Value a) f = f a
 _>>=_ Overflow f = Overflow
 _>>=_ ZeroDivisor f = ZeroDivisor
 
--- 01: "Add and subtract bring both to the smaller scale; a rescaled operand or result that doesn't fit is overflow."
+-- the places of the smaller scale
 abbrev pub common : Number → Number → ℕ
 common a b = max (places (a .scale)) (places (b .scale))
 
+-- 01: "Add and subtract bring both to the smaller scale; a rescaled operand or result that doesn't fit is overflow."
 unfoldable pub added : Number → Number → Computed
 added a b = do
   x ← rescaled (common a b) a
@@ -63,12 +68,13 @@ subtracted a b = do
 unfoldable pub multiplied : Number → Number → Computed
 multiplied a b = fitted (a .value *ℤ b .value) (scaleOf (places (a .scale) + places (b .scale)))
 
--- 01: "divide first minus second"; "Division truncates toward zero."
+-- a number's value divided by another, given a scale; 01: "Division truncates toward zero."
 unfoldable pub divided : Number → ℤ → ℤ → Computed
 divided a (pos ℕ.zero) scale = ZeroDivisor
 divided a (pos (suc n)) scale = fitted (quotZ (a .value) (pos (suc n))) scale
 divided a (negsuc n) scale = fitted (quotZ (a .value) (negsuc n)) scale
 
+-- 01: "divide first minus second"
 unfoldable pub quotient : Number → Number → Computed
 quotient a b = divided a (b .value) (scaleOf (places (a .scale)) -ℤ scaleOf (places (b .scale)))
 
@@ -81,15 +87,6 @@ computed Subtract a b = subtracted a b
 computed Multiply a b = multiplied a b
 computed Divide a b = quotient a b
 
--- the order of two values by "less"
-abbrev pub orderBy : Bool → Bool → Order
-orderBy Bool.true b = Less
-orderBy Bool.false Bool.true = Greater
-orderBy Bool.false Bool.false = Equal
-
-unfoldable pub orderℤ : ℤ → ℤ → Order
-orderℤ x y = orderBy (ltZ x y) (ltZ y x)
-
--- 01: "compared exactly over the powers of ten up to 10^18": both at 18 places
+-- 01: "compared exactly over the powers of ten up to 10^18": both at the most places
 unfoldable pub compared : Number → Number → Order
-compared a b = orderℤ (valueAt 18 a) (valueAt 18 b)
+compared a b = orderℤ (valueAt maxPlaces a) (valueAt maxPlaces b)

@@ -31,7 +31,7 @@ pub fn rescale(a: Number, scale: i8) -> Computed
     rescaling::at_places(a, places::places_of(scale))
 }
 
-pub fn add(a: Number, b: Number) -> Computed
+pub(crate) fn add(a: Number, b: Number) -> Computed
     ensures { λ r. ⌜ r ≡ added a b ⌝ }
 {
     let x = a.value;
@@ -39,7 +39,7 @@ pub fn add(a: Number, b: Number) -> Computed
     sums::sum_or_difference(x, places::places_in(a), y, places::places_in(b), false)
 }
 
-pub fn subtract(a: Number, b: Number) -> Computed
+pub(crate) fn subtract(a: Number, b: Number) -> Computed
     ensures { λ r. ⌜ r ≡ subtracted a b ⌝ }
 {
     let x = a.value;
@@ -47,7 +47,7 @@ pub fn subtract(a: Number, b: Number) -> Computed
     sums::sum_or_difference(x, places::places_in(a), y, places::places_in(b), true)
 }
 
-pub fn multiply(a: Number, b: Number) -> Computed
+pub(crate) fn multiply(a: Number, b: Number) -> Computed
     ensures { λ r. ⌜ r ≡ multiplied a b ⌝ }
 {
     let x = a.value;
@@ -63,7 +63,7 @@ pub fn multiply(a: Number, b: Number) -> Computed
 }
 
 // The quotient, toward zero.
-pub fn divide(a: Number, b: Number) -> Computed
+pub(crate) fn divide(a: Number, b: Number) -> Computed
     ensures { λ r. ⌜ r ≡ quotient a b ⌝ }
 {
     let y = b.value;

@@ -3,28 +3,17 @@ ghost use mathlib.Core.Path.{_≡_};
 ghost use Prim.Native.Nat.{_*_, _^_, _≤_, _<_};
 ghost use lib.IntN.{pos, _*ℤ_};
 ghost use lib.Signed.{quotZ, remZ};
-ghost use Rattle.decimal.specs.Number.{orderℤ};
+ghost use Rattle.decimal.specs.Number.{maxPlaces};
 ghost use Rattle.decimal.specs.Comparing.{byParts};
 use super::Number;
 use super::places::places_in;
 use super::powers::powers_for;
 use wire::order::Order;
-
-fn value_order(x: i64, y: i64) -> Order
-    ensures { λ r. ⌜ r ≡ orderℤ x y ⌝ }
-{
-    if x < y {
-        return Order::Less;
-    }
-    if y < x {
-        return Order::Greater;
-    }
-    Order::Equal
-}
+use wire::order::signed_order;
 
 // The whole part, cut toward zero. The power is ten to the value's places.
 fn whole(x: i64, power: u64) -> i64
-    requires { ⌜ (0 < power) × (power ≤ 10 ^ 18) ⌝ }
+    requires { ⌜ (0 < power) × (power ≤ 10 ^ maxPlaces) ⌝ }
     ensures { λ r. ⌜ r ≡ quotZ x (pos power) ⌝ }
 {
     x / (power as i64)
@@ -33,7 +22,7 @@ fn whole(x: i64, power: u64) -> i64
 // What the whole part leaves, with the value's sign, times ten to the places that are lacking. It is below the power, and so the product
 // below 10^18.
 fn fraction(x: i64, power: u64, lacking: u64) -> i64
-    requires { ⌜ (0 < power) × (power ≤ 10 ^ 18) × (power * lacking ≤ 10 ^ 18) ⌝ }
+    requires { ⌜ (0 < power) × (power ≤ 10 ^ maxPlaces) × (power * lacking ≤ 10 ^ maxPlaces) ⌝ }
     ensures { λ r. ⌜ r ≡ remZ x (pos power) *ℤ pos lacking ⌝ }
 {
     x % (power as i64) * (lacking as i64)
@@ -46,9 +35,9 @@ pub(crate) fn by_parts(a: Number, b: Number) -> Order
     let x = a.value;
     let y = b.value;
     let t = powers_for(places_in(a), places_in(b));
-    match value_order(whole(x, t.first), whole(y, t.second)) {
+    match signed_order(whole(x, t.first), whole(y, t.second)) {
         Order::Less => Order::Less,
-        Order::Equal => value_order(
+        Order::Equal => signed_order(
             fraction(x, t.first, t.first_lacks),
             fraction(y, t.second, t.second_lacks),
         ),

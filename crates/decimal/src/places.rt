@@ -1,17 +1,21 @@
 // Scales and decimal places.
 ghost use mathlib.Core.Path.{_≡_};
 ghost use Prim.Native.Nat.{_+_, _-_, _≤_, max};
-ghost use Rattle.decimal.specs.Number.{places, scaleOf};
+ghost use Rattle.decimal.specs.Number.{maxPlaces, places, scaleOf};
 use super::Number;
+use wire::limits::MIN_ARITHMETIC_SCALE;
+
+// The decimal places of the least scale.
+pub(crate) const MAX_PLACES: usize = 18;
 
 // The decimal places of a scale.
 pub(crate) fn places_of(scale: i8) -> usize
-    ensures { λ r. ⌜ (r ≡ places scale) × (r ≤ 18) ⌝ }
+    ensures { λ r. ⌜ (r ≡ places scale) × (r ≤ maxPlaces) ⌝ }
 {
     if 0 <= scale {
         0
-    } else if scale < -18 {
-        18
+    } else if scale < MIN_ARITHMETIC_SCALE {
+        MAX_PLACES
     } else {
         (-scale) as usize
     }
@@ -19,7 +23,7 @@ pub(crate) fn places_of(scale: i8) -> usize
 
 // The decimal places of a number.
 pub(crate) fn places_in(a: Number) -> usize
-    ensures { λ r. ⌜ (r ≡ places (a .scale)) × (r ≤ 18) ⌝ }
+    ensures { λ r. ⌜ (r ≡ places (a .scale)) × (r ≤ maxPlaces) ⌝ }
 {
     let scale = a.scale;
     places_of(scale)
@@ -27,7 +31,7 @@ pub(crate) fn places_in(a: Number) -> usize
 
 // The scale of so many decimal places.
 pub(crate) fn scale_of(k: usize) -> i8
-    requires { ⌜ k ≤ 36 ⌝ }
+    requires { ⌜ k ≤ maxPlaces + maxPlaces ⌝ }
     ensures { λ r. ⌜ r ≡ scaleOf k ⌝ }
 {
     -(k as i8)
@@ -40,7 +44,7 @@ pub(crate) fn larger(a: usize, b: usize) -> usize
 }
 
 pub(crate) fn apart(a: usize, b: usize) -> usize
-    requires { ⌜ (a ≤ 18) × (b ≤ 18) ⌝ }
+    requires { ⌜ (a ≤ maxPlaces) × (b ≤ maxPlaces) ⌝ }
     ensures { λ r. ⌜ r ≡ (a - b) + (b - a) ⌝ }
 {
     if a < b { b - a } else { a - b }

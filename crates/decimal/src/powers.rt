@@ -1,9 +1,12 @@
 // The powers of ten.
 ghost use mathlib.Core.Path.{_≡_};
 ghost use Prim.Native.Nat.{_-_, _≤_, _^_, max};
+ghost use Rattle.decimal.specs.Number.{maxPlaces};
+use super::places::MAX_PLACES;
 use super::places::larger;
 
-const POWERS: [u64; 19] = [
+// From ten to the 0 up to ten to the most places.
+const POWERS: [u64; MAX_PLACES + 1] = [
     1,
     10,
     100,
@@ -25,8 +28,9 @@ const POWERS: [u64; 19] = [
     1000000000000000000,
 ];
 
+// Ten to the k.
 pub(crate) fn power(k: usize) -> u64
-    requires { ⌜ k ≤ 18 ⌝ }
+    requires { ⌜ k ≤ maxPlaces ⌝ }
     ensures { λ r. ⌜ r ≡ 10 ^ k ⌝ }
 {
     POWERS[k]
@@ -42,7 +46,7 @@ pub(crate) struct PlacePowers {
 
 // The compiler copies the table to the stack wherever it is read: one copy serves all four.
 pub(crate) fn powers_for(p: usize, q: usize) -> PlacePowers
-    requires { ⌜ (p ≤ 18) × (q ≤ 18) ⌝ }
+    requires { ⌜ (p ≤ maxPlaces) × (q ≤ maxPlaces) ⌝ }
     ensures { λ r. ⌜ (r .first ≡ 10 ^ p) × (r .«first_lacks» ≡ 10 ^ (max p q - p)) ⌝ }
     ensures { λ r. ⌜ (r .second ≡ 10 ^ q) × (r .«second_lacks» ≡ 10 ^ (max p q - q)) ⌝ }
 {

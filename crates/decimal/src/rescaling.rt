@@ -2,7 +2,7 @@
 ghost use mathlib.Core.Path.{_≡_};
 ghost use Prim.Native.Nat.{_≤_, _^_};
 ghost use lib.IntN.{pos, _*ℤ_};
-ghost use Rattle.decimal.specs.Number.{fitted, rescaled};
+ghost use Rattle.decimal.specs.Number.{maxPlaces, fitted, rescaled};
 use super::Computed;
 use super::Number;
 use super::places::larger;
@@ -15,7 +15,7 @@ use super::values::product;
 
 // The value times a power of ten. By no places it is the value, and the table of powers is not read.
 pub(crate) fn raise(x: i64, k: usize, scale: i8) -> Computed
-    requires { ⌜ k ≤ 18 ⌝ }
+    requires { ⌜ k ≤ maxPlaces ⌝ }
     ensures { λ r. ⌜ r ≡ fitted (x *ℤ pos (10 ^ k)) scale ⌝ }
 {
     if k == 0 {
@@ -26,7 +26,7 @@ pub(crate) fn raise(x: i64, k: usize, scale: i8) -> Computed
 
 // The number at k places, or at its own where these are more.
 pub(crate) fn at_places(a: Number, k: usize) -> Computed
-    requires { ⌜ k ≤ 18 ⌝ }
+    requires { ⌜ k ≤ maxPlaces ⌝ }
     ensures { λ r. ⌜ r ≡ rescaled k a ⌝ }
 {
     let x = a.value;

@@ -3,9 +3,14 @@ ghost use mathlib.Core.Path.{_≡_};
 ghost use Prim.Native.Nat.{_≤_};
 ghost use lib.IntN.{natAbs};
 ghost use Rattle.decimal.specs.Number.{fitted};
-ghost use Rattle.decimal.specs.Signs.{isNegative, signed, limitOf};
+ghost use Rattle.decimal.specs.Internal.Signs.{isNegative, signed, limitOf};
 use super::Computed;
 use super::Number;
+
+// The largest magnitude from 0 on, and that below 0.
+const MAX_POSITIVE: u64 = i64::MAX as u64;
+
+const MAX_NEGATIVE: u64 = MAX_POSITIVE + 1;
 
 pub(crate) fn is_negative(x: i64) -> bool
     ensures { λ r. ⌜ r ≡ isNegative x ⌝ }
@@ -24,11 +29,7 @@ pub(crate) fn magnitude(x: i64) -> u64
 fn limit(negative: bool) -> u64
     ensures { λ r. ⌜ r ≡ limitOf negative ⌝ }
 {
-    if negative {
-        9223372036854775808
-    } else {
-        9223372036854775807
-    }
+    if negative { MAX_NEGATIVE } else { MAX_POSITIVE }
 }
 
 // `!(m - 1)` is -m.

@@ -2,7 +2,8 @@
 ghost use mathlib.Core.Path.{_≡_};
 ghost use mathlib.Core.Bool.{cond};
 ghost use Prim.Native.Nat.{_≤_};
-ghost use Rattle.decimal.specs.Sums.{sumAt, sumBeside, sumJoined};
+ghost use Rattle.decimal.specs.Number.{maxPlaces};
+ghost use Rattle.decimal.specs.Internal.Sums.{sumAt, sumBeside, sumJoined};
 use super::Computed;
 use super::Number;
 use super::places::apart;
@@ -38,7 +39,7 @@ fn joined(a: Computed, first: bool, x: i64, y: i64, minus: bool, scale: i8) -> C
 
 // The sum of two values with p and q places, or their difference, at the larger count. The one with fewer places is raised.
 pub(crate) fn sum_or_difference(x: i64, p: usize, y: i64, q: usize, minus: bool) -> Computed
-    requires { ⌜ (p ≤ 18) × (q ≤ 18) ⌝ }
+    requires { ⌜ (p ≤ maxPlaces) × (q ≤ maxPlaces) ⌝ }
     ensures { λ r. ⌜ r ≡ sumAt minus x p y q ⌝ }
 {
     let first = p < q;

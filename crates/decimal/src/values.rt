@@ -4,8 +4,8 @@ ghost use Prim.Native.Nat.{_*_, _^_};
 ghost use lib.Dec.{ltb};
 ghost use lib.IntN.{negℤ, _+ℤ_, _*ℤ_};
 ghost use Rattle.decimal.specs.Number.{fits, fitted, divided};
-ghost use Rattle.decimal.specs.Signs.{signed, complementIf};
-ghost use Rattle.decimal.specs.Sums.{negatedIf};
+ghost use Rattle.decimal.specs.Internal.Signs.{signed, complementIf};
+ghost use Rattle.decimal.specs.Internal.Sums.{negatedIf};
 use super::Computed;
 use super::Number;
 use super::sign::make;
@@ -15,9 +15,9 @@ fn sum_fits(x: i64, y: i64) -> bool
     ensures { λ r. ⌜ r ≡ fits (x +ℤ y) ⌝ }
 {
     if y < 0 {
-        !x < 9223372036854775807 - !y
+        !x < i64::MAX - !y
     } else {
-        x <= 9223372036854775807 - y
+        x <= i64::MAX - y
     }
 }
 
@@ -45,11 +45,7 @@ pub(crate) fn sum(x: i64, y: i64, minus: bool, scale: i8) -> Computed
 fn product_fits(m: u64, n: u64) -> bool
     ensures { λ r. ⌜ r ≡ ltb (m * n) (2 ^ 64) ⌝ }
 {
-    if m == 0 {
-        true
-    } else {
-        n <= 18446744073709551615 / m
-    }
+    if m == 0 { true } else { n <= u64::MAX / m }
 }
 
 // The product of two values by their signs and magnitudes.
@@ -67,7 +63,7 @@ pub(crate) fn product(s: bool, m: u64, t: bool, n: u64, scale: i8) -> Computed
 pub(crate) fn opposite(x: i64, scale: i8) -> Computed
     ensures { λ r. ⌜ r ≡ fitted (negℤ x) scale ⌝ }
 {
-    if x == -9223372036854775808 {
+    if x == i64::MIN {
         Computed::Overflow
     } else {
         Computed::Value(Number { value: -x, scale })

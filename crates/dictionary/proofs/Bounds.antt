@@ -10,7 +10,7 @@ use lib.ListN.{length}
 use borrow.Author.Tests.{ltb-true, leb-true}
 use Rattle.wire.specs.Words.{wordAt}
 use Rattle.dictionary.specs.Naming.{Name}
-use Rattle.dictionary.specs.Walk.{placed, places, between, later, lastOf, isNamed, relationPlace}
+use Rattle.dictionary.specs.Internal.Walk.{placed, places, between, later, lastOf, isNamed, relationPlace}
 
 later-below : (o : Option ℕ) (b : Bool) (q e z : ℕ) → q < e → ((y : ℕ) → o ≡ some y → y < e) → later o b q ≡ some z → z < e
 later-below (some y) b q e z h below is = below z is

@@ -15,8 +15,8 @@ use Rattle.wire.specs.Classes.{Class, due, leftOut, foreign, fieldClass}
 use Rattle.wire.specs.declared.codes.FieldType.{FieldType}
 use Rattle.dictionary.specs.declared.check.Met.{Met}
 use Rattle.dictionary.specs.Format.{fitting}
-use Rattle.dictionary.specs.Dictionary.{Field, Relation, nameAt, goodName, wholeEntry, relationFits, relationEntry, fieldFits, fieldAt, withField, fieldEntry, entry, Checked, proper, atFault, nextEntry, entries, dictionary}
-use Rattle.dictionary.specs.Walk.{kindAt, between, sameRelation, sameField, relationGood, fieldGood, relationMet, fieldMet, meet, onMet, faultFrom, fault}
+use Rattle.dictionary.specs.Dictionary.{kindAt, Field, Relation, nameAt, goodName, wholeEntry, relationFits, relationEntry, fieldFits, fieldAt, withField, fieldEntry, entry, Checked, proper, atFault, nextEntry, entries, dictionary}
+use Rattle.dictionary.specs.Internal.Walk.{between, sameRelation, sameField, relationGood, fieldGood, relationMet, fieldMet, meet, onMet, faultFrom, fault}
 use Rattle.dictionary.proofs.Places.{Walk, here, step, walk-on, last-one, none-between}
 use Rattle.dictionary.proofs.Tests.{or-false, or-swap, not-either, and-shift, both-left, both-right, any-last, any-either}
 

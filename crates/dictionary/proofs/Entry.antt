@@ -15,8 +15,8 @@ use Rattle.wire.specs.declared.codes.FieldType.{FieldType}
 use Rattle.dictionary.specs.declared.check.Met.{Met}
 use Rattle.dictionary.proofs.Bytes.{and-nothing, and-true}
 use Rattle.dictionary.specs.Format.{fitting}
-use Rattle.dictionary.specs.Dictionary.{nameAt, goodName, wholeEntry}
-use Rattle.dictionary.specs.Walk.{kindAt, between, sameRelation, sameField, relationGood, fieldGood, relationMet, fieldMet, meet}
+use Rattle.dictionary.specs.Dictionary.{kindAt, nameAt, goodName, wholeEntry}
+use Rattle.dictionary.specs.Internal.Walk.{between, sameRelation, sameField, relationGood, fieldGood, relationMet, fieldMet, meet}
 
 module _ (d : List ℕ) (p k w b : ℕ) (word : w ≡ wordAt d p) (byte : b ≡ byteAt d (p + k)) where
   pub whole : w ≡ k + 1 + b → leb (p + w) (length d) ≡ wholeEntry d p k

@@ -9,8 +9,8 @@ use lib.Dec.{eqb, ltb}
 use lib.ListN.{length}
 use borrow.Author.Tests.{lt-ltb, le-ltb, eq-eqb, ne-eqb}
 use Rattle.wire.specs.Words.{wordAt}
-use Rattle.dictionary.specs.Dictionary.{Field}
-use Rattle.dictionary.specs.Walk.{kindAt, placed, fieldPlaces, entryField}
+use Rattle.dictionary.specs.Dictionary.{kindAt, Field}
+use Rattle.dictionary.specs.Internal.Walk.{placed, isField, fieldPlaces, entryField}
 
 -- from q to p stand the entries of these fields
 pub data Run (d : List ℕ) : ℕ → List Field → ℕ → Type 0 where
@@ -34,13 +34,13 @@ unfolding Stop
 stop-kind d p h = inr h
 
 stopped : (n : ℕ) (d : List ℕ) (p : ℕ) → Stop d p → fieldPlaces n d p ≡ []
-unfolding fieldPlaces Stop
+unfolding fieldPlaces isField Stop
 stopped zero d p s = refl
 stopped (suc n) d p (inl h) = rw (le-ltb p (length d) h)
 stopped (suc n) d p (inr k) = rw (ne-eqb (kindAt d p) 2 k, and-false)
 
 entered : (n : ℕ) (d : List ℕ) (q : ℕ) → q < length d → 0 < wordAt d q → kindAt d q ≡ 2 → fieldPlaces (suc n) d q ≡ q ∷ fieldPlaces n d (q + wordAt d q)
-unfolding fieldPlaces
+unfolding fieldPlaces isField
 entered n d q h w k = rw (lt-ltb q (length d) h, lt-ltb 0 (wordAt d q) w, eq-eqb (kindAt d q) 2 k)
 
 -- a run up to a stop is all there is

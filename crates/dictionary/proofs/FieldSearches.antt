@@ -11,11 +11,11 @@ use lib.ListN.{length, getElem?}
 use Rattle.wire.specs.Lists.{indexOf, sameBytes}
 use Rattle.dictionary.specs.Dictionary.{Field, nameAt}
 use Rattle.dictionary.specs.Naming.{named, fieldOf}
-use Rattle.dictionary.specs.Walk.{fieldsOf, isField, nextPlace, fieldsFrom, entryField, relationAt}
-use Rattle.dictionary.specs.FieldAnswers.{indexAnswer}
+use Rattle.dictionary.specs.Internal.Walk.{fieldsOf, isField, nextPlace, fieldsFrom, entryField, relationAt}
+use Rattle.dictionary.specs.Internal.FieldAnswers.{indexAnswer}
 use Rattle.dictionary.specs.declared.field.Index.the-variants.{Is, Unknown}
 use Rattle.dictionary.specs.declared.lookup.Place.the-variants.{At as AtPlace, Unknown as NoPlace}
-use Rattle.dictionary.specs.Answers.{placeAnswer}
+use Rattle.dictionary.specs.Internal.Answers.{placeAnswer}
 use Rattle.dictionary.proofs.Fields.{no-more, one-field, of-relation}
 
 -- the name of a field's entry

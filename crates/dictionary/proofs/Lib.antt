@@ -12,3 +12,4 @@ pub mod Searches
 pub mod Bounds
 pub mod Fields
 pub mod FieldSearches
+pub mod FieldFormats

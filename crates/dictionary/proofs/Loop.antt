@@ -14,9 +14,9 @@ use Rattle.wire.specs.declared.codes.FieldType.{FieldType}
 use Rattle.dictionary.specs.declared.check.DictionaryCheck.the-variants.{Proper, Fault}
 use Rattle.dictionary.specs.declared.check.Met.{Met}
 use Rattle.dictionary.specs.declared.check.Meeting.the-variants.{Good, Bad}
-use Rattle.dictionary.specs.Dictionary.{wholeEntry, Checked, proper, atFault, dictionary}
-use Rattle.dictionary.specs.Walk.{kindAt, relationGood, fieldGood, relationMet, fieldMet, meet, onMet, faultFrom, fault}
-use Rattle.dictionary.specs.Answers.{answerOf, meetingOf, faultAnswer}
+use Rattle.dictionary.specs.Dictionary.{kindAt, wholeEntry, Checked, proper, atFault, dictionary}
+use Rattle.dictionary.specs.Internal.Walk.{relationGood, fieldGood, relationMet, fieldMet, meet, onMet, faultFrom, fault}
+use Rattle.dictionary.specs.Internal.Answers.{answerOf, meetingOf, faultAnswer}
 use Rattle.dictionary.proofs.Tests.{both-left, both-right}
 use Rattle.dictionary.proofs.Checked.{faultOf, fault-is, whole-long, whole-inside}
 

@@ -10,7 +10,7 @@ use lib.Dec.{ltb}
 use borrow.Author.Tests.{lt-ltb, le-ltb}
 use Rattle.wire.specs.Words.{wordAt}
 use Rattle.wire.specs.Lists.{anyOf}
-use Rattle.dictionary.specs.Walk.{placed, places, between}
+use Rattle.dictionary.specs.Internal.Walk.{placed, places, between}
 
 -- past the end there is none
 pub none-left : (n : ℕ) (d : List ℕ) (q e : ℕ) → e ≤ q → places n d q e ≡ []

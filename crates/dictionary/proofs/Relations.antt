@@ -12,9 +12,9 @@ use Rattle.wire.specs.Words.{byteAt, wordAt}
 use Rattle.wire.specs.Lists.{find, sameBytes}
 use Rattle.wire.specs.Classes.{Class, due, leftOut, foreign, fieldClass}
 use Rattle.wire.specs.declared.codes.FieldType.{FieldType}
-use Rattle.dictionary.specs.Dictionary.{Field, Relation, nameAt, wholeEntry, relationFits, relationEntry, fieldFits, fieldAt, withField, fieldEntry, entry, Checked, proper, atFault, nextEntry, entries, dictionary}
+use Rattle.dictionary.specs.Dictionary.{kindAt, Field, Relation, nameAt, wholeEntry, relationFits, relationEntry, fieldFits, fieldAt, withField, fieldEntry, entry, Checked, proper, atFault, nextEntry, entries, dictionary}
 use Rattle.dictionary.specs.Naming.{Name, named, numbered, relationOf}
-use Rattle.dictionary.specs.Walk.{kindAt, between, later, lastOf, isNamed, relationPlace, typeOf, entryField, fieldsOf, relationAt}
+use Rattle.dictionary.specs.Internal.Walk.{between, later, lastOf, isNamed, relationPlace, typeOf, entryField, fieldsFrom, fieldsOf, relationAt}
 use Rattle.dictionary.proofs.Places.{Walk, here, walk-on, last-one, none-between}
 use Rattle.dictionary.proofs.Tests.{both-left}
 use Rattle.dictionary.proofs.Checked.{relationTest, whole-long, whole-inside}
@@ -55,7 +55,7 @@ Placed d p [] = Unit {0}
 Placed d p (r ∷ rs) = Open d p r × Closed d rs
 
 close-one : (d : List ℕ) (p : ℕ) (r : Relation) → Open d p r → Stop d p → relationAt d (r .place) ≡ r
-unfolding relationAt fieldsOf
+unfolding relationAt fieldsOf fieldsFrom
 close-one d p r o s =
     let q = r .place + wordAt d (r .place) in
     let f : map (entryField d) (fieldsOf d (r .place)) ≡ r .fields = run-fields (length d) d q p (r .fields) (o .run) s (omega arith) in

@@ -13,10 +13,10 @@ use Rattle.dictionary.specs.declared.lookup.Place.{Place}
 use Rattle.dictionary.specs.declared.lookup.Place.the-variants.{At, Unknown}
 use Rattle.dictionary.specs.declared.lookup.Wanted.{Wanted}
 use Rattle.dictionary.specs.declared.lookup.Wanted.the-variants.{ByName, ById}
-use Rattle.dictionary.specs.Dictionary.{nameAt}
+use Rattle.dictionary.specs.Dictionary.{kindAt, nameAt}
 use Rattle.dictionary.specs.Naming.{Name, named, numbered}
-use Rattle.dictionary.specs.Walk.{kindAt, between, later, lastOf, isNamed, relationPlace}
-use Rattle.dictionary.specs.Answers.{placeAnswer, wantedName}
+use Rattle.dictionary.specs.Internal.Walk.{between, later, lastOf, isNamed, relationPlace}
+use Rattle.dictionary.specs.Internal.Answers.{placeAnswer, wantedName}
 use Rattle.dictionary.proofs.Places.{first, none-between, stuck-between}
 
 -- ---- one entry

@@ -2,9 +2,10 @@
 use Prim.Native.Nat.{ℕ, _+_}
 use mathlib.Core.Bool.{Bool, true, false, _&&_}
 use lib.Dec.{eqb, leb}
-use lib.IntN.{pos, negsuc}
+use lib.IntN.{pos}
 use lib.Signed.{leZ}
 use Rattle.wire.specs.Words.{signed}
+use Rattle.wire.specs.Limits.{minScale, maxTextBytes, shortSize, longSize, dateSize, lengthWord, readingSize}
 use Rattle.wire.specs.declared.codes.Width.{Width}
 use Rattle.wire.specs.declared.codes.Width.the-variants.{Short, Long}
 use Rattle.wire.specs.declared.codes.TextType.{TextType}
@@ -13,7 +14,7 @@ use Rattle.wire.specs.declared.codes.DataType.the-variants.{Number, Date, Chars
 use Rattle.wire.specs.declared.codes.FieldType.{FieldType}
 use Rattle.wire.specs.declared.codes.FieldType.the-variants.{Plain, Reading}
 
--- the type, the scale byte as it stands, and the n of a text
+-- the type, the scale byte as it stands, and the size word
 pub record Format : Type 0 where
   pub type : FieldType
   pub scale : ℕ
@@ -21,21 +22,21 @@ pub record Format : Type 0 where
 
 -- 01: "short 7 and long 8 .. (2 and 4 bytes)"
 abbrev pub widthBytes : Width → ℕ
-widthBytes Short = 2
-widthBytes Long = 4
+widthBytes Short = shortSize
+widthBytes Long = longSize
 
 -- 01: "text 14, varying 37, cstring 40, each with a word n (n, n+2, n bytes)"
 abbrev pub textBytes : TextType → ℕ → ℕ
 textBytes Text n = n
-textBytes Varying n = n + 2
+textBytes Varying n = n + lengthWord
 textBytes Cstring n = n
 
 -- 01: "date 35 (8 bytes)"; "a house reading: 2 bytes, unsigned, with scale"
 abbrev pub typeBytes : FieldType → ℕ → ℕ
 typeBytes (Plain (Number w)) n = widthBytes w
-typeBytes (Plain Date) n = 8
+typeBytes (Plain Date) n = dateSize
 typeBytes (Plain (Chars t)) n = textBytes t n
-typeBytes Reading n = 2
+typeBytes Reading n = readingSize
 
 -- the bytes that a format holds
 unfoldable pub held : Format → ℕ
@@ -43,15 +44,15 @@ held f = typeBytes (f .type) (f .size)
 
 -- 01: "Scales -9 to 0"
 unfoldable pub scaleInRange : ℕ → Bool
-scaleInRange b = leZ (negsuc 8) (signed 1 b) && leZ (signed 1 b) (pos 0)
+scaleInRange b = leZ minScale (signed 1 b) && leZ (signed 1 b) (pos 0)
 
 -- 01: "Text n 1–255."
 unfoldable pub sizeInRange : ℕ → Bool
-sizeInRange n = leb 1 n && leb n 255
+sizeInRange n = leb 1 n && leb n maxTextBytes
 
 -- 01: "size word (2, 4, 8 or n)"; "A scale is -9 to 0, and 0 for text and date."
 abbrev pub fitting : FieldType → ℕ → ℕ → Bool
 fitting (Plain (Number w)) scale size = scaleInRange scale && eqb size (widthBytes w)
-fitting (Plain Date) scale size = eqb scale 0 && eqb size 8
+fitting (Plain Date) scale size = eqb scale 0 && eqb size dateSize
 fitting (Plain (Chars t)) scale size = eqb scale 0 && sizeInRange size
-fitting Reading scale size = scaleInRange scale && eqb size 2
+fitting Reading scale size = scaleInRange scale && eqb size readingSize

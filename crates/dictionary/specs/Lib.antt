@@ -2,6 +2,4 @@
 pub mod Format
 pub mod Dictionary
 pub mod Naming
-pub mod Walk
-pub mod Answers
-pub mod FieldAnswers
+pub mod Internal

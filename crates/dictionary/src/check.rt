@@ -7,21 +7,41 @@ ghost use Rattle.wire.specs.Lists.{anyOf};
 ghost use Rattle.dictionary.specs.Format.{scaleInRange, sizeInRange, fitting};
 ghost use Rattle.dictionary.specs.Dictionary.{wholeEntry, dictionary};
 ghost use Rattle.wire.specs.Words.{byteAt, wordAt};
+ghost use Rattle.wire.specs.Limits.{maxDictionaryBytes};
+ghost use Rattle.wire.specs.Entries.{fieldType, fieldName};
 ghost use Rattle.wire.specs.declared.codes.FieldType.the-variants.{Plain};
 ghost use Rattle.wire.specs.declared.codes.DataType.the-variants.{Number as IsNumber};
 ghost use Rattle.wire.specs.Classes.{fieldClass};
-ghost use Rattle.dictionary.specs.Walk.{between, sameRelation, sameField, sameEntry};
-ghost use Rattle.dictionary.specs.Walk.{relationGood, fieldGood, relationMet, fieldMet, meet};
-ghost use Rattle.dictionary.specs.Answers.{answerOf, meetingOf};
+ghost use Rattle.dictionary.specs.Internal.Walk.{between, sameRelation, sameField, sameEntry};
+ghost use Rattle.dictionary.specs.Internal.Walk.{relationGood, fieldGood, relationMet, fieldMet, meet};
+ghost use Rattle.dictionary.specs.Internal.Answers.{answerOf, meetingOf};
+use crate::format::width_bytes;
 use crate::names::good_name;
 use crate::names::name_at;
 use crate::names::same_bytes;
 use classes::FieldClass;
 use wire::bytes::byte_at;
+use wire::bytes::signed_byte;
 use wire::bytes::word_at;
 use wire::codes::DataType;
 use wire::codes::FieldType;
 use wire::codes::Width;
+use wire::entries::ENTRY_ID;
+use wire::entries::ENTRY_KIND;
+use wire::entries::FIELD_ENTRY;
+use wire::entries::FIELD_NAME;
+use wire::entries::FIELD_SCALE;
+use wire::entries::FIELD_SIZE;
+use wire::entries::FIELD_TYPE;
+use wire::entries::RELATION_ENTRY;
+use wire::entries::RELATION_NAME;
+use wire::limits::DATE_SIZE;
+use wire::limits::MAX_DICTIONARY_BYTES;
+use wire::limits::MAX_FIELDS;
+use wire::limits::MAX_RELATIONS;
+use wire::limits::MAX_TEXT_BYTES;
+use wire::limits::MIN_SCALE;
+use wire::limits::READING_SIZE;
 
 // A dictionary is proper, or has a fault at the start of an entry.
 pub enum DictionaryCheck {
@@ -30,20 +50,20 @@ pub enum DictionaryCheck {
 }
 
 // How far a check has come: relations met, fields of the last, and the place of the last.
-pub struct Met {
+pub(crate) struct Met {
     pub relations: usize,
     pub fields: usize,
     pub last: usize,
 }
 
-pub enum Meeting {
+pub(crate) enum Meeting {
     Good(Met),
     Bad,
 }
 
 // An entry's length word is its whole length, and the entry is whole.
 fn whole_entry(d: &[u8], p: usize, k: usize) -> bool
-    requires { ⌜ (length (now d) ≤ 65535) × ((p ≤ 65535) × (k ≤ 10)) ⌝ }
+    requires { ⌜ (length (now d) ≤ maxDictionaryBytes) × ((p ≤ maxDictionaryBytes) × (k ≤ fieldName)) ⌝ }
     ensures { λ r. ⌜ r ≡ wholeEntry (now (d .entry)) p k ⌝ }
 {
     let n = word_at(d, p) as usize;
@@ -59,14 +79,24 @@ fn whole_entry(d: &[u8], p: usize, k: usize) -> bool
 pub fn scale_in_range(b: u8) -> bool
     ensures { λ r. ⌜ r ≡ scaleInRange b ⌝ }
 {
-    if b < 128 { b == 0 } else { 247 <= b }
+    let scale = signed_byte(b);
+    if MIN_SCALE <= scale {
+        scale <= 0
+    } else {
+        false
+    }
 }
 
 // "Text n 1–255."
 pub fn size_in_range(n: u32) -> bool
     ensures { λ r. ⌜ r ≡ sizeInRange n ⌝ }
 {
-    if n < 1 { false } else { n <= 255 }
+    let size = n as usize;
+    if size < 1 {
+        false
+    } else {
+        size <= MAX_TEXT_BYTES
+    }
 }
 
 fn number_fits(w: Width, scale: u8, size: u32) -> bool
@@ -75,10 +105,7 @@ fn number_fits(w: Width, scale: u8, size: u32) -> bool
     if !scale_in_range(scale) {
         return false;
     }
-    match w {
-        Width::Short => size == 2,
-        Width::Long => size == 4,
-    }
+    size as usize == width_bytes(w)
 }
 
 fn plain_fits(t: DataType, scale: u8, size: u32) -> bool
@@ -86,7 +113,11 @@ fn plain_fits(t: DataType, scale: u8, size: u32) -> bool
 {
     match t {
         DataType::Number(w) => number_fits(w, scale, size),
-        DataType::Date => if scale == 0 { size == 8 } else { false },
+        DataType::Date => if scale == 0 {
+            size as usize == DATE_SIZE
+        } else {
+            false
+        },
         DataType::Chars(x) => if scale == 0 {
             size_in_range(size)
         } else {
@@ -101,7 +132,7 @@ fn fits(t: FieldType, scale: u8, size: u32) -> bool
     match t {
         FieldType::Plain(x) => plain_fits(x, scale, size),
         FieldType::Reading => if scale_in_range(scale) {
-            size == 2
+            size as usize == READING_SIZE
         } else {
             false
         },
@@ -110,37 +141,37 @@ fn fits(t: FieldType, scale: u8, size: u32) -> bool
 
 // The entry at q is a relation's with the id or the name of the one at p.
 fn same_relation(d: &[u8], p: usize, q: usize) -> bool
-    requires { ⌜ (p ≤ 65535) × (q ≤ 65535) ⌝ }
+    requires { ⌜ (p ≤ maxDictionaryBytes) × (q ≤ maxDictionaryBytes) ⌝ }
     ensures { λ r. ⌜ r ≡ sameRelation (now (d .entry)) p q ⌝ }
 {
-    if word_at(d, q + 2) != 1 {
+    if word_at(d, q + ENTRY_KIND) != RELATION_ENTRY {
         return false;
     }
-    if word_at(d, q + 4) == word_at(d, p + 4) {
+    if word_at(d, q + ENTRY_ID) == word_at(d, p + ENTRY_ID) {
         return true;
     }
-    same_bytes(name_at(d, q + 6), name_at(d, p + 6))
+    same_bytes(name_at(d, q + RELATION_NAME), name_at(d, p + RELATION_NAME))
 }
 
 // The entry at q is a field's with the name of the one at p.
 fn same_field(d: &[u8], p: usize, q: usize) -> bool
-    requires { ⌜ (p ≤ 65535) × (q ≤ 65535) ⌝ }
+    requires { ⌜ (p ≤ maxDictionaryBytes) × (q ≤ maxDictionaryBytes) ⌝ }
     ensures { λ r. ⌜ r ≡ sameField (now (d .entry)) p q ⌝ }
 {
-    if !same_bytes(name_at(d, q + 10), name_at(d, p + 10)) {
+    if !same_bytes(name_at(d, q + FIELD_NAME), name_at(d, p + FIELD_NAME)) {
         return false;
     }
-    word_at(d, q + 2) == 2
+    word_at(d, q + ENTRY_KIND) == FIELD_ENTRY
 }
 
 // What must not repeat: a relation's id and name, or a field's name.
-pub enum Unique {
+pub(crate) enum Unique {
     OfRelation,
     OfField,
 }
 
 fn same_entry(u: Unique, d: &[u8], p: usize, q: usize) -> bool
-    requires { ⌜ (p ≤ 65535) × (q ≤ 65535) ⌝ }
+    requires { ⌜ (p ≤ maxDictionaryBytes) × (q ≤ maxDictionaryBytes) ⌝ }
     ensures { λ r. ⌜ r ≡ sameEntry u (now (d .entry)) p q ⌝ }
 {
     match u {
@@ -149,7 +180,8 @@ fn same_entry(u: Unique, d: &[u8], p: usize, q: usize) -> bool
     }
 }
 
-// The word at a place where both its bytes stand: read without a test, since the search reads one beside each earlier entry.
+// The word at a place where both its bytes stand. The search reads one beside each earlier entry, and `wire::bytes::word_at`, which tests for
+// each byte whether it stands there, made the check slower by a fifth: so both are read here without a test.
 fn word_within(d: &[u8], at: usize) -> u32
     requires { ⌜ at + 1 < length (now d) ⌝ }
     ensures { λ r. ⌜ (r ≡ wordAt (now (d .entry)) at) × (r < 65536) ⌝ }
@@ -159,7 +191,7 @@ fn word_within(d: &[u8], at: usize) -> u32
 
 // Whether an entry from a place on and before p has what must not repeat.
 fn taken(u: Unique, d: &[u8], from: usize, p: usize) -> bool
-    requires { ⌜ (length (now d) ≤ 65535) × (p < length (now d)) ⌝ }
+    requires { ⌜ (length (now d) ≤ maxDictionaryBytes) × (p < length (now d)) ⌝ }
     ensures { λ r. ⌜ r ≡ anyOf (sameEntry u (now (d .entry)) p) (between (now (d .entry)) from p) ⌝ }
 {
     let mut q: usize = from;
@@ -177,47 +209,47 @@ fn taken(u: Unique, d: &[u8], from: usize, p: usize) -> bool
 }
 
 fn relation_good(d: &[u8], p: usize, m: Met) -> bool
-    requires { ⌜ (length (now d) ≤ 65535) × (p < length (now d)) ⌝ }
+    requires { ⌜ (length (now d) ≤ maxDictionaryBytes) × (p < length (now d)) ⌝ }
     ensures { λ r. ⌜ r ≡ relationGood (now (d .entry)) p m ⌝ }
 {
-    if !whole_entry(d, p, 6) {
+    if !whole_entry(d, p, RELATION_NAME) {
         return false;
     }
-    if !good_name(name_at(d, p + 6)) {
+    if !good_name(name_at(d, p + RELATION_NAME)) {
         return false;
     }
-    if 32 <= m.relations {
+    if MAX_RELATIONS <= m.relations {
         return false;
     }
     !taken(Unique::OfRelation, d, 0, p)
 }
 
 fn field_good(d: &[u8], p: usize, t: FieldType, m: Met) -> bool
-    requires { ⌜ (length (now d) ≤ 65535) × (p < length (now d)) ⌝ }
+    requires { ⌜ (length (now d) ≤ maxDictionaryBytes) × (p < length (now d)) ⌝ }
     ensures { λ r. ⌜ r ≡ fieldGood (now (d .entry)) p t m ⌝ }
 {
-    if !whole_entry(d, p, 10) {
+    if !whole_entry(d, p, FIELD_NAME) {
         return false;
     }
     let fields = m.fields;
     let last = m.last;
-    if word_at(d, p + 4) as usize != fields {
+    if word_at(d, p + ENTRY_ID) as usize != fields {
         return false;
     }
-    if !fits(t, byte_at(d, p + 7), word_at(d, p + 8)) {
+    if !fits(t, byte_at(d, p + FIELD_SCALE), word_at(d, p + FIELD_SIZE)) {
         return false;
     }
-    if !good_name(name_at(d, p + 10)) {
+    if !good_name(name_at(d, p + FIELD_NAME)) {
         return false;
     }
-    if 64 <= fields {
+    if MAX_FIELDS <= fields {
         return false;
     }
     !taken(Unique::OfField, d, last, p)
 }
 
 fn meet_relation(d: &[u8], p: usize, m: Met) -> Meeting
-    requires { ⌜ ((length (now d) ≤ 65535) × (p < length (now d))) × (m .relations ≤ 65535) ⌝ }
+    requires { ⌜ ((length (now d) ≤ maxDictionaryBytes) × (p < length (now d))) × (m .relations ≤ maxDictionaryBytes) ⌝ }
     ensures { λ r. ⌜ r ≡ meetingOf (relationMet (now (d .entry)) p m) ⌝ }
 {
     if relation_good(d, p, m) {
@@ -232,10 +264,10 @@ fn meet_relation(d: &[u8], p: usize, m: Met) -> Meeting
 }
 
 fn meet_field(d: &[u8], p: usize, m: Met) -> Meeting
-    requires { ⌜ ((length (now d) ≤ 65535) × (p < length (now d))) × (m .fields ≤ 65535) ⌝ }
-    ensures { λ r. ⌜ r ≡ meetingOf (fieldMet (now (d .entry)) p (fieldClass (byteAt (now (d .entry)) (p + 6))) m) ⌝ }
+    requires { ⌜ ((length (now d) ≤ maxDictionaryBytes) × (p < length (now d))) × (m .fields ≤ maxDictionaryBytes) ⌝ }
+    ensures { λ r. ⌜ r ≡ meetingOf (fieldMet (now (d .entry)) p (fieldClass (byteAt (now (d .entry)) (p + fieldType))) m) ⌝ }
 {
-    let c = classes::field_class(byte_at(d, p + 6));
+    let c = classes::field_class(byte_at(d, p + FIELD_TYPE));
     match c {
         FieldClass::Due(t) => {
             if m.relations == 0 {
@@ -258,14 +290,14 @@ fn meet_field(d: &[u8], p: usize, m: Met) -> Meeting
 }
 
 fn meet_entry(d: &[u8], p: usize, m: Met) -> Meeting
-    requires { ⌜ ((length (now d) ≤ 65535) × (p < length (now d))) × ((m .relations ≤ 65535) × (m .fields ≤ 65535)) ⌝ }
+    requires { ⌜ ((length (now d) ≤ maxDictionaryBytes) × (p < length (now d))) × ((m .relations ≤ maxDictionaryBytes) × (m .fields ≤ maxDictionaryBytes)) ⌝ }
     ensures { λ r. ⌜ r ≡ meetingOf (meet (now (d .entry)) p m) ⌝ }
 {
-    let kind = word_at(d, p + 2);
-    if kind == 1 {
+    let kind = word_at(d, p + ENTRY_KIND);
+    if kind == RELATION_ENTRY {
         return meet_relation(d, p, m);
     }
-    if kind == 2 {
+    if kind == FIELD_ENTRY {
         return meet_field(d, p, m);
     }
     Meeting::Bad
@@ -275,7 +307,7 @@ fn meet_entry(d: &[u8], p: usize, m: Met) -> Meeting
 pub fn check(d: &[u8]) -> DictionaryCheck
     ensures { λ r. ⌜ r ≡ answerOf (dictionary (now (d .entry))) ⌝ }
 {
-    if 65535 < d.len() {
+    if MAX_DICTIONARY_BYTES < d.len() {
         return DictionaryCheck::Fault(0);
     }
     let mut m = Met {

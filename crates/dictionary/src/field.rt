@@ -3,20 +3,24 @@ ghost use mathlib.Core.Path.{_≡_};
 ghost use Prim.Native.Nat.{_+_, _<_};
 ghost use lib.ListN.{length, getElem?};
 ghost use Rattle.wire.specs.Lists.{sameBytes};
+ghost use Rattle.wire.specs.Entries.{fieldName};
 ghost use Rattle.dictionary.specs.Dictionary.{nameAt};
 ghost use Rattle.dictionary.specs.Naming.{named, fieldOf};
-ghost use Rattle.dictionary.specs.Walk.{fieldsOf, relationAt, entryField};
-ghost use Rattle.dictionary.specs.Answers.{placeAnswer};
-ghost use Rattle.dictionary.specs.FieldAnswers.{indexAnswer, formatIs};
-use crate::entries::byte_on;
+ghost use Rattle.dictionary.specs.Internal.Walk.{fieldsOf, relationAt, entryField};
+ghost use Rattle.dictionary.specs.Internal.Answers.{placeAnswer};
+ghost use Rattle.dictionary.specs.Internal.FieldAnswers.{indexAnswer, formatIs};
 use crate::entries::is_field;
 use crate::entries::next_place;
 use crate::entries::type_at;
-use crate::entries::word_on;
 use crate::lookup::Place;
 use crate::names::name_at;
 use crate::names::same_bytes;
+use wire::bytes::byte_on;
+use wire::bytes::word_on;
 use wire::codes::FieldType;
+use wire::entries::FIELD_NAME;
+use wire::entries::FIELD_SCALE;
+use wire::entries::FIELD_SIZE;
 
 // The id of a field, or that there is none.
 pub enum Index {
@@ -34,12 +38,12 @@ pub struct Description {
 // Whether the field of the entry at q has a name.
 fn has_name(d: &[u8], q: usize, name: &[u8]) -> bool
     requires { ⌜ q < length (now d) ⌝ }
-    ensures { λ r. ⌜ r ≡ sameBytes (nameAt (now (d .entry)) (q + 10)) (now (name .entry)) ⌝ }
+    ensures { λ r. ⌜ r ≡ sameBytes (nameAt (now (d .entry)) (q + fieldName)) (now (name .entry)) ⌝ }
 {
-    if d.len() - q <= 10 {
+    if d.len() - q <= FIELD_NAME {
         return same_bytes(name_at(d, d.len()), name);
     }
-    same_bytes(name_at(d, q + 10), name)
+    same_bytes(name_at(d, q + FIELD_NAME), name)
 }
 
 // The id of the field of a name.
@@ -81,7 +85,7 @@ pub fn described(d: &[u8], q: usize) -> Description
     let t = type_at(d, q);
     Description {
         data_type: t,
-        scale: byte_on(d, q, 7),
-        size: word_on(d, q, 8),
+        scale: byte_on(d, q, FIELD_SCALE),
+        size: word_on(d, q, FIELD_SIZE),
     }
 }

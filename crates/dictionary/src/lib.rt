@@ -2,5 +2,6 @@
 pub mod check;
 pub mod entries;
 pub mod field;
+pub mod format;
 pub mod lookup;
 pub mod names;

@@ -3,12 +3,18 @@ ghost use mathlib.Core.Path.{_≡_};
 ghost use mathlib.Core.Bool.{cond};
 ghost use Rattle.dictionary.specs.declared.lookup.Place.the-variants.{At};
 ghost use Prim.Native.Nat.{_≤_};
+ghost use Rattle.wire.specs.Limits.{maxDictionaryBytes};
 ghost use Rattle.dictionary.specs.Naming.{named, numbered};
-ghost use Rattle.dictionary.specs.Walk.{isNamed, relationPlace};
-ghost use Rattle.dictionary.specs.Answers.{placeAnswer, wantedName};
+ghost use Rattle.dictionary.specs.Internal.Walk.{isNamed, relationPlace};
+ghost use Rattle.dictionary.specs.Internal.Answers.{placeAnswer, wantedName};
 use crate::names::name_at;
 use crate::names::same_bytes;
 use wire::bytes::word_at;
+use wire::entries::ENTRY_ID;
+use wire::entries::ENTRY_KIND;
+use wire::entries::RELATION_ENTRY;
+use wire::entries::RELATION_NAME;
+use wire::limits::MAX_DICTIONARY_BYTES;
 
 // The place of an entry, or that there is none.
 pub enum Place {
@@ -17,22 +23,22 @@ pub enum Place {
 }
 
 // How a relation is looked for.
-pub enum Wanted {
+pub(crate) enum Wanted {
     ByName,
     ById,
 }
 
 // Whether the entry at q is the relation's that is wanted.
 fn is_wanted(w: Wanted, d: &[u8], name: &[u8], id: u32, q: usize) -> bool
-    requires { ⌜ q ≤ 65535 ⌝ }
+    requires { ⌜ q ≤ maxDictionaryBytes ⌝ }
     ensures { λ r. ⌜ r ≡ isNamed (now (d .entry)) (wantedName w (now (name .entry)) id) q ⌝ }
 {
-    if word_at(d, q + 2) != 1 {
+    if word_at(d, q + ENTRY_KIND) != RELATION_ENTRY {
         return false;
     }
     match w {
-        Wanted::ByName => same_bytes(name_at(d, q + 6), name),
-        Wanted::ById => word_at(d, q + 4) == id,
+        Wanted::ByName => same_bytes(name_at(d, q + RELATION_NAME), name),
+        Wanted::ById => word_at(d, q + ENTRY_ID) == id,
     }
 }
 
@@ -47,7 +53,7 @@ fn find_relation(w: Wanted, d: &[u8], name: &[u8], id: u32) -> Place
     ensures { λ r. ⌜ r ≡ placeAnswer (relationPlace (now (d .entry)) (wantedName w (now (name .entry)) id)) ⌝ }
 {
     let mut found = Place::Unknown;
-    if 65535 < d.len() {
+    if MAX_DICTIONARY_BYTES < d.len() {
         return found;
     }
     let mut q: usize = 0;

@@ -3,9 +3,12 @@ ghost use mathlib.Core.Path.{_≡_};
 ghost use Prim.Native.Nat.{_+_};
 ghost use Rattle.wire.specs.Lists.{sameBytes};
 ghost use Rattle.dictionary.specs.Dictionary.{nameAt, goodName};
+use wire::limits::FIRST_NAME_BYTE;
+use wire::limits::LAST_NAME_BYTE;
+use wire::limits::MAX_NAME_BYTES;
 
 // From the last byte on: the names of one relation often begin alike.
-pub fn same_bytes(a: &[u8], b: &[u8]) -> bool
+pub(crate) fn same_bytes(a: &[u8], b: &[u8]) -> bool
     ensures { λ r. ⌜ r ≡ sameBytes (now (a .entry)) (now (b .entry)) ⌝ }
 {
     if a.len() != b.len() {
@@ -37,21 +40,22 @@ pub fn name_at<'a>(d: &'a [u8], p: usize) -> &'a [u8]
     &d[start..end]
 }
 
-pub fn good_name(s: &[u8]) -> bool
+// "Names have 1 to 31 bytes of 33–126."
+pub(crate) fn good_name(s: &[u8]) -> bool
     ensures { λ r. ⌜ r ≡ goodName (now (s .entry)) ⌝ }
 {
     if s.len() == 0 {
         return false;
     }
-    if 31 < s.len() {
+    if MAX_NAME_BYTES < s.len() {
         return false;
     }
     let mut i = 0;
     while i < s.len() {
-        if s[i] < 33 {
+        if s[i] < FIRST_NAME_BYTE {
             return false;
         }
-        if 126 < s[i] {
+        if LAST_NAME_BYTE < s[i] {
             return false;
         }
         i += 1;

@@ -20,8 +20,8 @@ fn number(value: i64, scale: i8) -> Number {
 
 // "30 scale 0 equals 300 scale -1"
 fn comparisons() {
-    let least = -9223372036854775808;
-    let greatest = 9223372036854775807;
+    let least = i64::MIN;
+    let greatest = i64::MAX;
     order_of_numbers(number(30, 0), number(300, -1));
     order_of_numbers(number(301, -1), number(30, 0));
     order_of_numbers(number(-301, -1), number(-30, 0));
@@ -33,8 +33,8 @@ fn comparisons() {
 
 // "-7 divided by 2 is -3", and both ends of the range.
 fn operations() {
-    let least = -9223372036854775808;
-    let greatest = 9223372036854775807;
+    let least = i64::MIN;
+    let greatest = i64::MAX;
     operation(Operator::Divide, number(-7, 0), number(2, 0));
     operation(Operator::Divide, number(7, 0), number(-2, 0));
     operation(Operator::Divide, number(7, -2), number(2, -1));

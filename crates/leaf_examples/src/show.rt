@@ -7,16 +7,22 @@ use wire::codes::TextSearch;
 use wire::codes::TextType;
 use wire::order::Order;
 
+// Standard output.
+const OUTPUT: i32 = 1;
+
+// The hex digits of a byte.
+const BYTE_DIGITS: usize = 2;
+
 fn print(s: &[u8]) {
-    io::write_all(1, s);
+    io::write_all(OUTPUT, s);
 }
 
 fn signed(n: i64) {
     if n < 0 {
         print(b"-");
-        io::print_decimal(1, (!n) as u64 + 1);
+        io::print_decimal(OUTPUT, (!n) as u64 + 1);
     } else {
-        io::print_decimal(1, n as u64);
+        io::print_decimal(OUTPUT, n as u64);
     }
 }
 
@@ -37,7 +43,7 @@ fn sign(o: Operator) {
     }
 }
 
-pub fn operation(o: Operator, a: Number, b: Number) {
+pub(crate) fn operation(o: Operator, a: Number, b: Number) {
     number(a);
     sign(o);
     number(b);
@@ -59,7 +65,7 @@ fn order(o: Order) {
     }
 }
 
-pub fn order_of_numbers(a: Number, b: Number) {
+pub(crate) fn order_of_numbers(a: Number, b: Number) {
     number(a);
     order(decimal::compare(a, b));
     number(b);
@@ -71,13 +77,13 @@ fn quoted(s: &[u8]) {
     print(b"[");
     let mut i = 0;
     while i < s.len() {
-        io::print_hex(1, s[i] as u64, 2);
+        io::print_hex(OUTPUT, s[i] as u64, BYTE_DIGITS);
         i += 1;
     }
     print(b"]");
 }
 
-pub fn order_of_texts(a: &[u8], b: &[u8]) {
+pub(crate) fn order_of_texts(a: &[u8], b: &[u8]) {
     quoted(a);
     order(text::order::compare(a, b));
     quoted(b);
@@ -92,16 +98,16 @@ fn text_type(t: TextType) {
     }
 }
 
-pub fn part(t: TextType, s: &[u8]) {
+pub(crate) fn part(t: TextType, s: &[u8]) {
     text_type(t);
     quoted(s);
     let p = text::value::text_part(t, s);
     match p {
         TextPart::Is(start, end) => {
             print(b" from ");
-            io::print_decimal(1, start as u64);
+            io::print_decimal(OUTPUT, start as u64);
             print(b" to ");
-            io::print_decimal(1, end as u64);
+            io::print_decimal(OUTPUT, end as u64);
             print(b": ");
             quoted(text::value::text_of(t, s));
         }
@@ -126,7 +132,7 @@ fn verb(t: TextSearch, yes: bool) {
     }
 }
 
-pub fn search(t: TextSearch, a: &[u8], b: &[u8]) {
+pub(crate) fn search(t: TextSearch, a: &[u8], b: &[u8]) {
     quoted(a);
     verb(t, text::search::searched(t, a, b));
     quoted(b);

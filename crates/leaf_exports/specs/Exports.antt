@@ -33,17 +33,41 @@ use Rattle.text.specs.declared.TextPart.the-variants.{Is, Malformed}
 
 -- ---- the numbers that stand for a case
 
+abbrev pub add : ℕ
+add = 0
+
+abbrev pub subtract : ℕ
+subtract = 1
+
+abbrev pub multiply : ℕ
+multiply = 2
+
+abbrev pub negate : ℕ
+negate = 4
+
 unfoldable pub operatorOf : ℕ → Operator
-operatorOf n = cond (eqb n 0) Add (cond (eqb n 1) Subtract (cond (eqb n 2) Multiply Divide))
+operatorOf n = cond (eqb n add) Add (cond (eqb n subtract) Subtract (cond (eqb n multiply) Multiply Divide))
+
+abbrev pub text : ℕ
+text = 0
+
+abbrev pub varying : ℕ
+varying = 1
 
 unfoldable pub textTypeOf : ℕ → TextType
-textTypeOf n = cond (eqb n 0) Text (cond (eqb n 1) Varying Cstring)
+textTypeOf n = cond (eqb n text) Text (cond (eqb n varying) Varying Cstring)
+
+abbrev pub containing : ℕ
+containing = 0
+
+abbrev pub matching : ℕ
+matching = 1
 
 unfoldable pub searchOf : ℕ → TextSearch
-searchOf n = cond (eqb n 0) Containing (cond (eqb n 1) Matching Starting)
+searchOf n = cond (eqb n containing) Containing (cond (eqb n matching) Matching Starting)
 
 unfoldable pub operation : ℕ → Number → Number → Computed
-operation n a b = cond (ltb n 4) (computed (operatorOf n) a b) (cond (eqb n 4) (negated a) (rescaled (places (b .scale)) a))
+operation n a b = cond (ltb n negate) (computed (operatorOf n) a b) (cond (eqb n negate) (negated a) (rescaled (places (b .scale)) a))
 
 -- ---- the numbers that a case gives
 

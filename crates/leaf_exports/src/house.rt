@@ -4,11 +4,11 @@ ghost use mathlib.Core.List.{map};
 ghost use lib.ListN.{length};
 ghost use Rattle.dictionary.specs.Dictionary.{dictionary as checked};
 ghost use Rattle.dictionary.specs.Naming.{named, numbered};
-ghost use Rattle.dictionary.specs.Walk.{relationPlace, relationAt, entryField};
-ghost use Rattle.dictionary.specs.Answers.{answerOf, placeAnswer};
-ghost use Rattle.records.specs.Record.{offsetOf, recordLength, fieldPresence};
+ghost use Rattle.dictionary.specs.Internal.Walk.{relationPlace, relationAt};
+ghost use Rattle.dictionary.specs.Internal.Answers.{answerOf, placeAnswer};
+ghost use Rattle.records.specs.Record.{offsetOf, recordLength};
 ghost use Rattle.records.specs.Record.{records as recordRun};
-ghost use Rattle.records.specs.Answers.{lengthAnswer, runAnswer};
+ghost use Rattle.records.specs.Internal.Answers.{lengthAnswer, presenceIn, runAnswer};
 ghost use Rattle.leaf_exports.specs.Exports.{isProper, faultOf, placeOr, isDue, wrongOf, presenceGiven, lengthOf};
 use dictionary::check::DictionaryCheck;
 use dictionary::lookup::Place;
@@ -102,17 +102,10 @@ fn presence_number(p: Presence) -> u32
 
 // 0 of a field that is there, and otherwise the number of the cause.
 #[no_mangle]
-pub extern "C" fn house_missing(
-    d: &[u8],
-    relation: usize,
-    entry: usize,
-    s: &[u8],
-    p: usize,
-    i: usize,
-) -> u32
-    ensures { λ r. ⌜ r ≡ presenceGiven (fieldPresence (relationAt (now (d .entry)) relation) ((entryField (now (d .entry)) entry) .format) (now (s .entry)) p i) ⌝ }
+pub extern "C" fn house_missing(d: &[u8], relation: usize, s: &[u8], p: usize, i: usize) -> u32
+    ensures { λ r. ⌜ r ≡ presenceGiven (presenceIn (relationAt (now (d .entry)) relation) (now (s .entry)) p i) ⌝ }
 {
-    presence_number(records::missing::field_presence(d, relation, entry, s, p, i))
+    presence_number(records::missing::field_presence(d, relation, s, p, i))
 }
 
 fn length_of(n: Length) -> usize

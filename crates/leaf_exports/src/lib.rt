@@ -17,18 +17,42 @@ use wire::codes::TextSearch;
 use wire::codes::TextType;
 use wire::order::Order;
 
+// The numbers of operations: add, subtract, multiply, divide and negate are 0 to 4.
+const ADD: u8 = 0;
+
+const SUBTRACT: u8 = 1;
+
+const MULTIPLY: u8 = 2;
+
+const NEGATE: u8 = 4;
+
+// Text, varying and cstring are 0, 1 and any other number.
+const TEXT: u8 = 0;
+
+const VARYING: u8 = 1;
+
+// Containing, matching and starting are 0, 1 and any other number.
+const CONTAINING: u8 = 0;
+
+const MATCHING: u8 = 1;
+
+// Refusals.
+const OVERFLOW: u32 = 24;
+
+const ZERO_DIVISOR: u32 = 25;
+
 fn operator_of(o: u8) -> Operator
     ensures { λ r. ⌜ r ≡ operatorOf o ⌝ }
 {
     match o {
-        0 => Operator::Add,
-        1 => Operator::Subtract,
-        2 => Operator::Multiply,
+        ADD => Operator::Add,
+        SUBTRACT => Operator::Subtract,
+        MULTIPLY => Operator::Multiply,
         _ => Operator::Divide,
     }
 }
 
-// Add, subtract, multiply and divide are 0 to 3; 4 is negate; any other brings the first to the scale of the second.
+// Any number above negate's brings the first to the scale of the second.
 // The numbers come by their parts, as the exports have them: a struct would go through memory.
 fn operate(o: u8, a: i64, a_scale: i8, b: i64, b_scale: i8) -> Computed
     ensures { λ r. ⌜ r ≡ operation o (record { value = a; scale = «a_scale» }) (record { value = b; scale = «b_scale» }) ⌝ }
@@ -41,10 +65,10 @@ fn operate(o: u8, a: i64, a_scale: i8, b: i64, b_scale: i8) -> Computed
         value: b,
         scale: b_scale,
     };
-    if o < 4 {
+    if o < NEGATE {
         return decimal::compute(operator_of(o), first, second);
     }
-    if o == 4 {
+    if o == NEGATE {
         return decimal::negate(first);
     }
     decimal::rescale(first, b_scale)
@@ -70,11 +94,11 @@ pub extern "C" fn leaf_compute(
         }
         Computed::Overflow => {
             *answer = [0, 0];
-            24
+            OVERFLOW
         }
         Computed::ZeroDivisor => {
             *answer = [0, 0];
-            25
+            ZERO_DIVISOR
         }
     }
 }
@@ -106,13 +130,12 @@ pub extern "C" fn leaf_compare(a: i64, a_scale: i8, b: i64, b_scale: i8) -> i64
     ))
 }
 
-// Text, varying and cstring are 0, 1 and any other number.
 fn text_type_of(t: u8) -> TextType
     ensures { λ r. ⌜ r ≡ textTypeOf t ⌝ }
 {
     match t {
-        0 => TextType::Text,
-        1 => TextType::Varying,
+        TEXT => TextType::Text,
+        VARYING => TextType::Varying,
         _ => TextType::Cstring,
     }
 }
@@ -168,13 +191,12 @@ pub extern "C" fn leaf_text_compare(a: &[u8], b: &[u8]) -> i64
     sign_of(text::order::compare(a, b))
 }
 
-// Containing, matching and starting are 0, 1 and any other number.
 fn search_of(t: u8) -> TextSearch
     ensures { λ r. ⌜ r ≡ searchOf t ⌝ }
 {
     match t {
-        0 => TextSearch::Containing,
-        1 => TextSearch::Matching,
+        CONTAINING => TextSearch::Containing,
+        MATCHING => TextSearch::Matching,
         _ => TextSearch::Starting,
     }
 }

@@ -1,3 +1,3 @@
 -- The records of a relation.
 pub mod Record
-pub mod Answers
+pub mod Internal

@@ -3,45 +3,28 @@ ghost use mathlib.Core.Path.{_≡_};
 ghost use Prim.Native.Nat.{_+_, _/_, _≤_, _<_};
 ghost use lib.ListN.{take};
 ghost use Rattle.wire.specs.declared.codes.FieldType.the-variants.{Plain};
-ghost use Rattle.dictionary.specs.Format.{widthBytes, textBytes, typeBytes, held};
-ghost use Rattle.dictionary.specs.Walk.{fieldsFrom, relationAt};
+ghost use Rattle.dictionary.specs.Format.{typeBytes, held};
+ghost use Rattle.dictionary.specs.Internal.Walk.{fieldsFrom, relationAt};
 ghost use Rattle.records.specs.Record.{fieldCount, offsetOf, recordLength};
-ghost use Rattle.records.specs.Answers.{formatAt, allHeld, within, lengthAnswer};
+ghost use Rattle.records.specs.Internal.Answers.{formatAt, allHeld, within, lengthAnswer};
 use dictionary::entries::is_field;
 use dictionary::entries::next_place;
 use dictionary::entries::type_at;
-use dictionary::entries::word_on;
+use dictionary::format::text_bytes;
+use dictionary::format::width_bytes;
+use wire::bytes::word_on;
 use wire::codes::DataType;
 use wire::codes::FieldType;
-use wire::codes::TextType;
-use wire::codes::Width;
+use wire::entries::FIELD_SIZE;
+use wire::entries::RECORD_BITS;
+use wire::limits::DATE_SIZE;
+use wire::limits::MAX_RECORD_BYTES;
+use wire::limits::READING_SIZE;
 
 // A length, or that it is above a limit.
 pub enum Length {
     Is(usize),
     Long,
-}
-
-// "short 7 and long 8 .. (2 and 4 bytes)"
-pub fn width_bytes(w: Width) -> usize
-    ensures { λ r. ⌜ r ≡ widthBytes w ⌝ }
-{
-    match w {
-        Width::Short => 2,
-        Width::Long => 4,
-    }
-}
-
-// "text 14, varying 37, cstring 40, each with a word n (n, n+2, n bytes)"
-pub fn text_bytes(t: TextType, n: u32) -> usize
-    ensures { λ r. ⌜ r ≡ textBytes t n ⌝ }
-{
-    let size = n as usize;
-    match t {
-        TextType::Text => size,
-        TextType::Varying => size + 2,
-        TextType::Cstring => size,
-    }
 }
 
 // "date 35 (8 bytes)"
@@ -50,7 +33,7 @@ fn plain_bytes(t: DataType, n: u32) -> usize
 {
     match t {
         DataType::Number(w) => width_bytes(w),
-        DataType::Date => 8,
+        DataType::Date => DATE_SIZE,
         DataType::Chars(x) => text_bytes(x, n),
     }
 }
@@ -61,19 +44,19 @@ fn type_bytes(t: FieldType, n: u32) -> usize
 {
     match t {
         FieldType::Plain(x) => plain_bytes(x, n),
-        FieldType::Reading => 2,
+        FieldType::Reading => READING_SIZE,
     }
 }
 
 // The bytes that a field holds.
-pub fn held_bytes(d: &[u8], q: usize) -> usize
+pub(crate) fn held_bytes(d: &[u8], q: usize) -> usize
     ensures { λ r. ⌜ r ≡ held (formatAt (now (d .entry)) q) ⌝ }
 {
-    type_bytes(type_at(d, q), word_on(d, q, 8))
+    type_bytes(type_at(d, q), word_on(d, q, FIELD_SIZE))
 }
 
 // How many fields a relation has.
-pub fn field_count(d: &[u8], relation: usize) -> usize
+pub(crate) fn field_count(d: &[u8], relation: usize) -> usize
     ensures { λ r. ⌜ r ≡ fieldCount (relationAt (now (d .entry)) relation) ⌝ }
 {
     let mut q = next_place(d, relation);
@@ -119,7 +102,7 @@ fn packed_within(d: &[u8], from: usize, i: usize, start: usize, limit: usize) ->
 pub fn offset_within(d: &[u8], relation: usize, i: usize, limit: usize) -> Length
     ensures { λ r. ⌜ r ≡ within limit (offsetOf (relationAt (now (d .entry)) relation) i) ⌝ }
 {
-    let start = 6 + missing_bytes(field_count(d, relation));
+    let start = RECORD_BITS + missing_bytes(field_count(d, relation));
     if limit < start {
         return Length::Long;
     }
@@ -130,12 +113,12 @@ pub fn offset_within(d: &[u8], relation: usize, i: usize, limit: usize) -> Lengt
 pub fn field_offset(d: &[u8], relation: usize, i: usize) -> Length
     ensures { λ r. ⌜ r ≡ lengthAnswer (offsetOf (relationAt (now (d .entry)) relation) i) ⌝ }
 {
-    offset_within(d, relation, i, 4096)
+    offset_within(d, relation, i, MAX_RECORD_BYTES)
 }
 
 // The length of a relation's record entry.
 pub fn record_length(d: &[u8], relation: usize) -> Length
     ensures { λ r. ⌜ r ≡ lengthAnswer (recordLength (relationAt (now (d .entry)) relation)) ⌝ }
 {
-    offset_within(d, relation, d.len(), 4096)
+    offset_within(d, relation, d.len(), MAX_RECORD_BYTES)
 }

@@ -13,8 +13,8 @@ use lib.ListN.{length, getD, drop, length-drop}
 use lib.Seq.{drop-nil, drop-drop}
 use Rattle.text.specs.declared.matching.Matched.{Matched}
 use Rattle.text.specs.declared.matching.Matched.the-variants.{Yes, No, Never}
-use Rattle.text.specs.Tests.{anyRun-sign, afterRun, afterByte, matches}
-use Rattle.text.specs.Matching.{signMatches, Told}
+use Rattle.text.specs.Tests.{signMatches, anyRun-sign, afterRun, afterByte, matches}
+use Rattle.text.specs.Internal.Matching.{Told}
 
 pub matches-empty : (p t : List ℕ) → length p ≡ 0 → eqb (length t) 0 ≡ matches p t
 unfolding matches

@@ -8,8 +8,9 @@ use native.Mathlib.Nat.{le-of-suc-le-suc, not-suc-le-zero}
 use borrow.Author.Tests.{lt-ltb, le-ltb}
 use lib.ListN.{length, getD}
 use Rattle.wire.specs.declared.order.Order.the-variants.{Less, Equal, Greater}
+use Rattle.wire.specs.Orders.{orderℕ, whereEqual}
 use Rattle.text.specs.Value.{blank}
-use Rattle.text.specs.Tests.{byteOrder, orderFrom, textOrder}
+use Rattle.text.specs.Tests.{orderFrom, textOrder}
 
 -- within a list the default does not count
 pub default-unused : (l : List ℕ) (i d e : ℕ) → i < length l → getD l i d ≡ getD l i e
@@ -30,20 +31,23 @@ module _ (a b : List ℕ) where
     order-end h = let q : n - i ≡ 0 = omega arith in ap (λ (k : ℕ). orderFrom k i a b) q
 
     module _ (h : i < n) {x y : ℕ} (p : x ≡ getD a i blank) (q : y ≡ getD b i blank) where
-      first : orderFrom (n - i) i a b ≡ byteOrder x y (orderFrom (n - suc i) (suc i) a b)
+      first : orderFrom (n - i) i a b ≡ whereEqual (orderℕ x y) (orderFrom (n - suc i) (suc i) a b)
       unfolding orderFrom
       first =
           let e : n - i ≡ suc (n - suc i) = omega arith in
           ap (λ (k : ℕ). orderFrom k i a b) e ∙ rw (p, q)
 
       pub order-less : x < y → orderFrom (n - i) i a b ≡ Less
+      unfolding orderℕ
       order-less l = first ∙ rw (lt-ltb x y l)
 
       pub order-greater : y < x → orderFrom (n - i) i a b ≡ Greater
+      unfolding orderℕ
       order-greater l =
           let m : y ≤ x = omega arith in
           first ∙ rw (le-ltb x y m, lt-ltb y x l)
 
       pub order-same : y ≤ x → x ≤ y → orderFrom (n - i) i a b ≡ orderFrom (n - (i + 1)) (i + 1) a b
+      unfolding orderℕ
       order-same l m =
           first ∙ rw (le-ltb x y l, le-ltb y x m) (ap (λ (j : ℕ). orderFrom (n - j) j a b) (sym (add-one i)))

@@ -16,7 +16,7 @@ use Rattle.wire.specs.declared.codes.TextType.the-variants.{Text, Varying, Cstr
 use Rattle.text.specs.declared.TextPart.{TextPart}
 use Rattle.text.specs.declared.TextPart.the-variants.{Is, Malformed}
 use Rattle.text.specs.Value.{blank, kept, trimmed, cutAt, textPart, bytesOf}
-use Rattle.text.specs.TextRead.{Within, TextRead}
+use Rattle.text.specs.Internal.TextRead.{Within, TextRead}
 
 module _ (s : List ℕ) (p : ℕ) where
   pub kept-none : kept s p 0 ≡ 0

@@ -1,6 +1,4 @@
 -- Texts: the definitions, and what the code's private functions promise.
 pub mod Value
 pub mod Tests
-pub mod TextRead
-pub mod Matching
-pub mod Searching
+pub mod Internal

@@ -2,29 +2,38 @@
 use Prim.Native.Nat.{ℕ, zero, suc, _+_, max}
 use mathlib.Core.Bool.{Bool, true, false, cond, _&&_, _||_}
 use mathlib.Core.List.{List, [], _∷_}
-use lib.Dec.{ltb, leb, eqb}
+use lib.Dec.{leb, eqb}
 use lib.ListN.{length, getD}
 use Rattle.wire.specs.declared.order.Order.{Order}
-use Rattle.wire.specs.declared.order.Order.the-variants.{Less, Equal, Greater}
+use Rattle.wire.specs.declared.order.Order.the-variants.{Equal}
+use Rattle.wire.specs.Orders.{orderℕ, whereEqual}
 use Rattle.wire.specs.declared.codes.TextSearch.{TextSearch}
 use Rattle.wire.specs.declared.codes.TextSearch.the-variants.{Containing, Matching, Starting}
 use Rattle.text.specs.Value.{blank}
 
--- 01: "Order is by unsigned bytes, the shorter padded with blanks."
-abbrev pub byteOrder : ℕ → ℕ → Order → Order
-byteOrder x y rest = cond (ltb x y) Less (cond (ltb y x) Greater rest)
-
+-- the order of n bytes from i on, a blank for each byte past the end
 unfoldable pub orderFrom : ℕ → ℕ → List ℕ → List ℕ → Order
 orderFrom zero i a b = Equal
-orderFrom (suc n) i a b = byteOrder (getD a i blank) (getD b i blank) (orderFrom n (suc i) a b)
+orderFrom (suc n) i a b = whereEqual (orderℕ (getD a i blank) (getD b i blank)) (orderFrom n (suc i) a b)
 
+-- 01: "Order is by unsigned bytes, the shorter padded with blanks."
 unfoldable pub textOrder : List ℕ → List ℕ → Order
 textOrder a b = orderFrom (max (length a) (length b)) 0 a b
 
--- 01: "53 and 54 ignore ASCII case, 55 does not."
-unfoldable pub lowerCase : ℕ → ℕ
-lowerCase c = cond (leb 65 c && leb c 90) (c + 32) c
+-- the capital letters of ASCII, and how far on the small letter of each stands
+abbrev pub firstCapital : ℕ
+firstCapital = 65
 
+abbrev pub lastCapital : ℕ
+lastCapital = 90
+
+abbrev pub toSmall : ℕ
+toSmall = 32
+
+unfoldable pub lowerCase : ℕ → ℕ
+lowerCase c = cond (leb firstCapital c && leb c lastCapital) (c + toSmall) c
+
+-- the same byte but for ASCII case, as `containing` and `matches` have it and `starting` does not; 01: "53 and 54 ignore ASCII case, 55 does not."
 abbrev pub sameLetter : ℕ → ℕ → Bool
 sameLetter x y = eqb (lowerCase x) (lowerCase y)
 
@@ -58,10 +67,14 @@ unfoldable pub afterRun : (List ℕ → Bool) → List ℕ → Bool
 afterRun rest [] = rest []
 afterRun rest (x ∷ t) = rest (x ∷ t) || afterRun rest t
 
+-- the sign c of a pattern, which is no `*`, matches the byte x
+abbrev pub signMatches : ℕ → ℕ → Bool
+signMatches c x = eqb c oneByte-sign || sameLetter c x
+
 -- the sign c of a pattern matches the first byte, and the rest of the pattern the rest
 unfoldable pub afterByte : ℕ → (List ℕ → Bool) → List ℕ → Bool
 afterByte c rest [] = false
-afterByte c rest (x ∷ t) = (eqb c oneByte-sign || sameLetter c x) && rest t
+afterByte c rest (x ∷ t) = signMatches c x && rest t
 
 -- a pattern against a whole text
 unfoldable pub matches : List ℕ → List ℕ → Bool

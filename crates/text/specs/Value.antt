@@ -7,6 +7,7 @@ use mathlib.Core.Option.{Option, none, some}
 use lib.Dec.{eqb, leb}
 use lib.ListN.{take, drop, length}
 use Rattle.wire.specs.Words.{byteAt, wordAt}
+use Rattle.wire.specs.Limits.{lengthWord}
 use Rattle.wire.specs.Lists.{indexOf}
 use Rattle.wire.specs.declared.codes.TextType.{TextType}
 use Rattle.wire.specs.declared.codes.TextType.the-variants.{Text, Varying, Cstring}
@@ -32,7 +33,7 @@ cutAt s (some k) = trimmed s 0 k
 -- the part that is the text, of the bytes that a text holds; 23: "varying length above n, cstring without zero"
 unfoldable pub textPart : TextType → List ℕ → TextPart
 textPart Text s = trimmed s 0 (length s)
-textPart Varying s = cond (leb 2 (length s) && leb (wordAt s 0) (length s - 2)) (trimmed s 2 (wordAt s 0)) Malformed
+textPart Varying s = cond (leb lengthWord (length s) && leb (wordAt s 0) (length s - lengthWord)) (trimmed s lengthWord (wordAt s 0)) Malformed
 textPart Cstring s = cutAt s (indexOf (λ x. eqb x 0) s)
 
 -- the bytes of a part

@@ -1,6 +1,6 @@
 // Texts: the part of a slice that holds one, order, and the three searches.
 mod letters;
-pub mod matching;
+mod matching;
 pub mod order;
 pub mod search;
 pub mod value;

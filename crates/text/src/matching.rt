@@ -3,8 +3,14 @@ use crate::letters::same_letter;
 ghost use mathlib.Core.Path.{_≡_};
 ghost use Prim.Native.Nat.{_<_};
 ghost use lib.ListN.{length, drop};
-ghost use Rattle.text.specs.Tests.{matches};
-ghost use Rattle.text.specs.Matching.{signMatches, Told};
+ghost use Rattle.text.specs.Tests.{signMatches, matches};
+ghost use Rattle.text.specs.Internal.Matching.{Told};
+
+// `*`
+const ANY_RUN: u8 = 42;
+
+// `?`
+const ONE_BYTE: u8 = 63;
 
 // Never: the pattern matches no end of the text, so a run before it needs no more tries.
 enum Matched {
@@ -25,7 +31,7 @@ fn rest(s: &[u8]) -> &[u8]
 fn sign_matches(c: u8, x: u8) -> bool
     ensures { λ r. ⌜ r ≡ signMatches c x ⌝ }
 {
-    if c == 63 {
+    if c == ONE_BYTE {
         return true;
     }
     same_letter(c, x)
@@ -42,7 +48,7 @@ fn answer_of(p: &[u8], t: &[u8]) -> Matched
         return Matched::No;
     }
     let c = p[0];
-    if c == 42 {
+    if c == ANY_RUN {
         match answer_of(rest(p), t) {
             Matched::Yes => {
                 return Matched::Yes;
@@ -68,7 +74,7 @@ fn answer_of(p: &[u8], t: &[u8]) -> Matched
 }
 
 // Whether the text a matches the pattern b.
-pub fn matching(a: &[u8], b: &[u8]) -> bool
+pub(crate) fn matching(a: &[u8], b: &[u8]) -> bool
     ensures { λ r. ⌜ r ≡ matches (now (b .entry)) (now (a .entry)) ⌝ }
 {
     match answer_of(b, a) {

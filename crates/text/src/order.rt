@@ -1,4 +1,5 @@
 // The order of two texts.
+use crate::value::BLANK;
 use wire::order::Order;
 ghost use mathlib.Core.Path.{_≡_};
 ghost use Prim.Native.Nat.{max};
@@ -10,7 +11,7 @@ ghost use Rattle.text.specs.Tests.{textOrder};
 fn padded(s: &[u8], i: usize) -> u8
     ensures { λ r. ⌜ r ≡ getD (now (s .entry)) i blank ⌝ }
 {
-    if i < s.len() { s[i] } else { 32 }
+    if i < s.len() { s[i] } else { BLANK }
 }
 
 fn longer(a: usize, b: usize) -> usize

@@ -6,7 +6,7 @@ ghost use mathlib.Core.Path.{_≡_};
 ghost use Prim.Native.Nat.{_+_, _≤_};
 ghost use lib.ListN.{length, drop};
 ghost use Rattle.text.specs.Tests as tests;
-ghost use Rattle.text.specs.Searching.{sameUnder};
+ghost use Rattle.text.specs.Internal.Searching.{sameUnder};
 
 // Whether two bytes are the same, or the same letter where the case does not count.
 fn same(x: u8, y: u8, folding: bool) -> bool
@@ -30,7 +30,7 @@ fn stands_at(a: &[u8], at: usize, b: &[u8], folding: bool) -> bool
     true
 }
 
-pub fn containing(a: &[u8], b: &[u8]) -> bool
+pub(crate) fn containing(a: &[u8], b: &[u8]) -> bool
     ensures { λ r. ⌜ r ≡ tests.containing (now (a .entry)) (now (b .entry)) ⌝ }
 {
     if b.len() == 0 {
@@ -46,7 +46,7 @@ pub fn containing(a: &[u8], b: &[u8]) -> bool
     false
 }
 
-pub fn starting(a: &[u8], b: &[u8]) -> bool
+pub(crate) fn starting(a: &[u8], b: &[u8]) -> bool
     ensures { λ r. ⌜ r ≡ tests.starting (now (a .entry)) (now (b .entry)) ⌝ }
 {
     if a.len() < b.len() {

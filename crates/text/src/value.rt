@@ -1,11 +1,15 @@
 // The value of a text: the part of the lent slice that holds it, without trailing blanks.
 use crate::TextPart;
+use wire::bytes::word_at;
 use wire::codes::TextType;
+use wire::limits::LENGTH_WORD;
 ghost use mathlib.Core.Path.{_≡_};
 ghost use Prim.Native.Nat.{_+_, _≤_};
 ghost use lib.ListN.{length};
 ghost use Rattle.text.specs.Value.{kept, trimmed, textPart};
-ghost use Rattle.text.specs.TextRead.{TextRead};
+ghost use Rattle.text.specs.Internal.TextRead.{TextRead};
+
+pub(crate) const BLANK: u8 = 32;
 
 // How many of the n bytes from p on are left without the blanks at their end.
 fn kept_length(s: &[u8], p: usize, n: usize) -> usize
@@ -14,7 +18,7 @@ fn kept_length(s: &[u8], p: usize, n: usize) -> usize
 {
     let mut k = n;
     while 0 < k {
-        if s[p + (k - 1)] != 32 {
+        if s[p + (k - 1)] != BLANK {
             return k;
         }
         k = k - 1;
@@ -29,24 +33,18 @@ fn trimmed_part(s: &[u8], p: usize, n: usize) -> TextPart
     TextPart::Is(p, p + kept_length(s, p, n))
 }
 
-fn wide(b: u8) -> usize
-    ensures { λ r. ⌜ r ≡ b ⌝ }
-{
-    b as usize
-}
-
 // A length word, and the text after it.
 fn varying_part(s: &[u8]) -> TextPart
     ensures { λ r. ⌜ r ≡ textPart TextType.Varying (now (s .entry)) ⌝ }
 {
-    if s.len() < 2 {
+    if s.len() < LENGTH_WORD {
         return TextPart::Malformed;
     }
-    let n = wide(s[0]) + 256 * wide(s[1]);
-    if s.len() - 2 < n {
+    let n = word_at(s, 0) as usize;
+    if s.len() - LENGTH_WORD < n {
         return TextPart::Malformed;
     }
-    trimmed_part(s, 2, n)
+    trimmed_part(s, LENGTH_WORD, n)
 }
 
 // The bytes before the first zero.

@@ -38,10 +38,11 @@ pub data Class (A : Type 0) : Type 0 where
   leftOut : Class A
   foreign : Class A
 
--- by a table of the codes that are due and a list of those that are left out
+-- a code that is not due: left out if the list has it, or foreign
 abbrev pub otherwise : {A : Type 0} → List ℕ → ℕ → Class A
 otherwise left c = cond (among c left) leftOut foreign
 
+-- by a table of the codes that are due and a list of those that are left out
 unfoldable pub classify : {A : Type 0} → List (ℕ × A) → List ℕ → ℕ → Class A
 classify [] left c = otherwise left c
 classify (row ∷ rows) left c = cond (eqb c (row .0)) (due (row .1)) (classify rows left c)

@@ -1,6 +1,9 @@
--- Bytes, words, lists and codes.
+-- Bytes, words, lists, codes, sizes, entries and orders.
 pub mod Words
 pub mod Lists
 pub mod Codes
 pub mod Limits
+pub mod Entries
+pub mod Orders
 pub mod Classes
+pub mod Internal

@@ -1,5 +1,5 @@
--- Document 01's greatest sizes, the numbers of a row, and the least sizes of the three tables, by name.
-use Prim.Native.Nat.{ℕ, _*_}
+-- Document 01's greatest sizes, the bytes of each type, the numbers of a row, and the least sizes of the three tables, by name.
+use Prim.Native.Nat.{ℕ}
 use lib.IntN.{ℤ, negsuc}
 
 -- 01: "Request and dictionary 65,535 bytes."
@@ -63,11 +63,35 @@ minArithmeticScale = negsuc 17
 abbrev pub maxNameBytes : ℕ
 maxNameBytes = 31
 
+abbrev pub firstNameByte : ℕ
+firstNameByte = 33
+
+abbrev pub lastNameByte : ℕ
+lastNameByte = 126
+
+-- 01: "short 7 and long 8 .. (2 and 4 bytes); date 35 (8 bytes)"
+abbrev pub shortSize : ℕ
+shortSize = 2
+
+abbrev pub longSize : ℕ
+longSize = 4
+
+abbrev pub dateSize : ℕ
+dateSize = 8
+
+-- 01: "a varying's follows its length word"
+abbrev pub lengthWord : ℕ
+lengthWord = 2
+
+-- 01: "a house reading: 2 bytes"
+abbrev pub readingSize : ℕ
+readingSize = 2
+
 -- 01: "or if it is a reading of 65535"
 abbrev pub missingReading : ℕ
 missingReading = 65535
 
--- the numbers of a row: 01, "Rows"
+-- the numbers of a row of each table; 01: "four-, six- and five-number rows"
 abbrev pub statementRowNumbers : ℕ
 statementRowNumbers = 4
 

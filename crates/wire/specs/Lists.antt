@@ -1,4 +1,4 @@
--- Searches in a list, by a test.
+-- Searches in a list by a test, sums over a list, equal bytes, and what may be there or not.
 use Prim.Native.Nat.{ℕ, suc, _+_}
 use mathlib.Core.Bool.{Bool, true, false, cond, _&&_, _||_}
 use mathlib.Core.List.{List, [], _∷_}

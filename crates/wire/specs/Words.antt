@@ -3,10 +3,8 @@ use Prim.Native.Nat.{ℕ, _+_, _*_, _-_, _^_, _/_, _%_}
 use mathlib.Core.List.{List, [], _∷_, _++_}
 use mathlib.Core.Bool.{cond}
 use lib.Dec.{ltb}
-use lib.ListN.{length, getD}
+use lib.ListN.{getD}
 use lib.IntN.{ℤ, pos, subℕ}
-use Rattle.wire.specs.declared.bytes.Byte.{Byte}
-use Rattle.wire.specs.declared.bytes.Byte.the-variants.{Is, Ended}
 
 -- the byte at a place; 0 past the end
 abbrev pub byteAt : List ℕ → ℕ → ℕ
@@ -34,7 +32,3 @@ twos half n = cond (ltb n half) (pos n) (subℕ n (2 * half))
 -- a number of w bytes, signed, over the width
 unfoldable pub signed : ℕ → ℕ → ℤ
 signed w n = twos (2 ^ (8 * w - 1)) n
-
--- the byte at a place, or that there is none
-unfoldable pub foundAt : List ℕ → ℕ → Byte
-foundAt s p = cond (ltb p (length s)) (Is (byteAt s p)) Ended

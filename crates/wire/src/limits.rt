@@ -1,5 +1,5 @@
-// Document 01's greatest sizes, the numbers of a row, and the least sizes of the three tables, by name. They are the numbers of
-// specs/Limits.antt.
+// Document 01's greatest sizes, the bytes of each type, the numbers of a row, and the least sizes of the three tables, by name. They are
+// the numbers of specs/Limits.antt.
 
 // "Request and dictionary 65,535 bytes."
 pub const MAX_REQUEST_BYTES: usize = 65535;
@@ -34,6 +34,8 @@ pub const MAX_TEXT_BYTES: usize = 255;
 
 pub const MAX_STREAMS: usize = 8;
 
+pub const MAX_SORT_VALUES: usize = 8;
+
 // "Scales -9 to 0; arithmetic -18 to 0."
 pub const MIN_SCALE: i8 = -9;
 
@@ -41,6 +43,23 @@ pub const MIN_ARITHMETIC_SCALE: i8 = -18;
 
 // "Names have 1 to 31 bytes of 33–126."
 pub const MAX_NAME_BYTES: usize = 31;
+
+pub const FIRST_NAME_BYTE: u8 = 33;
+
+pub const LAST_NAME_BYTE: u8 = 126;
+
+// "short 7 and long 8 .. (2 and 4 bytes); date 35 (8 bytes)"
+pub const SHORT_SIZE: usize = 2;
+
+pub const LONG_SIZE: usize = 4;
+
+pub const DATE_SIZE: usize = 8;
+
+// "a varying's follows its length word"
+pub const LENGTH_WORD: usize = 2;
+
+// "a house reading: 2 bytes"
+pub const READING_SIZE: usize = 2;
 
 // "if it is a reading of 65535"
 pub const MISSING_READING: u32 = 65535;

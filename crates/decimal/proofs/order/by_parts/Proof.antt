@@ -7,8 +7,9 @@ use mir.Syntax.{w64}
 use mir.Val.{toZ, ofZ}
 use Rattle.wire.specs.declared.order.Order.{Order}
 use Rattle.decimal.specs.declared.Number.{Number}
-use Rattle.decimal.specs.Number.{places, common, orderℤ}
-use Rattle.decimal.specs.Comparing.{fractionAt, whereEqual, byParts}
+use Rattle.decimal.specs.Number.{places, common}
+use Rattle.wire.specs.Orders.{orderℤ, whereEqual}
+use Rattle.decimal.specs.Comparing.{fractionAt, byParts}
 use Rattle.decimal.proofs.Bits.{read-back}
 use Rattle.decimal.proofs.Scales.{places-le}
 use Rattle.decimal.proofs.Working.{power-in, product-in, whole-found, fraction-found, in-order}
@@ -55,17 +56,17 @@ module _ (s : tie.After-powers-for) where
   value-second = read-back w64 (second .value) (s .before .before .before .struct-told2 .given .0 .1)
 
 -- the order of the whole parts, as a match told it
-module _ (t : tie.After-value-order) where
+module _ (t : tie.After-signed-order) where
   abbrev a : Number
   a = first (t .before .before .before)
 
   abbrev b : Number
   b = second (t .before .before .before)
 
-  decided : {o : Order} → t .value-order .result ≡ o → whereEqual o (orderℤ (fractionAt (common a b) a) (fractionAt (common a b) b)) ≡ byParts a b
+  decided : {o : Order} → t .signed-order .result ≡ o → whereEqual o (orderℤ (fractionAt (common a b) a) (fractionAt (common a b) b)) ≡ byParts a b
   decided told =
       let s = t .before .before .before in
-      in-order a b (t .value-order .ensures)
+      in-order a b (t .signed-order .ensures)
       (whole-found a (t .before .before .whole .ok) (t .before .before .whole .ensures) (value-first s) (power-first s))
       (whole-found b (t .before .whole2 .ok) (t .before .whole2 .ensures) (value-second s) (power-second s)) told
 
@@ -84,8 +85,8 @@ whole-requires c κs = fits-first c
 whole-requires-2 : tie.Need-whole-requires-2
 whole-requires-2 c κs = fits-second (c .before)
 
-value-order-requires : tie.Need-value-order-requires
-value-order-requires c κs = search needs
+signed-order-requires : tie.Need-signed-order-requires
+signed-order-requires c κs = search needs
 
 enum-told : tie.Need-enum-told
 enum-told c = search needs
@@ -105,8 +106,8 @@ fraction-requires-2 c κs =
     let l : places (second s .scale) ≤ common (first s) (second s) = omega arith in
     (fits-second s .0, fits-second s .1, product-in (places (second s .scale)) (common (first s) (second s)) l (most s) (power-second s) (lacks-second s))
 
-value-order-requires-2 : tie.Need-value-order-requires-2
-value-order-requires-2 c κs = search needs
+signed-order-requires-2 : tie.Need-signed-order-requires-2
+signed-order-requires-2 c κs = search needs
 
 enum-told-3 : tie.Need-enum-told-3
 enum-told-3 c = search needs
@@ -119,7 +120,7 @@ returns-2 c =
     let t = c .before .before .before .before .before in
     let s = t .before .before .before in
     let k = common (first s) (second s) in
-    c .value-order2 .ensures
+    c .signed-order2 .ensures
     ∙ ap₂ orderℤ
     (fraction-found k (first s) (c .before .before .fraction .ok) (c .before .before .fraction .ensures) (value-first s) (power-first s) (lacks-first s))
     (fraction-found k (second s) (c .before .fraction2 .ok) (c .before .fraction2 .ensures) (value-second s) (power-second s) (lacks-second s))
@@ -137,12 +138,12 @@ by-parts-spec =
     powers-for-requires
     whole-requires
     whole-requires-2
-    value-order-requires
+    signed-order-requires
     enum-told
     enum-told-2
     fraction-requires
     fraction-requires-2
-    value-order-requires-2
+    signed-order-requires-2
     enum-told-3
     returns
     returns-2

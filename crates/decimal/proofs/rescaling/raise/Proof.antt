@@ -4,7 +4,7 @@ use borrow.Author.Needs.{needs}
 use lib.IntN.{pos, _*ℤ_}
 use mir.Facts.{toZ-ofZ}
 use Rattle.decimal.specs.Number.{fitted}
-use Rattle.decimal.specs.Signs.{signed}
+use Rattle.decimal.specs.Internal.Signs.{signed}
 use Rattle.decimal.proofs.Fitted.{made, raised-by-none}
 use Rattle.decimal.proofs.Signed.{parts}
 use Rattle.decimal.proofs.rescaling.raise.Statement.{statement}

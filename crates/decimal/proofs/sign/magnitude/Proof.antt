@@ -9,7 +9,7 @@ use lib.Signed.{mag}
 use mir.Syntax.{w64}
 use mir.Val.{toZ, ofZ}
 use mir.Facts.{toZ-ofZ}
-use Rattle.decimal.specs.Signs.{isNegative}
+use Rattle.decimal.specs.Internal.Signs.{isNegative}
 use Rattle.decimal.proofs.Bits.{negative-test, complement, mag-suc, pos-of, natAbs-of}
 use Rattle.decimal.proofs.sign.magnitude.Statement.{statement}
 use Rattle.decimal.proofs.sign.magnitude.Tie as tie

@@ -5,7 +5,7 @@ use native.Mathlib.Omega.{arith}
 use borrow.Author.Needs.{needs}
 use mir.Syntax.{w64}
 use mir.Facts.{toZ-ofZ}
-use Rattle.decimal.specs.Signs.{limitOf}
+use Rattle.decimal.specs.Internal.Signs.{limitOf}
 use Rattle.decimal.proofs.Bits.{read-back}
 use Rattle.decimal.proofs.Fitted.{made, fits-out, within-limit, past-limit}
 use Rattle.decimal.proofs.sign.make.Statement.{statement}

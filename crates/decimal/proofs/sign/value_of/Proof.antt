@@ -5,7 +5,7 @@ use native.Mathlib.Omega.{arith}
 use borrow.Author.Needs.{needs}
 use mir.Syntax.{w64}
 use mir.Facts.{toZ-pos}
-use Rattle.decimal.specs.Signs.{signed}
+use Rattle.decimal.specs.Internal.Signs.{signed}
 use Rattle.decimal.proofs.Bits.{complement-less}
 use Rattle.decimal.proofs.sign.value_of.Statement.{statement}
 use Rattle.decimal.proofs.sign.value_of.Tie as tie

@@ -6,7 +6,7 @@ use lib.IntN.{ℤ, _+ℤ_}
 use mir.Syntax.{w64}
 use mir.Facts.{toZ-ofZ}
 use Rattle.decimal.specs.Number.{fitted}
-use Rattle.decimal.specs.Sums.{negatedIf}
+use Rattle.decimal.specs.Internal.Sums.{negatedIf}
 use Rattle.decimal.proofs.Bits.{read-back}
 use Rattle.decimal.proofs.sums.beside.Statement.{statement}
 use Rattle.decimal.proofs.sums.beside.Tie as tie

@@ -5,7 +5,7 @@ use borrow.Author.Tests.{ltb-true, ltb-false}
 use mir.Syntax.{w64}
 use mir.Val.{toZ, ofZ}
 use mir.Facts.{toZ-ofZ}
-use Rattle.decimal.specs.Signs.{complementIf}
+use Rattle.decimal.specs.Internal.Signs.{complementIf}
 use Rattle.decimal.proofs.Bits.{read-back}
 use Rattle.decimal.proofs.Fitted.{made, fits-out}
 use Rattle.decimal.proofs.Ranges.{sum-is, sum-mag}

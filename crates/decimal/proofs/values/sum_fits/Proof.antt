@@ -2,7 +2,7 @@
 use mathlib.Core.Path.{_≡_, sym, _∙_}
 use mathlib.Core.Bool.{true, false}
 use mir.Facts.{toZ-ofZ}
-use Rattle.decimal.specs.Signs.{isNegative}
+use Rattle.decimal.specs.Internal.Signs.{isNegative}
 use Rattle.decimal.proofs.Bits.{negative-test, complement-of}
 use Rattle.decimal.proofs.Ranges.{below-range, below-test, above-range, above-test}
 use Rattle.decimal.proofs.values.sum_fits.Statement.{statement}

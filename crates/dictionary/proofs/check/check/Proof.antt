@@ -4,7 +4,7 @@ use mathlib.Core.Path.{_≡_, sym, ap, subst, _∙_}
 use Prim.Native.Nat.{_-_, _+_, _<_, _≤_}
 use lib.ListN.{length}
 use Rattle.wire.specs.Words.{wordAt}
-use Rattle.dictionary.specs.Walk.{meet}
+use Rattle.dictionary.specs.Internal.Walk.{meet}
 use Rattle.dictionary.proofs.Loop.{Going, begins, goes-on, stops, ends, too-long, stepped, met-some, met-none}
 use Rattle.dictionary.proofs.check.check.Statement.{statement}
 use Rattle.dictionary.proofs.check.check.Tie as tie

@@ -1,6 +1,6 @@
 use Rattle.dictionary.proofs.Entry.{meet-relation, meet-field, meet-other}
 use mathlib.Core.Path.{_≡_, sym, ap, _∙_}
-use Rattle.dictionary.specs.Answers.{meetingOf}
+use Rattle.dictionary.specs.Internal.Answers.{meetingOf}
 use borrow.Author.Needs.{needs}
 use Rattle.dictionary.proofs.check.meet_entry.Statement.{statement}
 use Rattle.dictionary.proofs.check.meet_entry.Tie as tie

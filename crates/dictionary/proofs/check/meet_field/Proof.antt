@@ -4,8 +4,8 @@ use Prim.Native.Nat.{_+_}
 use Rattle.wire.specs.Words.{byteAt}
 use Rattle.wire.specs.Classes.{due, foreign, fieldClass}
 use Rattle.classes.specs.Classes.{fieldClassOf}
-use Rattle.dictionary.specs.Walk.{fieldMet}
-use Rattle.dictionary.specs.Answers.{meetingOf}
+use Rattle.dictionary.specs.Internal.Walk.{fieldMet}
+use Rattle.dictionary.specs.Internal.Answers.{meetingOf}
 use borrow.Author.Needs.{needs}
 use Rattle.dictionary.proofs.check.meet_field.Statement.{statement}
 use Rattle.dictionary.proofs.check.meet_field.Tie as tie

@@ -1,4 +1,4 @@
-use Rattle.dictionary.specs.Walk.{relationMet}
+use Rattle.dictionary.specs.Internal.Walk.{relationMet}
 use borrow.Author.Needs.{needs}
 use Rattle.dictionary.proofs.check.meet_relation.Statement.{statement}
 use Rattle.dictionary.proofs.check.meet_relation.Tie as tie

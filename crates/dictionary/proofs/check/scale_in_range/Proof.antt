@@ -1,19 +1,22 @@
-use Rattle.dictionary.proofs.Ranges.{scale-low, scale-high}
-use native.Mathlib.Omega.{arith}
-use lib.ListN.{length-set}
+use mathlib.Core.Path.{_∙_}
 use borrow.Author.Needs.{needs}
+use mir.Facts.{toZ-ofZ}
+use Rattle.dictionary.proofs.Ranges.{scale-by}
 use Rattle.dictionary.proofs.check.scale_in_range.Statement.{statement}
 use Rattle.dictionary.proofs.check.scale_in_range.Tie as tie
-use Rattle.dictionary.proofs.check.scale_in_range.Reads as reads
-use Rattle.dictionary.proofs.check.scale_in_range.Lts as lts
 
--- src/check.rt:52:1
+signed-byte-requires : tie.Need-signed-byte-requires
+signed-byte-requires c κs = search needs
+
 returns : tie.Need-returns
-returns c = scale-low (c .before .args .b) (c .if1 .taken)
+returns c =
+    let signed-byte′ = c .before .signed-byte in
+    scale-by _ _ (toZ-ofZ (record { sfits = signed-byte′ .ok }) ∙ signed-byte′ .ensures) (c .if1 .taken)
 
--- src/check.rt:52:1
 returns-2 : tie.Need-returns-2
-returns-2 c = scale-high (c .before .args .b) (c .if1 .left) (omega arith)
+returns-2 c =
+    let signed-byte′ = c .before .signed-byte in
+    scale-by _ _ (toZ-ofZ (record { sfits = signed-byte′ .ok }) ∙ signed-byte′ .ensures) (c .if1 .left)
 
 pub scale-in-range-spec : {M : Type 1} → statement M
-scale-in-range-spec = tie.close (tie.spec returns returns-2)
+scale-in-range-spec = tie.close (tie.spec signed-byte-requires returns returns-2)

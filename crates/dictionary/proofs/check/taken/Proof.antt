@@ -4,7 +4,7 @@ use mathlib.Core.Path.{_≡_, refl, sym, ap, _∙_}
 use Prim.Native.Nat.{_≤_, _<_, _-_, _+_}
 use Rattle.wire.specs.Words.{wordAt}
 use Rattle.wire.specs.Lists.{anyOf}
-use Rattle.dictionary.specs.Walk.{between, sameEntry}
+use Rattle.dictionary.specs.Internal.Walk.{between, sameEntry}
 use Rattle.dictionary.proofs.Places.{scan-stuck, scan-found, scan-next, scan-end}
 use Rattle.dictionary.proofs.check.taken.Statement.{statement}
 use Rattle.dictionary.proofs.check.taken.Tie as tie

@@ -1,12 +1,12 @@
-use Rattle.dictionary.specs.Walk.{entryField}
+use Rattle.dictionary.specs.Internal.Walk.{entryField}
 use borrow.Author.Needs.{needs}
 use Rattle.dictionary.proofs.field.described.Statement.{statement}
 use Rattle.dictionary.proofs.field.described.Tie as tie
 use Rattle.dictionary.proofs.field.described.Reads as reads
 use Rattle.dictionary.proofs.field.described.Lts as lts
-use Rattle.dictionary.proofs.entries.byte_on.Reads as byte-on-reads
+use Rattle.wire.proofs.bytes.byte_on.Reads as byte-on-reads
 use Rattle.dictionary.proofs.entries.type_at.Reads as type-at-reads
-use Rattle.dictionary.proofs.entries.word_on.Reads as word-on-reads
+use Rattle.wire.proofs.bytes.word_on.Reads as word-on-reads
 
 -- src/field.rt:81:9
 type-at-requires : tie.Need-type-at-requires

@@ -4,9 +4,9 @@ use Prim.Native.Nat.{_≤_, _<_, _-_, _+_}
 use Rattle.dictionary.proofs.Fields.{inside, further}
 use lib.ListN.{length, getElem?, length-set}
 use mathlib.Core.Bool.{true, false}
-use Rattle.dictionary.specs.Walk.{isField, nextPlace, fieldsFrom, fieldsOf, relationAt}
+use Rattle.dictionary.specs.Internal.Walk.{isField, nextPlace, fieldsFrom, fieldsOf, relationAt}
 use Rattle.dictionary.proofs.FieldSearches.{entry-start, entry-end, entry-here, entry-next}
-use Rattle.dictionary.specs.Answers.{placeAnswer}
+use Rattle.dictionary.specs.Internal.Answers.{placeAnswer}
 use borrow.Author.Needs.{needs}
 use Rattle.dictionary.proofs.field.field_entry.Statement.{statement}
 use Rattle.dictionary.proofs.field.field_entry.Tie as tie

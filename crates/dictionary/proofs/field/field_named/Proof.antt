@@ -4,9 +4,9 @@ use Prim.Native.Nat.{_≤_, _<_, _-_, _+_}
 use Rattle.dictionary.proofs.Fields.{inside, further}
 use lib.ListN.{length, getElem?, length-set}
 use mathlib.Core.Bool.{true, false}
-use Rattle.dictionary.specs.Walk.{isField, nextPlace, fieldsFrom, fieldsOf, relationAt}
+use Rattle.dictionary.specs.Internal.Walk.{isField, nextPlace, fieldsFrom, fieldsOf, relationAt}
 use Rattle.dictionary.proofs.FieldSearches.{hasName, passed, named-start, named-end, named-here, named-next}
-use Rattle.dictionary.specs.FieldAnswers.{indexAnswer}
+use Rattle.dictionary.specs.Internal.FieldAnswers.{indexAnswer}
 use Rattle.wire.specs.Lists.{indexOf}
 use Rattle.dictionary.specs.Naming.{named, fieldOf}
 use borrow.Author.Needs.{needs}

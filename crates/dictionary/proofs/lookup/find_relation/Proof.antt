@@ -7,8 +7,8 @@ use Rattle.wire.specs.Words.{wordAt}
 use mathlib.Core.Option.{none, some}
 use mathlib.Core.Bool.{cond}
 use Rattle.dictionary.specs.declared.lookup.Place.the-variants.{At}
-use Rattle.dictionary.specs.Walk.{between, lastOf, isNamed, relationPlace}
-use Rattle.dictionary.specs.Answers.{placeAnswer, wantedName}
+use Rattle.dictionary.specs.Internal.Walk.{between, lastOf, isNamed, relationPlace}
+use Rattle.dictionary.specs.Internal.Answers.{placeAnswer, wantedName}
 use borrow.Author.Needs.{needs}
 use Rattle.dictionary.proofs.lookup.find_relation.Statement.{statement}
 use Rattle.dictionary.proofs.lookup.find_relation.Tie as tie

@@ -7,7 +7,7 @@ use lib.Signed.{mag}
 use mir.Syntax.{w64}
 use mir.Val.{toZ, ofZ}
 use mir.Facts.{toZ-ofZ}
-use Rattle.decimal.specs.Signs.{isNegative}
+use Rattle.decimal.specs.Internal.Signs.{isNegative}
 use Rattle.decimal.proofs.Bits.{negative-test, complement, pos-of, natAbs-of}
 use lib.ListN.{length-set}
 use borrow.Author.Needs.{needs}

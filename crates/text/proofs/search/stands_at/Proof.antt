@@ -6,7 +6,7 @@ use mathlib.Core.Path.{_≡_, sym, ap, _∙_}
 use lib.ListN.{length, drop, length-drop}
 use borrow.Author.Tests.{not-true, not-false}
 use Rattle.text.proofs.SearchLaws.{starts-differ, starts-agree, starts-empty}
-use Rattle.text.specs.Searching.{sameUnder}
+use Rattle.text.specs.Internal.Searching.{sameUnder}
 use Rattle.text.specs.Tests.{startsBy}
 use Rattle.text.proofs.search.stands_at.Statement.{statement}
 use Rattle.text.proofs.search.stands_at.Tie as tie

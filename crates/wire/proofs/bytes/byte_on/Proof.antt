@@ -1,43 +1,33 @@
 use Prim.Native.Nat.{_+_}
 use native.Mathlib.Omega.{arith}
-use Rattle.wire.proofs.Past.{past}
-use lib.ListN.{length-set}
 use borrow.Author.Needs.{needs}
+use Rattle.wire.proofs.Past.{past}
 use Rattle.wire.proofs.bytes.byte_on.Statement.{statement}
 use Rattle.wire.proofs.bytes.byte_on.Tie as tie
-use Rattle.wire.proofs.bytes.byte_on.Reads as reads
-use Rattle.wire.proofs.bytes.byte_on.Lts as lts
-use Rattle.wire.proofs.bytes.wide.Reads as wide-reads
 
--- src/bytes.rt:40:16
 sub-if2 : tie.Need-sub-if2
 sub-if2 c = search needs
 
--- src/bytes.rt:41:27
-add-wide : tie.Need-add-wide
-add-wide c = search needs
+add-result : tie.Need-add-result
+add-result c = search needs
 
--- src/bytes.rt:41:25
-shared-slice-read-wide : tie.Need-shared-slice-read-wide
-shared-slice-read-wide c = search needs
+shared-slice-read-result : tie.Need-shared-slice-read-result
+shared-slice-read-result c = search needs
 
--- src/bytes.rt:41:13
-wide-requires : tie.Need-wide-requires
-wide-requires c κs = search needs
-
--- src/bytes.rt:41:13
 returns : tie.Need-returns
 returns c = search needs
 
--- src/bytes.rt:36:1
 returns-2 : tie.Need-returns-2
-returns-2 c = (past (c .before .before .before .args .s .now) (c .before .before .before .args .at + c .before .before .before .args .n) (omega arith), omega arith)
+returns-2 c =
+    let args′ = c .before .before .args in
+    past (args′ .s .now) (args′ .at + args′ .n) (omega arith)
 
--- src/bytes.rt:36:1
 returns-3 : tie.Need-returns-3
-returns-3 c = (past (c .before .before .args .s .now) (c .before .before .args .at + c .before .before .args .n) (omega arith), omega arith)
+returns-3 c =
+    let args′ = c .before .args in
+    past (args′ .s .now) (args′ .at + args′ .n) (omega arith)
 
 pub byte-on-spec : {M : Type 1} → statement M
 byte-on-spec =
     tie.close
-    (tie.spec sub-if2 add-wide shared-slice-read-wide wide-requires returns returns-2 returns-3)
+    (tie.spec sub-if2 add-result shared-slice-read-result returns returns-2 returns-3)

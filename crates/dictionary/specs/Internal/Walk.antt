@@ -7,6 +7,8 @@ use mathlib.Core.Option.{Option, none, some}
 use lib.Dec.{eqb, leb, ltb}
 use lib.ListN.{length}
 use Rattle.wire.specs.Words.{byteAt, wordAt}
+use Rattle.wire.specs.Limits.{maxDictionaryBytes, maxRelations, maxFields}
+use Rattle.wire.specs.Entries.{relationEntryKind, fieldEntryKind, entryId, relationName, fieldType, fieldScale, fieldSize, fieldName}
 use Rattle.wire.specs.Lists.{anyOf, sameBytes}
 use Rattle.wire.specs.Classes.{Class, due, leftOut, foreign, fieldClass}
 use Rattle.wire.specs.declared.codes.FieldType.{FieldType}
@@ -15,11 +17,8 @@ use Rattle.dictionary.specs.declared.check.Met.{Met}
 use Rattle.dictionary.specs.declared.check.Unique.{Unique}
 use Rattle.dictionary.specs.declared.check.Unique.the-variants.{OfRelation, OfField}
 use Rattle.dictionary.specs.Format.{fitting}
-use Rattle.dictionary.specs.Dictionary.{Field, Relation, nameAt, goodName, wholeEntry, fieldAt}
+use Rattle.dictionary.specs.Dictionary.{Field, Relation, kindAt, nameAt, goodName, wholeEntry, fieldAt}
 use Rattle.dictionary.specs.Naming.{Name, named, numbered}
-
-abbrev pub kindAt : List ℕ → ℕ → ℕ
-kindAt d q = wordAt d (q + 2)
 
 -- ---- the places of entries
 
@@ -36,38 +35,38 @@ places (suc n) d q e = placed (ltb q e && ltb 0 (wordAt d q)) q (places n d (q +
 unfoldable pub between : List ℕ → ℕ → ℕ → List ℕ
 between d q e = places (e - q) d q e
 
--- the entries of kind 2 from q on, up to the first other
+-- the entry at q is a field's
+unfoldable pub isField : List ℕ → ℕ → Bool
+isField d q = ltb q (length d) && ltb 0 (wordAt d q) && eqb (kindAt d q) fieldEntryKind
+
+-- the fields from q on up to the first other entry, n at most
 unfoldable pub fieldPlaces : ℕ → List ℕ → ℕ → List ℕ
 fieldPlaces zero d q = []
-fieldPlaces (suc n) d q =
-    placed (ltb q (length d) && ltb 0 (wordAt d q) && eqb (kindAt d q) 2) q (fieldPlaces n d (q + wordAt d q))
+fieldPlaces (suc n) d q = placed (isField d q) q (fieldPlaces n d (q + wordAt d q))
+
+-- all of them
+unfoldable pub fieldsFrom : List ℕ → ℕ → List ℕ
+fieldsFrom d q = fieldPlaces (length d) d q
 
 -- the fields of the relation whose entry stands at r
 unfoldable pub fieldsOf : List ℕ → ℕ → List ℕ
-fieldsOf d r = fieldPlaces (length d) d (r + wordAt d r)
-
--- the entry at q is a field's
-unfoldable pub isField : List ℕ → ℕ → Bool
-isField d q = ltb q (length d) && ltb 0 (wordAt d q) && eqb (kindAt d q) 2
+fieldsOf d r = fieldsFrom d (r + wordAt d r)
 
 -- the place after the entry at q, or the end
 unfoldable pub nextPlace : List ℕ → ℕ → ℕ
 nextPlace d q = cond (ltb (q + wordAt d q) (length d)) (q + wordAt d q) (length d)
-
--- the fields from q on
-unfoldable pub fieldsFrom : List ℕ → ℕ → List ℕ
-fieldsFrom d q = fieldPlaces (length d) d q
 
 -- ---- the check
 
 -- the entry at q is a relation's with the id or the name of the one at p
 unfoldable pub sameRelation : List ℕ → ℕ → ℕ → Bool
 sameRelation d p q =
-    eqb (kindAt d q) 1 && (eqb (wordAt d (q + 4)) (wordAt d (p + 4)) || sameBytes (nameAt d (q + 6)) (nameAt d (p + 6)))
+    eqb (kindAt d q) relationEntryKind &&
+    (eqb (wordAt d (q + entryId)) (wordAt d (p + entryId)) || sameBytes (nameAt d (q + relationName)) (nameAt d (p + relationName)))
 
 -- the entry at q is a field's with the name of the one at p
 unfoldable pub sameField : List ℕ → ℕ → ℕ → Bool
-sameField d p q = eqb (kindAt d q) 2 && sameBytes (nameAt d (q + 10)) (nameAt d (p + 10))
+sameField d p q = eqb (kindAt d q) fieldEntryKind && sameBytes (nameAt d (q + fieldName)) (nameAt d (p + fieldName))
 
 -- what must not repeat
 abbrev pub sameEntry : Unique → List ℕ → ℕ → ℕ → Bool
@@ -76,12 +75,14 @@ sameEntry OfField d p q = sameField d p q
 
 unfoldable pub relationGood : List ℕ → ℕ → Met → Bool
 relationGood d p m =
-    wholeEntry d p 6 && goodName (nameAt d (p + 6)) && ltb (m .relations) 32 && not (anyOf (sameRelation d p) (between d 0 p))
+    wholeEntry d p relationName && goodName (nameAt d (p + relationName)) && ltb (m .relations) maxRelations &&
+    not (anyOf (sameRelation d p) (between d 0 p))
 
 unfoldable pub fieldGood : List ℕ → ℕ → FieldType → Met → Bool
 fieldGood d p t m =
-    wholeEntry d p 10 && eqb (wordAt d (p + 4)) (m .fields) && fitting t (byteAt d (p + 7)) (wordAt d (p + 8)) &&
-    goodName (nameAt d (p + 10)) && ltb (m .fields) 64 && not (anyOf (sameField d p) (between d (m .last) p))
+    wholeEntry d p fieldName && eqb (wordAt d (p + entryId)) (m .fields) &&
+    fitting t (byteAt d (p + fieldScale)) (wordAt d (p + fieldSize)) &&
+    goodName (nameAt d (p + fieldName)) && ltb (m .fields) maxFields && not (anyOf (sameField d p) (between d (m .last) p))
 
 unfoldable pub fieldMet : List ℕ → ℕ → Class FieldType → Met → Option Met
 fieldMet d p foreign m = none
@@ -96,8 +97,8 @@ relationMet d p m = cond (relationGood d p m) (some (record { relations = m .rel
 -- what is met with the entry at p, if it is good
 unfoldable pub meet : List ℕ → ℕ → Met → Option Met
 meet d p m =
-    cond (eqb (kindAt d p) 1) (relationMet d p m)
-    (cond (eqb (kindAt d p) 2) (fieldMet d p (fieldClass (byteAt d (p + 6))) m) none)
+    cond (eqb (kindAt d p) relationEntryKind) (relationMet d p m)
+    (cond (eqb (kindAt d p) fieldEntryKind) (fieldMet d p (fieldClass (byteAt d (p + fieldType))) m) none)
 
 -- by whether bytes are left, and what is met there: none if all entries are good, or the place of the first at fault
 abbrev pub onMet : Bool → Option Met → ℕ → (Met → Option ℕ) → Option ℕ
@@ -110,7 +111,7 @@ faultFrom zero d p m = none
 faultFrom (suc n) d p m = onMet (ltb p (length d)) (meet d p m) p (λ m′. faultFrom n d (p + wordAt d p) m′)
 
 unfoldable pub fault : List ℕ → Option ℕ
-fault d = cond (leb (length d) 65535) (faultFrom (length d) d 0 (record { relations = 0; fields = 0; last = 0 })) (some 0)
+fault d = cond (leb (length d) maxDictionaryBytes) (faultFrom (length d) d 0 (record { relations = 0; fields = 0; last = 0 })) (some 0)
 
 -- ---- looking up
 
@@ -127,12 +128,12 @@ lastOf test (x ∷ l) = later (lastOf test l) (test x) x
 
 -- the entry at q is a relation's of a name or an id
 unfoldable pub isNamed : List ℕ → Name → ℕ → Bool
-isNamed d (named n) q = eqb (kindAt d q) 1 && sameBytes (nameAt d (q + 6)) n
-isNamed d (numbered i) q = eqb (kindAt d q) 1 && eqb (wordAt d (q + 4)) i
+isNamed d (named n) q = eqb (kindAt d q) relationEntryKind && sameBytes (nameAt d (q + relationName)) n
+isNamed d (numbered i) q = eqb (kindAt d q) relationEntryKind && eqb (wordAt d (q + entryId)) i
 
 -- the place of a relation's entry; a dictionary that is too long has none
 unfoldable pub relationPlace : List ℕ → Name → Option ℕ
-relationPlace d n = cond (leb (length d) 65535) (lastOf (isNamed d n) (between d 0 (length d))) none
+relationPlace d n = cond (leb (length d) maxDictionaryBytes) (lastOf (isNamed d n) (between d 0 (length d))) none
 
 -- the type of a field's entry; any other code counts as a reading, which no proper dictionary has
 abbrev pub typeOf : Class FieldType → FieldType
@@ -141,9 +142,9 @@ typeOf leftOut = Reading
 typeOf foreign = Reading
 
 unfoldable pub entryField : List ℕ → ℕ → Field
-entryField d q = fieldAt d q (typeOf (fieldClass (byteAt d (q + 6))))
+entryField d q = fieldAt d q (typeOf (fieldClass (byteAt d (q + fieldType))))
 
 -- the relation whose entry stands at r, as its bytes and those of the fields after it say
 unfoldable pub relationAt : List ℕ → ℕ → Relation
 relationAt d r =
-    record { place = r; id = wordAt d (r + 4); name = nameAt d (r + 6); fields = map (entryField d) (fieldsOf d r) }
+    record { place = r; id = wordAt d (r + entryId); name = nameAt d (r + relationName); fields = map (entryField d) (fieldsOf d r) }

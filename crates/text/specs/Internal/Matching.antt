@@ -1,17 +1,12 @@
 -- What the matcher's functions promise.
 use Prim.Native.Nat.{ℕ}
 use mathlib.Core.Path.{_≡_}
-use mathlib.Core.Bool.{Bool, true, false, _||_}
+use mathlib.Core.Bool.{true, false}
 use mathlib.Core.List.{List}
-use lib.Dec.{eqb}
 use lib.ListN.{drop}
 use Rattle.text.specs.declared.matching.Matched.{Matched}
 use Rattle.text.specs.declared.matching.Matched.the-variants.{Yes, No, Never}
-use Rattle.text.specs.Tests.{oneByte-sign, sameLetter, matches}
-
--- the sign c of a pattern, which is no `*`, matches the byte x
-abbrev pub signMatches : ℕ → ℕ → Bool
-signMatches c x = eqb c oneByte-sign || sameLetter c x
+use Rattle.text.specs.Tests.{matches}
 
 -- what an answer tells of a pattern and a text; Never: of the text and of all its ends
 abbrev pub Told : Matched → List ℕ → List ℕ → Type 0

@@ -1,8 +1,8 @@
--- `decimal::order::value_order` meets its contract. By its two tests. Assumes nothing.
+-- `wire::order::signed_order` meets its contract. By its two tests. Assumes nothing.
 use mathlib.Core.Path.{refl}
-use Rattle.decimal.proofs.Working.{by-tests}
-use Rattle.decimal.proofs.order.value_order.Statement.{statement}
-use Rattle.decimal.proofs.order.value_order.Tie as tie
+use Rattle.wire.proofs.Tested.{by-tests}
+use Rattle.wire.proofs.order.signed_order.Statement.{statement}
+use Rattle.wire.proofs.order.signed_order.Tie as tie
 
 returns : tie.Need-returns
 returns c = by-tests (c .before .fits .x) (c .before .fits .y) (c .if1 .taken) refl
@@ -13,5 +13,5 @@ returns-2 c = by-tests (c .before .before .fits .x) (c .before .before .fits .y)
 returns-3 : tie.Need-returns-3
 returns-3 c = by-tests (c .before .before .fits .x) (c .before .before .fits .y) (c .before .if1 .left) (c .if2 .left)
 
-pub value-order-spec : {M : Type 1} → statement M
-value-order-spec = tie.close (tie.spec returns returns-2 returns-3)
+pub signed-order-spec : {M : Type 1} → statement M
+signed-order-spec = tie.close (tie.spec returns returns-2 returns-3)

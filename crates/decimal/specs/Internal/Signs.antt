@@ -1,5 +1,5 @@
 -- Values by sign and magnitude: what the parts of the code give.
-use Prim.Native.Nat.{ℕ}
+use Prim.Native.Nat.{ℕ, _-_, _^_}
 use mathlib.Core.Bool.{Bool, true, false}
 use lib.IntN.{ℤ, pos, negsuc, negℤ}
 
@@ -10,8 +10,8 @@ signed false m = pos m
 
 -- the largest magnitude of a signed 64-bit value with that sign
 abbrev pub limitOf : Bool → ℕ
-limitOf true = 9223372036854775808
-limitOf false = 9223372036854775807
+limitOf true = 2 ^ 63
+limitOf false = 2 ^ 63 - 1
 
 abbrev pub isNegative : ℤ → Bool
 isNegative (pos n) = false

@@ -1,0 +1,4 @@
+-- What the functions promise each other: nobody outside has to believe it.
+pub mod Walk
+pub mod Answers
+pub mod FieldAnswers
