@@ -14,7 +14,8 @@ use Rattle.grammar.specs.Demands.{Octets}
 use Rattle.grammar.proofs.Complete.{reading-complete}
 use Rattle.grammar.proofs.Sound.{reading-sound}
 
--- 01, demand 2: "A request is accepted exactly when the grammar and the rules of scope, kind and size .. allow it."
+-- demand 2: "A request is accepted exactly when the grammar and the rules of scope, kind and size of document 01 allow it.", beside a
+-- dictionary that is proper and says the relations rs
 pub accepted-exactly : (s d : List ℕ) → Octets s → (rs : List Relation) → dictionary d ≡ proper rs → (r : Request) → ((c : Cursor) × (reading s d ≡ read r c)) ↔ ((s ≡ requestBytes r) × Allowed rs r)
 accepted-exactly s d octets rs e r = (
   (λ h.

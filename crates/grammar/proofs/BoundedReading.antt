@@ -1,5 +1,5 @@
 -- Every refusal of reading has a number from 1 to 16 and a place in the request, or in the dictionary where that is at fault.
-use Prim.Native.Nat.{ℕ, zero, suc, _+_, _≤_, _<_}
+use Prim.Native.Nat.{ℕ, zero, suc, _+_, _-_, _≤_, _<_}
 use mathlib.Core.Path.{_≡_, refl, subst}
 use mathlib.Core.Bool.{Bool, true, false, cond}
 use mathlib.Core.List.{List, []}
@@ -9,6 +9,7 @@ use lib.Dec.{eqb, leb, ltb}
 use lib.ListN.{length}
 use borrow.Author.Tests.{leb-true, ltb-true, ne-eqb}
 use Rattle.wire.specs.Codes as blr
+use Rattle.wire.specs.Limits.{maxDepth}
 use Rattle.wire.specs.Words.{wordAt}
 use Rattle.dictionary.specs.Dictionary.{Relation, entry, Checked, proper, atFault, nextEntry, entries, dictionary}
 use Rattle.grammar.specs.declared.Refusal.{Refusal}
@@ -33,7 +34,7 @@ module _ (s : List ℕ) where
 
   outer-stays : (d : List Relation) (ms : List Message) → Stays s (outerStatements d ms)
   unfolding outerStatements
-  outer-stays d ms = many-stays s 512 _ (statement-stays s 32 (record { relations = d; messages = ms }) outermost)
+  outer-stays d ms = many-stays s 512 _ (statement-stays s (maxDepth - 1) (record { relations = d; messages = ms }) outermost)
 
   pub request-stays : (d : List Relation) → Stays s (request d)
   unfolding request number

@@ -1,11 +1,12 @@
 -- The bytes of a request that the rules allow are read as that request, and as no other.
-use Prim.Native.Nat.{ℕ, _+_, _≤_}
+use Prim.Native.Nat.{ℕ, _+_, _-_, _≤_}
 use mathlib.Core.Path.{_≡_, refl, sym, ap, _∙_}
 use mathlib.Core.List.{List, [], _∷_, _++_, append-assoc}
 use native.Mathlib.Omega.{arith}
 use lib.ListN.{length}
 use borrow.Author.Tests.{le-leb, eq-eqb}
 use Rattle.wire.specs.Codes as blr
+use Rattle.wire.specs.Limits.{maxDepth}
 use Rattle.wire.specs.Classes.{statementClass, classify}
 use Rattle.wire.specs.Lists.{among, anyOf}
 use Rattle.dictionary.specs.Dictionary.{Relation, proper, dictionary}
@@ -50,7 +51,7 @@ request-complete d r w s h =
     on-found (counted-found s b h₂ (a .at) (omega arith)) λ g e₃ h₃ n₃ k₃.
     on-found (messages-found s g (r .messages) (omega arith) (other-first (blr.eoc ∷ []) (statements-first ts))
     (w .messages) (z .each-message) (z .messages) (z .parameters) h₃) λ m e₄ h₄ n₄ k₄.
-    on-found (statements-read s (environment d r) ts outermost 32 512 (z .depth) (omega (arith, z .statements))
+    on-found (statements-read s (environment d r) ts outermost (maxDepth - 1) 512 (omega (arith, z .depth)) (omega (arith, z .statements))
     (omega (arith, z .statements)) (w .statements) .from m (omega (arith, z .statements)) (omega (arith, z .contexts)) h₄) λ t e₅ h₅ n₅ k₅.
     let y = last-code s t blr.eoc NotDue h₅ in
     (y .0, by-steps d s r a b g m t (y .0) e₁ e₂ e₃ e₄ e₅ (y .1) (y .2))

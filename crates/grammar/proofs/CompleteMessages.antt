@@ -1,15 +1,15 @@
 -- The bytes of messages that the rules allow are read as those messages.
 use Prim.Native.Nat.{ℕ, zero, suc, _+_, _≤_}
-use mathlib.Core.Path.{_≡_, refl, ap, _∙_}
-use mathlib.Core.Bool.{Bool, true, false, not, _&&_, _||_}
-use mathlib.Core.List.{List, [], _∷_, _++_, append-assoc, append-nil}
+use mathlib.Core.Path.{_≡_, refl, sym, ap, subst, _∙_}
+use mathlib.Core.Bool.{true, false, not, _&&_}
+use mathlib.Core.List.{List, [], _∷_, _++_, append-assoc, append-nil, map-append}
 use native.Mathlib.Omega.{arith}
 use lib.Dec.{eqb, leb}
 use lib.ListN.{length, drop}
 use borrow.Author.Tests.{le-leb}
 use Rattle.wire.specs.Codes as blr
 use Rattle.wire.specs.Words.{wordBytes}
-use Rattle.wire.specs.Lists.{anyOf, among, sumOf}
+use Rattle.wire.specs.Lists.{anyOf, sumOf}
 use Rattle.wire.specs.Classes.{descriptorClass, classify}
 use Rattle.wire.specs.declared.codes.DataType.the-variants.{Number, Date, Chars}
 use Rattle.dictionary.specs.Format.{held, scaleInRange, sizeInRange}
@@ -18,12 +18,13 @@ use Rattle.grammar.specs.declared.Cursor.{Cursor}
 use Rattle.grammar.specs.Tree.{Descriptor, Message}
 use Rattle.grammar.specs.Bytes.{widthCode, textCode, descriptorBytes, descriptorsBytes, messageBytes, messagesBytes}
 use Rattle.grammar.specs.Environment.{descriptorFormat}
-use Rattle.grammar.specs.Scope.{Distinct}
+use Rattle.grammar.specs.Scope.{Unique, messageNumbers}
 use Rattle.grammar.specs.Sizes.{descriptorsSize, messageSize, parameterCount, DescriptorInRange, DescriptorsInRange, MessagesSized}
 use Rattle.grammar.specs.Reader.{read, tested}
 use Rattle.grammar.specs.Messages.{scaleByte, sizeWord, descriptorUnder, descriptor, descriptors, message, messages}
 use Rattle.grammar.proofs.Found.{Found, along, byte-found, peek-found, Other, peek-other}
 use Rattle.grammar.proofs.Parts.{Reads, at-once, alone, in-turn, three-in-turn, byte-reads, word-reads, coded-reads, tested-reads}
+use Rattle.grammar.proofs.Unique.{Fresh, unique-after, any-number}
 use Rattle.grammar.proofs.Due.{width-due, text-due}
 
 -- ---- descriptors
@@ -78,29 +79,10 @@ message-reads s ms m w n k l r =
     (descriptors-read ds 0 r (omega arith))
     (λ c q r t rest a b h d. rw (message, a, b, d)) refl refl
 
-or-swap : (a b c : Bool) → a || (b || c) ≡ b || (a || c)
-or-swap true true c = refl
-or-swap true false c = refl
-or-swap false true c = refl
-or-swap false false c = refl
-
-any-last : {A : Type 0} (test : A → Bool) (l : List A) (x : A) → anyOf test (l ++ (x ∷ [])) ≡ test x || anyOf test l
-unfolding anyOf
-any-last test [] x = refl
-any-last test (y ∷ l) x = rw (any-last test l x) (or-swap (test y) (test x) (anyOf test l))
-
 sum-last : {A : Type 0} (f : A → ℕ) (l : List A) (x : A) → sumOf f (l ++ (x ∷ [])) ≡ sumOf f l + f x
 unfolding sumOf
 sum-last f [] x = omega arith
 sum-last f (y ∷ l) x = omega (arith, sum-last f l x)
-
--- the numbers `seen` are those of the messages ms
-Numbers : List Message → List ℕ → Type 0
-Numbers ms seen = (n : ℕ) → anyOf (λ x. eqb (x .number) n) ms ≡ among n seen
-
-next-numbers : (ms : List Message) (seen : List ℕ) (m : Message) → Numbers ms seen → Numbers (ms ++ (m ∷ [])) (m .number ∷ seen)
-unfolding Numbers among anyOf
-next-numbers ms seen m e n = rw (any-last (λ x. eqb (x .number) n) ms m, e n)
 
 none-found : (s : List ℕ) (c : Cursor) {rest : List ℕ} (k : ℕ) (ms : List Message) → Other blr.message rest → drop (c .at) s ≡ rest →
     messages k ms s c ≡ read ms c
@@ -125,22 +107,23 @@ more-found s c k ms w h f g =
     along {q = b .after} e (rw (messages, peek-found s c blr.message h, a .is, b .is, e .is)) (omega arith) (omega arith)
 
 -- messages up to another code, beside those before them
-messages-on : (s : List ℕ) (rest : List ℕ) → Other blr.message rest → (ms before : List Message) (seen : List ℕ) (k : ℕ) (c : Cursor) →
-    Room c → Numbers before seen → Distinct seen ms → MessagesSized ms → length ms ≤ k →
+messages-on : (s : List ℕ) (rest : List ℕ) → Other blr.message rest → (ms before : List Message) (k : ℕ) (c : Cursor) →
+    Room c → Fresh (messageNumbers before) (messageNumbers ms) → MessagesSized ms → length ms ≤ k →
     parameterCount before + parameterCount ms ≤ 256 → drop (c .at) s ≡ messagesBytes ms ++ rest →
     Found (messages k before) s c (before ++ ms) 0 0 rest
-unfolding messagesBytes messageBytes sumOf Numbers afterCode
-messages-on s rest o [] before seen k c y e w z l n h =
+unfolding messagesBytes messageBytes sumOf afterCode
+messages-on s rest o [] before k c y w z l n h =
     record { after = c; is = rw append-nil (none-found s c k before o h); stands = h; statements = omega arith; contexts = omega arith }
-messages-on s rest o (m ∷ ms) before seen zero c y e w z l n h = absurd (omega arith)
-messages-on s rest o (m ∷ ms) before seen (suc k) c y e w z l n h =
+messages-on s rest o (m ∷ ms) before zero c y w z l n h = absurd (omega arith)
+messages-on s rest o (m ∷ ms) before (suc k) c y w z l n h =
     more-found s c k before y (h ∙ append-assoc (messageBytes m) (messagesBytes ms) rest)
-    (message-reads s before m (e (m .number) ∙ w .0) (z .0) (omega arith) (z .1) (z .2)) (λ q y i.
-    rw append-assoc at (messages-on s rest o ms (before ++ (m ∷ [])) (m .number ∷ seen) k q y (next-numbers before seen m e)
-    (w .1) (z .3) (omega arith) (omega (arith, sum-last (λ x. length (x .descriptors)) before m)) i))
+    (message-reads s before m (any-number (m .number) before ∙ w .0) (z .0) (omega arith) (z .1) (z .2)) (λ q y i.
+    rw append-assoc at (messages-on s rest o ms (before ++ (m ∷ [])) k q y
+    (subst (λ l. Fresh l (messageNumbers ms)) (sym (map-append (λ x. x .number) before (m ∷ []))) (w .1)) (z .3) (omega arith) (omega (arith, sum-last (λ x. length (x .descriptors)) before m)) i))
 
-pub messages-found : (s : List ℕ) (c : Cursor) {rest : List ℕ} (ms : List Message) → Room c → Other blr.message rest → Distinct [] ms →
+pub messages-found : (s : List ℕ) (c : Cursor) {rest : List ℕ} (ms : List Message) → Room c → Other blr.message rest → Unique (messageNumbers ms) →
     MessagesSized ms → length ms ≤ 16 → parameterCount ms ≤ 256 → drop (c .at) s ≡ messagesBytes ms ++ rest →
     Found (messages 16 []) s c ms 0 0 rest
-unfolding Numbers sumOf anyOf among
-messages-found s c {rest} ms y o w z l n h = messages-on s rest o ms [] [] 16 c y (λ n. refl) w z l (omega arith) h
+unfolding sumOf
+messages-found s c {rest} ms y o w z l n h =
+    messages-on s rest o ms [] 16 c y (unique-after [] (messageNumbers ms) w) z l (omega arith) h

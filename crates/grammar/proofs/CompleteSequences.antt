@@ -1,7 +1,7 @@
 -- Sequences of statements and of receives are read up to their end.
 use Prim.Native.Nat.{ℕ, zero, suc, _+_, _≤_}
 use mathlib.Core.Path.{_≡_, refl}
-use mathlib.Core.Bool.{true, not as negation, _&&_}
+use mathlib.Core.Bool.{true, false, not as negation, _&&_}
 use mathlib.Core.List.{List, [], _∷_, _++_}
 use native.Mathlib.Omega.{arith}
 use Rattle.wire.specs.Codes as blr
@@ -9,7 +9,7 @@ use Rattle.wire.specs.Lists.{among}
 use Rattle.grammar.specs.declared.Refusal.the-variants.{TooGreat, BadMessage}
 use Rattle.grammar.specs.Tree.{Statement, Statements, none as nothing, _then_, Receives, last, more}
 use Rattle.grammar.specs.Environment.{Environment, Scope}
-use Rattle.grammar.specs.Scope.{declared, Selected}
+use Rattle.grammar.specs.Scope.{declared, Exchanged}
 use Rattle.grammar.specs.Reader.{Reader}
 use Rattle.grammar.specs.Statements.{many, manyReceives, receiveUnder}
 use Rattle.grammar.proofs.Found.{Other, other-first, peek-found, peek-other}
@@ -55,10 +55,10 @@ module _ {s : List ℕ} where
 
   -- a receive after its code
   pub receive-reads : {body : Reader Statement} {xs : List ℕ} {t : Statement} {n k : ℕ} (e : Environment) (sc : Scope) (p : ℕ)
-      (before : List ℕ) (m : ℕ) → Selected e sc before m → Reads s body xs t n k →
+      (before : List ℕ) (m : ℕ) → among m before ≡ false → Exchanged e sc m → Reads s body xs t n k →
       Reads s (receiveUnder body e sc p before) (m ∷ xs) (m, t) n k
   unfolding receiveUnder
-  receive-reads e sc p before m w f =
-      let t : declared e m && negation (among m before) ≡ true = rw (w .0 .1, w .1) in
+  receive-reads e sc p before m u w f =
+      let t : declared e m && negation (among m before) ≡ true = rw (w .1, u) in
       in-turn (tested-reads (λ m. declared e m && negation (among m before)) BadMessage (byte-reads m) t) f
-      (λ c q r rest h a i b. rw (receiveUnder, w .0 .0, a, b)) (omega arith) (omega arith)
+      (λ c q r rest h a i b. rw (receiveUnder, w .0, a, b)) (omega arith) (omega arith)

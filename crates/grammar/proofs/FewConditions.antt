@@ -1,31 +1,29 @@
 -- A request that the rules allow has no more conditions than statements.
 use Prim.Native.Nat.{ℕ, _+_, _≤_}
-use mathlib.Core.Path.{sym}
-use mathlib.Core.Bool.{Bool, true, false, cond, false≢true}
-use mathlib.Core.List.{List, [], _∷_, _++_}
+use mathlib.Core.Path.{_≡_, refl}
+use mathlib.Core.List.{List}
 use native.Mathlib.Omega.{arith}
 use lib.ListN.{length, length-append}
 use Rattle.dictionary.specs.Dictionary.{Relation}
 use Rattle.grammar.specs.Tree.{Clauses, noClauses, such, sorted, Rse, rse, Statement, assignment, begin, erase, for, headed, leave, if, ifElse, select, Statements, none as nothing, _then_, Receives, last, more, Request}
 use Rattle.grammar.specs.Bytes.{keysBytes, headBytes, rseBytes, headingBytes, booleanBytes, statementBytes}
 use Rattle.grammar.specs.Environment.{Environment, Scope, outermost, underStreams, underRse, underHeading}
-use Rattle.grammar.specs.Sizes.{statementCount, statementsCount, receivesCount}
-use Rattle.grammar.specs.Rules.{ClausesAllowed, RseAllowed, StatementAllowed, StatementsAllowed, ReceivesAllowed, environment, Allowed}
+use Rattle.grammar.specs.Sizes.{booleansCount, statementCount, statementsCount, receivesCount}
+use Rattle.grammar.specs.Rules.{RseAllowed, StatementAllowed, StatementsAllowed, ReceivesAllowed, environment, Allowed}
 use Rattle.grammar.specs.Rows.{statementsStart}
 use Rattle.grammar.specs.Conditions.{clausesConditions, rseConditions, conditions, statementsConditions, receivesConditions, requestConditions}
 
--- one at most, and none after a boolean
-clauses-few : (e : Environment) (sc : Scope) (b s : Bool) (cs : Clauses) (p : ℕ) → ClausesAllowed e sc b s cs →
-    length (clausesConditions sc cs p) ≤ cond b 0 1
-unfolding clausesConditions
-clauses-few e sc b s noClauses p a = omega arith
-clauses-few e sc true s (such x cs) p a = absurd (false≢true (sym (a .0)))
-clauses-few e sc false s (such x cs) p a = omega (arith, clauses-few e sc true s cs (p + 1 + length (booleanBytes x)) (a .2))
-clauses-few e sc b s (sorted ks cs) p a = clauses-few e sc b true cs (p + 2 + length (keysBytes ks)) (a .3)
+-- one for each boolean
+clauses-count : (sc : Scope) (cs : Clauses) (p : ℕ) → length (clausesConditions sc cs p) ≡ booleansCount cs
+unfolding clausesConditions booleansCount
+clauses-count sc noClauses p = refl
+clauses-count sc (such x cs) p = omega (arith, clauses-count sc cs (p + 1 + length (booleanBytes x)))
+clauses-count sc (sorted ks cs) p = clauses-count sc cs (p + 2 + length (keysBytes ks))
 
 rse-few : (e : Environment) (sc : Scope) (r : Rse) (p : ℕ) → RseAllowed e sc r → length (rseConditions (e .relations) sc r p) ≤ 1
 unfolding rseConditions
-rse-few e sc (rse ss cs) p a = clauses-few e (underStreams (e .relations) sc ss) false false cs (p + length (headBytes ss)) (a .2)
+rse-few e sc (rse ss cs) p a =
+    let n = clauses-count (underStreams (e .relations) sc ss) cs (p + length (headBytes ss)) in omega (arith, n, a .2 .0)
 
 module _ (e : Environment) where
   mutual
@@ -48,7 +46,7 @@ module _ (e : Environment) where
         let i = conditions-few sc t (p + 1 + length (booleanBytes b)) (a .1) in
         let j = conditions-few sc u (p + 1 + length (booleanBytes b) + length (statementBytes t)) (a .2) in
         rw (length-append (conditions (e .relations) sc t (p + 1 + length (booleanBytes b)))) (omega arith)
-    conditions-few sc (select rs) p a = let i = receives-conditions-few sc [] rs (p + 1) a in omega arith
+    conditions-few sc (select rs) p a = let i = receives-conditions-few sc rs (p + 1) (a .1) in omega arith
 
     pub statements-conditions-few : (sc : Scope) (ts : Statements) (p : ℕ) → StatementsAllowed e sc ts →
         length (statementsConditions (e .relations) sc ts p) ≤ statementsCount ts
@@ -58,12 +56,12 @@ module _ (e : Environment) where
         let j = statements-conditions-few sc ts (p + length (statementBytes t)) (a .1) in
         rw (length-append (conditions (e .relations) sc t p)) (omega arith)
 
-    pub receives-conditions-few : (sc : Scope) (before : List ℕ) (rs : Receives) (p : ℕ) → ReceivesAllowed e sc before rs →
+    pub receives-conditions-few : (sc : Scope) (rs : Receives) (p : ℕ) → ReceivesAllowed e sc rs →
         length (receivesConditions (e .relations) sc rs p) ≤ receivesCount rs
-    receives-conditions-few sc before (last m t) p a = let i = conditions-few sc t (p + 2) (a .1) in omega arith
-    receives-conditions-few sc before (more m t rs) p a =
+    receives-conditions-few sc (last m t) p a = let i = conditions-few sc t (p + 2) (a .1) in omega arith
+    receives-conditions-few sc (more m t rs) p a =
         let i = conditions-few sc t (p + 2) (a .1) in
-        let j = receives-conditions-few sc (before ++ (m ∷ [])) rs (p + 2 + length (statementBytes t)) (a .2) in
+        let j = receives-conditions-few sc rs (p + 2 + length (statementBytes t)) (a .2) in
         rw (length-append (conditions (e .relations) sc t (p + 2))) (omega arith)
 
 pub request-conditions-few : (d : List Relation) (r : Request) → Allowed d r →

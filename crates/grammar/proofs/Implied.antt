@@ -2,7 +2,8 @@
 use mathlib.Core.Path.{_≡_, refl}
 use mathlib.Core.Bool.{Bool, true, false, _&&_}
 use mathlib.Core.Option.{Option, none, some}
-use Prim.Native.Nat.{ℕ, _<_}
+use Prim.Native.Nat.{ℕ, _<_, _≤_}
+use native.Mathlib.Omega.{arith}
 use lib.Dec.{leb}
 use borrow.Author.Tests.{leb-true}
 use Rattle.wire.specs.Lists.{isSome, _andThen_}
@@ -49,3 +50,13 @@ and-left false b h = h
 pub text-long : (n : ℕ) → sizeInRange n ≡ true → 0 < n
 unfolding sizeInRange
 text-long n h = leb-true 1 n (and-left (leb 1 n) _ h)
+
+-- the clauses of a kind that may still come, by whether one has stood before
+abbrev pub free : Bool → ℕ
+free true = 0
+free false = 1
+
+-- where one may still come, none has stood before
+pub none-before : (b : Bool) → 1 ≤ free b → b ≡ false
+none-before true h = absurd (omega arith)
+none-before false h = refl

@@ -1,5 +1,5 @@
 -- A request that reading accepts is bytes of the grammar, and the rules allow it.
-use Prim.Native.Nat.{ℕ, suc, _+_, _≤_}
+use Prim.Native.Nat.{ℕ, suc, _+_, _-_, _≤_}
 use mathlib.Core.Path.{_≡_, refl, sym, ap, _∙_, subst}
 use mathlib.Core.List.{List, [], _∷_, _++_, append-assoc}
 use native.Mathlib.Omega.{arith}
@@ -7,6 +7,7 @@ use lib.Dec.{eqb, leb}
 use lib.ListN.{length}
 use borrow.Author.Tests.{leb-true, eqb-true}
 use Rattle.wire.specs.Codes as blr
+use Rattle.wire.specs.Limits.{maxDepth}
 use Rattle.wire.specs.Lists.{sumOf}
 use Rattle.dictionary.specs.Dictionary.{Relation, Checked, proper, atFault, dictionary}
 use Rattle.grammar.specs.declared.Cursor.{Cursor}
@@ -35,11 +36,11 @@ ended s c e =
     (eqb-true (c .at) (length s) (t .0), same (t .1) (λ u c′. c′ ≡ c) refl)
 
 pub outer-sound : (s : List ℕ) → Octets s → (d : List Relation) (ms : List Message) (c : Cursor) (ts : Statements) (c′ : Cursor) →
-    outerStatements d ms s c ≡ read ts c′ → StatementsSound 32 (record { relations = d; messages = ms }) outermost s c ts c′
+    outerStatements d ms s c ≡ read ts c′ → StatementsSound (maxDepth - 1) (record { relations = d; messages = ms }) outermost s c ts c′
 unfolding outerStatements
 outer-sound s octets d ms c ts c′ h =
     let e : Environment = record { relations = d; messages = ms } in
-    many-sound 32 e outermost s (readStatement 32 e outermost) (statement-sound s octets e 32 outermost) 512 c ts c′ h
+    many-sound (maxDepth - 1) e outermost s (readStatement (maxDepth - 1) e outermost) (statement-sound s octets e (maxDepth - 1) outermost) 512 c ts c′ h
 
 -- a request that was read, and what the cursor after it counts
 pub record RequestSound (d : List Relation) (s : List ℕ) (r : Request) (c : Cursor) : Type 0 where
@@ -52,7 +53,7 @@ pub record RequestSound (d : List Relation) (s : List ℕ) (r : Request) (c : Cu
 -- the parts of a request, with the cursors between them
 module _ (d : List Relation) (s : List ℕ) (ms : List Message) (ts : Statements) (q q₁ q₂ c : Cursor) where
   assembled : length s ≤ 65535 → Went s start (blr.version4 ∷ blr.begin ∷ []) 1 0 0 q → q .statements ≤ 512 →
-      MessagesSound 16 [] s q ms q₁ → StatementsSound 32 (record { relations = d; messages = ms }) outermost s q₁ ts q₂ →
+      MessagesSound 16 [] s q ms q₁ → StatementsSound (maxDepth - 1) (record { relations = d; messages = ms }) outermost s q₁ ts q₂ →
       Passed s q₂ (blr.eoc ∷ []) c → c .at ≡ length s → RequestSound d s (record { messages = ms; statements = ts }) c
   unfolding requestBytes requestConditions sumOf
   assembled short g h m t o end =
@@ -71,14 +72,14 @@ module _ (d : List Relation) (s : List ℕ) (ms : List Message) (ts : Statements
         allowed = record {
           sized = record {
             bytes = rw all at short;
-            depth = t .depth (omega arith);
+            depth = omega (arith, t .depth);
             statements = omega (arith, f .counted, t .went .counted, t .within .statements (omega (arith, w .counted)));
             messages = omega (arith, m .most, ap length (m .whole));
             parameters = m .parameters (omega arith);
             each-message = m .sized tt;
             contexts = omega (arith, f .declared, t .went .declared, t .within .contexts (omega (arith, f .declared)));
           };
-          messages = m .distinct tt;
+          messages = m .unique tt;
           statements = t .allowed;
         };
         counted = omega (arith, b .counted);

@@ -1,14 +1,14 @@
 -- Messages that were read: their bytes are those of the grammar, and they keep the rules of messages.
 use Prim.Native.Nat.{ℕ, zero, suc, _+_, _≤_}
-use mathlib.Core.Path.{_≡_, refl, sym, ap, _∙_}
-use mathlib.Core.Bool.{Bool, true, false, not, _&&_, _||_, false≢true}
-use mathlib.Core.List.{List, [], _∷_, _++_, append-assoc, append-nil}
+use mathlib.Core.Path.{_≡_, refl, sym, ap, subst, _∙_}
+use mathlib.Core.Bool.{Bool, true, false, not, _&&_}
+use mathlib.Core.List.{List, [], _∷_, _++_, append-assoc, append-nil, map-append}
 use native.Mathlib.Omega.{arith}
 use lib.ListN.{length, drop}
 use lib.Dec.{eqb, leb}
 use borrow.Author.Tests.{leb-true, not-true}
 use Rattle.wire.specs.Codes as blr
-use Rattle.wire.specs.Lists.{anyOf, among, sumOf}
+use Rattle.wire.specs.Lists.{anyOf, sumOf}
 use Rattle.wire.specs.Words.{wordBytes}
 use Rattle.wire.specs.declared.codes.DataType.{DataType}
 use Rattle.wire.specs.declared.codes.DataType.the-variants.{Number, Date, Chars}
@@ -17,18 +17,14 @@ use Rattle.grammar.specs.declared.Cursor.{Cursor}
 use Rattle.grammar.specs.Tree.{Descriptor, Message}
 use Rattle.grammar.specs.Bytes.{descriptorBytes, descriptorsBytes, messageBytes, messagesBytes}
 use Rattle.grammar.specs.Environment.{descriptorFormat}
-use Rattle.grammar.specs.Scope.{Distinct}
+use Rattle.grammar.specs.Scope.{Unique, messageNumbers}
 use Rattle.grammar.specs.Sizes.{descriptorsSize, messageSize, parameterCount, DescriptorInRange, DescriptorsInRange, MessagesSized}
 use Rattle.grammar.specs.Reader.{read, byte, word, peek, tested, coded}
 use Rattle.grammar.specs.Messages.{scaleByte, sizeWord, descriptorUnder, descriptor, descriptors, message, messages}
 use Rattle.grammar.specs.Demands.{Octets}
 use Rattle.grammar.proofs.Went.{Passed, undo, same, needed, either, both, tested-read, peek-read, stayed, onward, coded-onward, byte-went, word-went, peeked-went}
+use Rattle.grammar.proofs.Unique.{unique-last, any-number}
 use Rattle.grammar.proofs.Codes.{dataCode, descriptor-due, coded-went}
-
--- neither of two tests
-neither : (a b : Bool) → a || b ≡ false → (a ≡ false) × (b ≡ false)
-neither true b e = absurd (false≢true (sym e))
-neither false b e = (refl, e)
 
 module _ (s : List ℕ) (c : Cursor) {c′ : Cursor} where
   pub scale-went : {x : ℕ} → scaleByte s c ≡ read x c′ → Passed s c (x ∷ []) c′ × (scaleInRange x ≡ true)
@@ -144,13 +140,10 @@ module _ (m : Message) where
   sized-more [] f z r k = (f, z, r, tt)
   sized-more (x ∷ ms) f z r k = (k .0, k .1, k .2, sized-more ms f z r (k .3))
 
-  distinct-more : (before : List ℕ) (ms : List Message) → among (m .number) before ≡ false →
-      anyOf (λ x. eqb (x .number) (m .number)) ms ≡ false → Distinct before ms → Distinct before (ms ++ (m ∷ []))
-  unfolding among anyOf
-  distinct-more before [] b a k = (b, tt)
-  distinct-more before (x ∷ ms) b a k =
-      let t = neither (eqb (x .number) (m .number)) (anyOf (λ x. eqb (x .number) (m .number)) ms) a in
-      (k .0, distinct-more (x .number ∷ before) ms (rw (t .0) b) (t .1) (k .1))
+  unique-more : (ms : List Message) → anyOf (λ x. eqb (x .number) (m .number)) ms ≡ false → Unique (messageNumbers ms) →
+      Unique (messageNumbers (ms ++ (m ∷ [])))
+  unique-more ms a k = subst Unique (sym (map-append (λ x. x .number) ms (m ∷ [])))
+      (unique-last (messageNumbers ms) (m .number) (sym (any-number (m .number) ms) ∙ a) k)
 
   parameters-more : (ms : List Message) → parameterCount (ms ++ (m ∷ [])) ≡ parameterCount ms + length (m .descriptors)
   unfolding sumOf
@@ -166,7 +159,7 @@ pub record MessagesSound (few : ℕ) (before : List Message) (s : List ℕ) (c :
   pub went : Passed s c (messagesBytes next) c′
   pub most : length next ≤ few
   pub sized : MessagesSized before → MessagesSized ms
-  pub distinct : Distinct [] before → Distinct [] ms
+  pub unique : Unique (messageNumbers before) → Unique (messageNumbers ms)
   pub parameters : parameterCount before ≤ 256 → parameterCount ms ≤ 256
 
 no-message : (few : ℕ) (before : List Message) (s : List ℕ) (c : Cursor) → MessagesSound few before s c before c
@@ -177,7 +170,7 @@ no-message few before s c = record {
   went = stayed s c;
   most = omega arith;
   sized = λ k. k;
-  distinct = λ k. k;
+  unique = λ k. k;
   parameters = λ k. k;
 }
 
@@ -185,14 +178,14 @@ module _ (s : List ℕ) (octets : Octets s) where
   message-first : (few : ℕ) (before : List Message) (c q q₁ : Cursor) (m : Message) (ms : List Message) (c′ : Cursor) →
       Passed s c (blr.message ∷ []) q → MessageSound before s q m q₁ → MessagesSound few (before ++ (m ∷ [])) s q₁ ms c′ →
       MessagesSound (suc few) before s c ms c′
-  unfolding messagesBytes messageBytes among anyOf
+  unfolding messagesBytes messageBytes
   message-first few before c q q₁ m ms c′ g i j = record {
     next = m ∷ j .next;
     whole = j .whole ∙ append-assoc before (m ∷ []) (j .next);
     went = onward (onward g (i .went)) (j .went);
     most = omega (arith, j .most);
     sized = λ k. j .sized (sized-more m before (i .few) (i .sized) (i .ranged) k);
-    distinct = λ k. j .distinct (distinct-more m [] before refl (i .fresh) k);
+    unique = λ k. j .unique (unique-more m before (i .fresh) k);
     parameters = λ k. j .parameters (omega (arith, i .all-few, parameters-more m before));
   }
 

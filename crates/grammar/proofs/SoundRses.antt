@@ -21,7 +21,7 @@ use Rattle.grammar.specs.Tree.{Stream, Heading, receive, send, label, Va
 use Rattle.grammar.specs.Bytes.{streamOf, streamBytes, streamsBytes, headBytes, headingBytes, valueBytes, booleanBytes, keysBytes, keyCount, clausesBytes, rseBytes}
 use Rattle.grammar.specs.Environment.{Environment, Scope, underStreams}
 use Rattle.grammar.specs.Scope.{inScope, ofFor, declared, updating, StreamScoped, StreamsScoped, Exchanged, HeadingScoped}
-use Rattle.grammar.specs.Sizes.{valueDepth, booleanDepth, keysDepth, clausesDepth, rseDepth, valueContexts, booleanContexts, keysContexts, clausesContexts, rseContexts, headingContexts, countInRange, StreamsInRange, SortInRange}
+use Rattle.grammar.specs.Sizes.{valueDepth, booleanDepth, keysDepth, clausesDepth, rseDepth, valueContexts, booleanContexts, keysContexts, clausesContexts, rseContexts, headingContexts, countInRange, StreamsInRange, SortInRange, booleansCount, sortsCount}
 use Rattle.grammar.specs.Rules.{ValueAllowed, BooleanAllowed, KeysAllowed, ClausesAllowed, RseAllowed}
 use Rattle.grammar.specs.Conditions.{clausesConditions, rseConditions}
 use Rattle.grammar.specs.Reader.{read, Reader, byte, tested, code, coded, opened, noted}
@@ -30,14 +30,16 @@ use Rattle.grammar.specs.Rses.{naming, stream, streams, countByte, rseHe
 use Rattle.grammar.specs.Statements.{exchanged, modifyHeading, receiveHeading, sendHeading, storeHeading, labelHeading}
 use Rattle.grammar.specs.Demands.{Octets}
 use Rattle.grammar.proofs.Went.{Went, Passed, never, undo, same, needed, tested-read, stayed, onward, went-as, coded-onward, byte-went, code-went, opened-went, noted-went}
+use Rattle.grammar.proofs.Implied.{free}
+use Rattle.grammar.proofs.Unique.{Grown, grown-scoped}
 use Rattle.grammar.proofs.Codes.{statementCode, streamCode, clauseCode, stream-due, clause-due, direction-due, coded-went}
 use Rattle.grammar.proofs.SoundReferences.{nameBytes, nameCode, naming-went, context-went, message-went}
 
--- ---- what is asked of the readers of values and booleans; the levels left, l, are one more than those that the value may take
+-- ---- what is asked of the readers of values and booleans with l levels left
 
 pub record ValueSound (l : ℕ) (e : Environment) (sc : Scope) (s : List ℕ) (c : Cursor) (v : Value) (c′ : Cursor) : Type 0 where
   pub went : Went s c (valueBytes v) 0 (valueContexts v) 0 c′
-  pub depth : suc (valueDepth v) ≤ l
+  pub depth : valueDepth v ≤ l
   pub allowed : ValueAllowed e sc v
   pub few : c .contexts ≤ 32 → c′ .contexts ≤ 32
 
@@ -48,7 +50,7 @@ ReadsValues l e sc s reader = (c : Cursor) (v : Value) (c′ : Cursor) → reade
 -- a boolean; n is 1 if it has a number, and 0 if it has none
 pub record BooleanSound (n l : ℕ) (e : Environment) (sc : Scope) (s : List ℕ) (c : Cursor) (b : Boolean) (c′ : Cursor) : Type 0 where
   pub went : Went s c (booleanBytes b) 0 (booleanContexts b) n c′
-  pub depth : suc (booleanDepth b) ≤ l
+  pub depth : booleanDepth b ≤ l
   pub allowed : BooleanAllowed e sc b
   pub few : c .contexts ≤ 32 → c′ .contexts ≤ 32
 
@@ -65,7 +67,7 @@ pub record StreamSound (d : List Relation) (sc : Scope) (s : List ℕ) (c : Curs
 pub record StreamsSound (n : ℕ) (d : List Relation) (sc : Scope) (s : List ℕ) (c : Cursor) (ss : List Stream) (c′ : Cursor) : Type 0 where
   pub went : Went s c (streamsBytes ss) 0 (length ss) 0 c′
   pub many : length ss ≡ n
-  pub scoped : StreamsScoped d sc ss
+  pub scoped : Grown d sc ss
   pub few : c .contexts ≤ 32 → c′ .contexts ≤ 32
 
 -- an rse up to its last stream
@@ -135,7 +137,7 @@ module _ (s : List ℕ) (octets : Octets s) (d : List Relation) where
       record {
         went = went-as (onward g (j .went)) refl (omega arith) refl;
         ranged = t .1;
-        scoped = j .scoped;
+        scoped = grown-scoped d sc ss (j .scoped);
         few = λ f. j .few (omega (arith, g .declared));
       }))
 
@@ -148,7 +150,7 @@ module _ (l : ℕ) (e : Environment) (sc : Scope) (s : List ℕ) where
   pub record KeysSound (n : ℕ) (c : Cursor) (ks : Keys) (c′ : Cursor) : Type 0 where
     pub went : Went s c (keysBytes ks) 0 (keysContexts ks) 0 c′
     pub many : keyCount ks ≡ n
-    pub depth : 0 < l → suc (keysDepth ks) ≤ l
+    pub depth : keysDepth ks ≤ l
     pub allowed : KeysAllowed e sc ks
     pub few : c .contexts ≤ 32 → c′ .contexts ≤ 32
 
@@ -156,15 +158,17 @@ module _ (l : ℕ) (e : Environment) (sc : Scope) (s : List ℕ) where
   pub record SortSound (c : Cursor) (ks : Keys) (c′ : Cursor) : Type 0 where
     pub went : Went s c (keyCount ks ∷ keysBytes ks) 0 (keysContexts ks) 0 c′
     pub ranged : SortInRange ks
-    pub depth : 0 < l → suc (keysDepth ks) ≤ l
+    pub depth : keysDepth ks ≤ l
     pub allowed : KeysAllowed e sc ks
     pub few : c .contexts ≤ 32 → c′ .contexts ≤ 32
 
   -- clauses whose conditions count n each
   pub record ClausesSound (n : ℕ) (boolean sort : Bool) (c : Cursor) (cs : Clauses) (c′ : Cursor) : Type 0 where
+    pub booleans : booleansCount cs ≤ free boolean
+    pub sorts : sortsCount cs ≤ free sort
     pub went : Went s c (clausesBytes cs) 0 (clausesContexts cs) (n * length (clausesConditions sc cs (c .at))) c′
-    pub depth : 0 < l → suc (clausesDepth cs) ≤ l
-    pub allowed : ClausesAllowed e sc boolean sort cs
+    pub depth : clausesDepth cs ≤ l
+    pub allowed : ClausesAllowed e sc cs
     pub few : c .contexts ≤ 32 → c′ .contexts ≤ 32
 
   -- after the code k, which stands at p
@@ -172,8 +176,10 @@ module _ (l : ℕ) (e : Environment) (sc : Scope) (s : List ℕ) where
       : Type 0 where
     pub went : Went s c (drop 1 (clausesBytes cs)) 0 (clausesContexts cs) (n * length (clausesConditions sc cs p)) c′
     pub starts : clausesBytes cs ≡ clauseCode k ∷ drop 1 (clausesBytes cs)
-    pub depth : 0 < l → suc (clausesDepth cs) ≤ l
-    pub allowed : ClausesAllowed e sc boolean sort cs
+    pub booleans : booleansCount cs ≤ free boolean
+    pub sorts : sortsCount cs ≤ free sort
+    pub depth : clausesDepth cs ≤ l
+    pub allowed : ClausesAllowed e sc cs
     pub few : c .contexts ≤ 32 → c′ .contexts ≤ 32
 
   module _ (operand : Reader Value) (values : ReadsValues l e sc s operand) where
@@ -182,7 +188,7 @@ module _ (l : ℕ) (e : Environment) (sc : Scope) (s : List ℕ) where
     keys-sound zero c ks c′ h = same h (λ ks c′. KeysSound zero c ks c′) (record {
       went = stayed s c;
       many = refl;
-      depth = λ d. d;
+      depth = omega arith;
       allowed = tt;
       few = λ f. f;
     })
@@ -194,7 +200,7 @@ module _ (l : ℕ) (e : Environment) (sc : Scope) (s : List ℕ) where
         same w₂ (λ ks c′. KeysSound (suc n) c ks c′) (record {
           went = went-as (onward g (onward (i .went) (j .went))) refl (zero-add _) refl;
           many = ap suc (j .many);
-          depth = λ d. omega (arith, i .depth, j .depth d);
+          depth = omega (arith, i .depth, j .depth);
           allowed = (i .allowed, j .allowed);
           few = λ f. j .few (i .few (omega (arith, g .declared)));
         }))))
@@ -231,7 +237,7 @@ module _ (l : ℕ) (e : Environment) (sc : Scope) (s : List ℕ) where
           ((b t : Bool) (c : Cursor) (cs : Clauses) (c′ : Cursor) → rest b t s c ≡ read cs c′ → ClausesSound n b t c cs c′) →
           (b t : Bool) (p : ℕ) (k : ClauseCode) (c : Cursor) → c .at ≡ p + 1 → (cs : Clauses) (c′ : Cursor) →
           clausesUnder rest condition operand b t p k s c ≡ read cs c′ → ClausesUnderSound n b t k p c cs c′
-      unfolding clausesUnder clausesBytes clausesDepth clausesConditions clausesContexts
+      unfolding clausesUnder clausesBytes clausesDepth clausesConditions clausesContexts booleansCount sortsCount
       clauses-under-sound rest more b t p Clause.Boolean c a cs c′ h = needed (negation b) _ _ _ _ _ h (λ z w.
           undo (condition s c) _ w (λ x q e₁ w₁. undo (rest true t s q) _ w₁ (λ cs q₁ e₂ w₂.
           let i = booleans c x q e₁ in
@@ -240,8 +246,10 @@ module _ (l : ℕ) (e : Environment) (sc : Scope) (s : List ℕ) where
           same w₂ (λ cs c′. ClausesUnderSound n b t Clause.Boolean p c cs c′) (record {
             went = went-as (onward (i .went) (j .went)) refl refl (rw there (one-more n _));
             starts = refl;
-            depth = λ d. omega (arith, i .depth, j .depth d);
-            allowed = (not-true b z, i .allowed, j .allowed);
+            depth = omega (arith, i .depth, j .depth);
+            booleans = omega (arith, ap free (not-true b z), j .booleans);
+            sorts = j .sorts;
+            allowed = (i .allowed, j .allowed);
             few = λ f. j .few (i .few f);
           }))))
       clauses-under-sound rest more b t p Clause.Sort c a cs c′ h = needed (negation t) _ _ _ _ _ h (λ z w.
@@ -252,14 +260,18 @@ module _ (l : ℕ) (e : Environment) (sc : Scope) (s : List ℕ) where
           same w₂ (λ cs c′. ClausesUnderSound n b t Clause.Sort p c cs c′) (record {
             went = went-as (onward (i .went) (j .went)) refl refl (rw there (zero-add _));
             starts = refl;
-            depth = λ d. omega (arith, i .depth d, j .depth d);
-            allowed = (not-true t z, i .ranged, i .allowed, j .allowed);
+            depth = omega (arith, i .depth, j .depth);
+            booleans = j .booleans;
+            sorts = omega (arith, ap free (not-true t z), j .sorts);
+            allowed = (i .ranged, i .allowed, j .allowed);
             few = λ f. j .few (i .few f);
           }))))
       clauses-under-sound rest more b t p Clause.End c a cs c′ h = same h (λ cs c′. ClausesUnderSound n b t Clause.End p c cs c′) (record {
         went = went-as (stayed s c) refl refl (sym (mul-zero n));
         starts = refl;
-        depth = λ d. d;
+        booleans = omega arith;
+        sorts = omega arith;
+        depth = omega arith;
         allowed = tt;
         few = λ f. f;
       })
@@ -273,6 +285,8 @@ module _ (l : ℕ) (e : Environment) (sc : Scope) (s : List ℕ) where
           let i = clauses-under-sound (λ b t. clauses m condition operand b t) (clauses-sound m) b t (c .at) k q (g .place) cs c′ w in
           record {
             went = coded-onward g (i .starts) (i .went);
+            booleans = i .booleans;
+            sorts = i .sorts;
             depth = i .depth;
             allowed = i .allowed;
             few = λ f. i .few (omega (arith, g .declared));
@@ -282,7 +296,7 @@ module _ (l : ℕ) (e : Environment) (sc : Scope) (s : List ℕ) where
 
 pub record RseSound (n l : ℕ) (e : Environment) (sc : Scope) (s : List ℕ) (c : Cursor) (r : Rse) (c′ : Cursor) : Type 0 where
   pub went : Went s c (rseBytes r) 0 (rseContexts r) (n * length (rseConditions (e .relations) sc r (c .at))) c′
-  pub depth : 0 < l → suc (rseDepth r) ≤ l
+  pub depth : rseDepth r ≤ l
   pub allowed : RseAllowed e sc r
   pub few : c .contexts ≤ 32 → c′ .contexts ≤ 32
 
@@ -295,7 +309,7 @@ unfolding rseBytes rseContexts rseConditions rseDepth
 rse-sound n l e sc s c ss q cs c′ i j = record {
   went = went-as (onward (i .went) (j .went)) refl refl (rw (i .went .place) (zero-add _));
   depth = j .depth;
-  allowed = (i .ranged, i .scoped, j .allowed);
+  allowed = (i .ranged, i .scoped, (j .booleans, j .sorts), j .allowed);
   few = λ f. j .few (i .few f);
 }
 

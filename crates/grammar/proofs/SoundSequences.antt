@@ -1,39 +1,43 @@
 -- Sequences of statements and of receives that were read, from statements that were read.
-use Prim.Native.Nat.{ℕ, zero, suc, _+_, _<_, _≤_}
+use Prim.Native.Nat.{ℕ, zero, suc, _+_, _≤_}
 use mathlib.Core.Path.{_≡_, refl, sym}
+use mathlib.Core.Bool.{false}
 use mathlib.Core.List.{List, [], _∷_, _++_, append-assoc}
 use native.Mathlib.Nat.{add-zero}
 use native.Mathlib.Omega.{arith}
 use lib.Dec.{eqb}
 use lib.ListN.{length, length-append}
 use Rattle.wire.specs.Codes as blr
+use Rattle.wire.specs.Lists.{among}
 use Rattle.grammar.specs.declared.Cursor.{Cursor}
 use Rattle.grammar.specs.declared.Refusal.the-variants.{TooGreat}
 use Rattle.grammar.specs.Tree.{Statement, Statements, none as nothing, _then_, Receives, last, more}
 use Rattle.grammar.specs.Bytes.{statementBytes, statementsBytes, receivesBytes}
 use Rattle.grammar.specs.Environment.{Environment, Scope}
-use Rattle.grammar.specs.Scope.{Selected}
+use Rattle.grammar.specs.Scope.{Exchanged, selectedMessages}
 use Rattle.grammar.specs.Sizes.{statementDepth, statementsDepth, receivesDepth, statementCount, statementsCount, receivesCount, contextCount, contextsCount, receivesContexts}
 use Rattle.grammar.specs.Rules.{StatementAllowed, StatementsAllowed, ReceivesAllowed}
 use Rattle.grammar.specs.Conditions.{conditions, statementsConditions, receivesConditions}
 use Rattle.grammar.specs.Reader.{read, Reader, byte, peek, code}
 use Rattle.grammar.specs.Statements.{many, manyReceives}
+use Rattle.grammar.proofs.Unique.{Fresh}
 use Rattle.grammar.proofs.Went.{Went, Passed, Within, never, undo, same, either, peek-read, onward, went-as, went-by, within-onward, within-none, code-went, peeked-went}
 
 module _ (l : ℕ) (e : Environment) (sc : Scope) (s : List ℕ) where
-  -- a statement; the levels left, l, are one more than those that the statement may take
+  -- a statement, with l levels left for it and what stands in it
   pub record StatementSound (c : Cursor) (t : Statement) (c′ : Cursor) : Type 0 where
     pub went : Went s c (statementBytes t) (statementCount t) (contextCount t) (length (conditions (e .relations) sc t (c .at))) c′
-    pub depth : suc (statementDepth t) ≤ l
+    pub depth : statementDepth t ≤ l
     pub allowed : StatementAllowed e sc t
     pub within : Within c c′
 
   -- a receive of a select, beside the messages of those before it
   pub record ReceiveSound (before : List ℕ) (c : Cursor) (r : ℕ × Statement) (c′ : Cursor) : Type 0 where
+    pub fresh : among (r .0) before ≡ false
     pub went : Went s c (blr.receive ∷ r .0 ∷ statementBytes (r .1)) (suc (statementCount (r .1))) (contextCount (r .1))
         (length (conditions (e .relations) sc (r .1) (c .at + 2))) c′
-    pub depth : suc (suc (statementDepth (r .1))) ≤ l
-    pub selected : Selected e sc before (r .0)
+    pub depth : suc (statementDepth (r .1)) ≤ l
+    pub exchanged : Exchanged e sc (r .0)
     pub allowed : StatementAllowed e sc (r .1)
     pub within : Within c c′
 
@@ -41,7 +45,7 @@ module _ (l : ℕ) (e : Environment) (sc : Scope) (s : List ℕ) where
   pub record StatementsSound (c : Cursor) (ts : Statements) (c′ : Cursor) : Type 0 where
     pub went : Went s c (statementsBytes ts ++ (blr.end ∷ [])) (statementsCount ts) (contextsCount ts)
         (length (statementsConditions (e .relations) sc ts (c .at))) c′
-    pub depth : 0 < l → suc (statementsDepth ts) ≤ l
+    pub depth : statementsDepth ts ≤ l
     pub allowed : StatementsAllowed e sc ts
     pub within : Within c c′
 
@@ -49,8 +53,9 @@ module _ (l : ℕ) (e : Environment) (sc : Scope) (s : List ℕ) where
   pub record ReceivesSound (before : List ℕ) (c : Cursor) (rs : Receives) (c′ : Cursor) : Type 0 where
     pub went : Went s c (receivesBytes rs ++ (blr.end ∷ [])) (receivesCount rs) (receivesContexts rs)
         (length (receivesConditions (e .relations) sc rs (c .at))) c′
-    pub depth : suc (receivesDepth rs) ≤ l
-    pub allowed : ReceivesAllowed e sc before rs
+    pub depth : receivesDepth rs ≤ l
+    pub fresh : Fresh before (selectedMessages rs)
+    pub allowed : ReceivesAllowed e sc rs
     pub within : Within c c′
 
   abbrev pub ReadsStatements : Reader Statement → Type 0
@@ -63,7 +68,7 @@ module _ (l : ℕ) (e : Environment) (sc : Scope) (s : List ℕ) where
 
   no-statement : (c c′ : Cursor) → Passed s c (blr.end ∷ []) c′ → StatementsSound c nothing c′
   unfolding statementsBytes statementsCount contextsCount statementsConditions statementsDepth
-  no-statement c c′ g = record { went = g; depth = λ d. d; allowed = tt; within = within-none g }
+  no-statement c c′ g = record { went = g; depth = omega arith; allowed = tt; within = within-none g }
 
   first-statement : (c : Cursor) (t : Statement) (q : Cursor) (ts : Statements) (c′ : Cursor) → StatementSound c t q →
       StatementsSound q ts c′ → StatementsSound c (t then ts) c′
@@ -71,7 +76,7 @@ module _ (l : ℕ) (e : Environment) (sc : Scope) (s : List ℕ) where
   first-statement c t q ts c′ i j = record {
     went = went-as (went-by (onward (i .went) (j .went)) (sym (append-assoc (statementBytes t) (statementsBytes ts) (blr.end ∷ []))))
         refl refl (rw (i .went .place, length-append));
-    depth = λ d. omega (arith, i .depth, j .depth d);
+    depth = omega (arith, i .depth, j .depth);
     allowed = (i .allowed, j .allowed);
     within = within-onward (i .within) (j .within);
   }
@@ -96,7 +101,8 @@ module _ (l : ℕ) (e : Environment) (sc : Scope) (s : List ℕ) where
   last-receive before c r q c′ i g = record {
     went = went-as (onward (i .went) g) (add-zero _) (add-zero _) (add-zero _);
     depth = i .depth;
-    allowed = (i .selected, i .allowed);
+    fresh = (i .fresh, tt);
+    allowed = (i .exchanged, i .allowed);
     within = within-onward (i .within) (within-none g);
   }
 
@@ -111,7 +117,8 @@ module _ (l : ℕ) (e : Environment) (sc : Scope) (s : List ℕ) where
             (sym (append-assoc (blr.receive ∷ r .0 ∷ statementBytes (r .1)) (receivesBytes rs) (blr.end ∷ []))))
             refl refl (rw (there, length-append));
         depth = omega (arith, i .depth, j .depth);
-        allowed = (i .selected, i .allowed, j .allowed);
+        fresh = (i .fresh, j .fresh);
+        allowed = (i .exchanged, i .allowed, j .allowed);
         within = within-onward (i .within) (j .within);
       }
 

@@ -5,9 +5,9 @@ use mathlib.Core.Bool.{false, not as negation, _&&_}
 use mathlib.Core.List.{List, [], _∷_, _++_}
 use native.Mathlib.Nat.{add-zero, zero-add}
 use native.Mathlib.Omega.{arith}
-use lib.Dec.{eqb, ltb}
+use lib.Dec.{eqb}
 use lib.ListN.{length, drop, length-append}
-use borrow.Author.Tests.{ltb-true, not-true}
+use borrow.Author.Tests.{not-true}
 use Rattle.wire.specs.Codes as blr
 use Rattle.wire.specs.Lists.{among}
 use Rattle.wire.specs.declared.codes.StatementCode.{StatementCode}
@@ -17,7 +17,7 @@ use Rattle.grammar.specs.declared.Refusal.the-variants.{NotDue, BadMessa
 use Rattle.grammar.specs.Tree.{Heading, loop, handler, rse, Statement, assignment, begin, erase, for, headed, leave, if, ifElse, select}
 use Rattle.grammar.specs.Bytes.{headingBytes, rseBytes, booleanBytes, statementBytes}
 use Rattle.grammar.specs.Environment.{Environment, Scope, underStreams, underRse, underHeading}
-use Rattle.grammar.specs.Scope.{ofFor, declared, updating, Selected}
+use Rattle.grammar.specs.Scope.{ofFor, declared, updating, Exchanged, selectedMessages}
 use Rattle.grammar.specs.Kinds.{kindOf, referenceKind, oneKind}
 use Rattle.grammar.specs.Sizes.{statementDepth, statementCount, contextCount, headingContexts}
 use Rattle.grammar.specs.Rules.{StatementAllowed}
@@ -27,18 +27,19 @@ use Rattle.grammar.specs.Values.{contextByte, readTarget}
 use Rattle.grammar.specs.Statements.{Inner, inner, rseHead, clauses, numberedBoolean, many, manyReceives, modifyHeading, receiveHeading, sendHeading, storeHeading, labelHeading, assignmentUnder, eraseUnder, forUnder, headedUnder, leaveUnder, ifUnder, selectUnder, beginUnder, statementUnder, receiveUnder, readStatement, readReceive}
 use Rattle.grammar.specs.Demands.{Octets}
 use Rattle.grammar.proofs.Went.{Went, Passed, Within, never, undo, same, needed, either, both, tested-read, peek-read, onward, went-as, went-by, within-onward, within-one, within-none, byte-went, code-went, peeked-went, counted-went}
+use Rattle.grammar.proofs.Unique.{fresh-unique}
 use Rattle.grammar.proofs.Codes.{statementCode, statement-due, coded-went}
 use Rattle.grammar.proofs.SoundReferences.{target-sound, context-went}
 use Rattle.grammar.proofs.SoundValues.{value-sound, boolean-sound}
 use Rattle.grammar.proofs.SoundRses.{ReadsValues, ReadsBooleans, HeadingSound, head-sound, numbered-sound, clauses-sound, rse-sound, plain-heading-sound, receive-heading-sound, send-heading-sound, label-heading-sound, modify-heading-sound, store-heading-sound}
 use Rattle.grammar.proofs.SoundSequences.{ReadsStatements, ReadsReceives, many-sound, many-receives-sound}
 
--- after the code k, which stands at p, with l levels left there
+-- after the code k, which stands at p, with l levels left below it
 pub record StatementUnderSound (l : ℕ) (e : Environment) (sc : Scope) (k : StatementCode) (p : ℕ) (s : List ℕ)
     (c : Cursor) (t : Statement) (c′ : Cursor) : Type 0 where
   pub went : Went s c (drop 1 (statementBytes t)) (statementCount t - 1) (contextCount t) (length (conditions (e .relations) sc t p)) c′
   pub starts : statementBytes t ≡ statementCode k ∷ drop 1 (statementBytes t)
-  pub depth : 0 < l → statementDepth t ≤ l
+  pub depth : statementDepth t ≤ suc l
   pub allowed : StatementAllowed e sc t
   pub within : Within c c′
 
@@ -78,7 +79,7 @@ module _ (s : List ℕ) (octets : Octets s) (e : Environment) (sc : Scope) (p : 
       same w₁ (λ t c′. StatementUnderSound l e sc Erase p s c t c′) (record {
         went = g;
         starts = refl;
-        depth = λ d. d;
+        depth = omega arith;
         allowed = z;
         within = within-none g;
       })))
@@ -91,7 +92,7 @@ module _ (s : List ℕ) (octets : Octets s) (e : Environment) (sc : Scope) (p : 
       same w₁ (λ t c′. StatementUnderSound l e sc Leave p s c t c′) (record {
         went = g;
         starts = refl;
-        depth = λ d. d;
+        depth = omega arith;
         allowed = z;
         within = within-none g;
       })))
@@ -110,7 +111,7 @@ module _ (s : List ℕ) (octets : Octets s) (e : Environment) (sc : Scope) (p : 
         same w₂ (λ t c′. StatementUnderSound l e sc Assignment p s c t c′) (record {
           went = went-as g refl (add-zero _) refl;
           starts = refl;
-          depth = λ d. i .depth;
+          depth = omega (arith, i .depth);
           allowed = (i .allowed, j .known, j .target, z);
           within = within-onward (within-one (i .went) (i .few)) (within-none (j .went));
         }))))
@@ -123,7 +124,7 @@ module _ (s : List ℕ) (octets : Octets s) (e : Environment) (sc : Scope) (p : 
           same w (λ t c′. StatementUnderSound l e sc Begin p s c t c′) (record {
             went = went-as (i .went) (omega arith) refl (rw here);
             starts = refl;
-            depth = i .depth;
+            depth = omega (arith, i .depth);
             allowed = i .allowed;
             within = i .within;
           }))
@@ -135,8 +136,8 @@ module _ (s : List ℕ) (octets : Octets s) (e : Environment) (sc : Scope) (p : 
           same w (λ t c′. StatementUnderSound l e sc Select p s c t c′) (record {
             went = went-as (i .went) (omega arith) refl (rw here);
             starts = refl;
-            depth = λ d. i .depth;
-            allowed = i .allowed;
+            depth = omega (arith, i .depth);
+            allowed = (fresh-unique (selectedMessages rs) (i .fresh), i .allowed);
             within = i .within;
           }))
 
@@ -153,7 +154,7 @@ module _ (s : List ℕ) (octets : Octets s) (e : Environment) (sc : Scope) (p : 
           same w₁ (λ t c′. StatementUnderSound l e sc k p s c t c′) (record {
             went = went-as (went-by (onward (i .went) (j .went)) (sym dropped)) (omega arith) refl (rw there (omega arith));
             starts = ap (λ b. b ++ statementBytes a) (i .starts) ∙ ap (λ b. statementCode k ∷ b) (sym dropped);
-            depth = λ d. j .depth;
+            depth = omega (arith, j .depth);
             allowed = (i .scoped, j .allowed);
             within = within-onward (within-one (i .went) (i .few)) (j .within);
           })))
@@ -173,7 +174,7 @@ module _ (s : List ℕ) (octets : Octets s) (e : Environment) (sc : Scope) (p : 
             went = went-as (onward (i .went) (j .went)) (omega arith) refl
                 (rw (here, there, length-append (rseConditions (e .relations) sc (rse ss cs) (p + 1))) (omega arith));
             starts = refl;
-            depth = λ d. omega (arith, i .depth d, j .depth);
+            depth = omega (arith, i .depth, j .depth);
             allowed = (i .allowed, j .allowed);
             within = within-onward (within-one (i .went) (i .few)) (j .within);
           }))))
@@ -193,7 +194,7 @@ module _ (s : List ℕ) (octets : Octets s) (e : Environment) (sc : Scope) (p : 
           same v₁ (λ t c′. StatementUnderSound l e sc If p s c t c′) (record {
             went = went-as (onward o g) (omega arith) (omega arith) (rw there (omega arith));
             starts = refl;
-            depth = λ d. omega (arith, i .depth, j .depth);
+            depth = omega (arith, i .depth, j .depth);
             allowed = (i .allowed, j .allowed);
             within = within-onward (within-one (i .went) (i .few)) (within-onward (j .within) (within-none g));
           })))
@@ -202,7 +203,7 @@ module _ (s : List ℕ) (octets : Octets s) (e : Environment) (sc : Scope) (p : 
           same v₁ (λ t c′. StatementUnderSound l e sc If p s c t c′) (record {
             went = went-as (onward o (m .went)) (omega arith) (omega arith) (rw (there, beyond, length-append) (omega arith));
             starts = refl;
-            depth = λ d. omega (arith, i .depth, j .depth, m .depth);
+            depth = omega (arith, i .depth, j .depth, m .depth);
             allowed = (i .allowed, j .allowed, m .allowed);
             within = within-onward (within-one (i .went) (i .few)) (within-onward (j .within) (m .within));
           }))))))
@@ -230,8 +231,9 @@ pub record ReceiveUnderSound (l : ℕ) (e : Environment) (sc : Scope) (before : 
     (c : Cursor) (r : ℕ × Statement) (c′ : Cursor) : Type 0 where
   pub went : Went s c (r .0 ∷ statementBytes (r .1)) (statementCount (r .1)) (contextCount (r .1))
       (length (conditions (e .relations) sc (r .1) (p + 2))) c′
-  pub depth : suc (statementDepth (r .1)) ≤ l
-  pub selected : Selected e sc before (r .0)
+  pub depth : statementDepth (r .1) ≤ l
+  pub exchanged : Exchanged e sc (r .0)
+  pub fresh : among (r .0) before ≡ false
   pub allowed : StatementAllowed e sc (r .1)
   pub within : Within c c′
 
@@ -249,7 +251,8 @@ receive-under-sound l e sc s body bodies p before c here r c′ h = needed (nega
     same w₂ (λ r c′. ReceiveUnderSound l e sc before p s c r c′) (record {
       went = went-as (onward g (j .went)) (zero-add _) (zero-add _) (rw there (zero-add _));
       depth = j .depth;
-      selected = ((not-true (updating sc) z, u .0), not-true (among m before) (u .1));
+      exchanged = (not-true (updating sc) z, u .0);
+      fresh = not-true (among m before) (u .1);
       allowed = j .allowed;
       within = within-onward (within-none g) (j .within);
     }))))
@@ -280,33 +283,33 @@ module _ (s : List ℕ) (octets : Octets s) (e : Environment) where
     unfolding readStatement readReceive
 
     pub statement-sound : (l : ℕ) (sc : Scope) → ReadsStatements l e sc s (readStatement l e sc)
-    statement-sound zero sc c t c′ h = never h
-    statement-sound (suc l) sc c t c′ h = undo (coded _ s c) _ h (λ k q e₁ w. needed (ltb 0 l) _ _ _ _ _ w (λ z w₁.
-        undo (countStatement (c .at) s q) _ w₁ (λ u q₁ e₂ w₂.
+    statement-sound zero sc c t c′ h = undo (coded _ s c) _ h (λ k q e₁ w. never w)
+    statement-sound (suc l) sc c t c′ h = undo (coded _ s c) _ h (λ k q e₁ w. undo (countStatement (c .at) s q) _ w (λ u q₁ e₂ w₁.
         let g = counted-code s c q (statementCode k) (c .at) (coded-went statement-due s c e₁) e₂ in
         let below = from-both l (λ x c t c′ h. statement-sound l x c t c′ h) (λ x before c r c′ h. receive-sound l x before c r c′ h) in
-        let i = statement-under-sound s octets e sc (c .at) l (atLevel l) below q₁ (g .0 .place) k t c′ w₂ in
+        let i = statement-under-sound s octets e sc (c .at) l (atLevel l) below q₁ (g .0 .place) k t c′ w₁ in
         record {
           went = went-as (went-by (onward (g .0) (i .went)) (sym (i .starts))) (omega (arith, counts t)) (zero-add _) (zero-add _);
-          depth = omega (arith, i .depth (ltb-true 0 l z));
+          depth = i .depth;
           allowed = i .allowed;
           within = within-onward (g .1) (i .within);
-        })))
+        }))
 
     pub receive-sound : (l : ℕ) (sc : Scope) (before : List ℕ) → ReadsReceives l e sc s before (readReceive l e sc before)
-    receive-sound zero sc before c r c′ h = never h
-    receive-sound (suc l) sc before c r c′ h = undo (code blr.receive NotDue s c) _ h (λ x q e₁ w. needed (ltb 0 l) _ _ _ _ _ w (λ z w₁.
-        undo (countStatement (c .at) s q) _ w₁ (λ u q₁ e₂ w₂.
+    receive-sound zero sc before c r c′ h = undo (code blr.receive NotDue s c) _ h (λ x q e₁ w. never w)
+    receive-sound (suc l) sc before c r c′ h = undo (code blr.receive NotDue s c) _ h (λ x q e₁ w.
+        undo (countStatement (c .at) s q) _ w (λ u q₁ e₂ w₁.
         let g = counted-code s c q blr.receive (c .at) (code-went blr.receive NotDue s c e₁) e₂ in
         let i = receive-under-sound l e sc s (readStatement l e sc) (λ c t c′ h. statement-sound l sc c t c′ h) (c .at) before
-        q₁ (g .0 .place) r c′ w₂ in
+        q₁ (g .0 .place) r c′ w₁ in
         record {
           went = went-as (onward (g .0) (i .went)) (omega arith) (zero-add _) (zero-add _);
           depth = omega (arith, i .depth);
-          selected = i .selected;
+          exchanged = i .exchanged;
+          fresh = i .fresh;
           allowed = i .allowed;
           within = within-onward (g .1) (i .within);
-        })))
+        }))
 
   pub inner-sound : (l : ℕ) → InnerSound l e s (inner (λ x. readStatement l e x) (λ x before. readReceive l e x before) l e)
   inner-sound l = from-both l (statement-sound l) (receive-sound l)

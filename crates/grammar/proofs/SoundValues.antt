@@ -1,12 +1,10 @@
 -- Values and booleans that were read: their bytes are those of the grammar, and the rules allow them.
-use Prim.Native.Nat.{ℕ, zero, suc, _+_, _<_, _≤_, max}
+use Prim.Native.Nat.{ℕ, zero, suc, _+_, _≤_, max}
 use mathlib.Core.Path.{_≡_, refl}
 use mathlib.Core.Bool.{Bool, true}
 use mathlib.Core.List.{List, _∷_, _++_}
 use native.Mathlib.Omega.{arith}
-use lib.Dec.{ltb}
 use lib.ListN.{drop}
-use borrow.Author.Tests.{ltb-true}
 use Rattle.wire.specs.Lists.{isSome}
 use Rattle.wire.specs.declared.codes.ValueCode.{ValueCode}
 use Rattle.wire.specs.declared.codes.ValueCode.the-variants as Code
@@ -34,12 +32,12 @@ pub record OperandsSound (l : ℕ) (e : Environment) (s : List ℕ) (below : Ope
   pub boolean : (sc : Scope) → ReadsBooleans 0 l e sc s (below .boolean sc)
   pub value : (sc : Scope) → ReadsValues l e sc s (below .value sc)
 
--- what stands after the code k, with l levels left there
+-- what stands after the code k, with l levels left below it
 pub record ValueUnderSound (l : ℕ) (e : Environment) (sc : Scope) (k : ValueCode) (s : List ℕ) (c : Cursor) (v : Value) (c′ : Cursor)
     : Type 0 where
   pub went : Went s c (drop 1 (valueBytes v)) 0 (valueContexts v) 0 c′
   pub starts : valueBytes v ≡ valueCode k ∷ drop 1 (valueBytes v)
-  pub depth : 0 < l → valueDepth v ≤ l
+  pub depth : valueDepth v ≤ suc l
   pub allowed : ValueAllowed e sc v
   pub few : c .contexts ≤ 32 → c′ .contexts ≤ 32
 
@@ -47,7 +45,7 @@ pub record BooleanUnderSound (l : ℕ) (e : Environment) (sc : Scope) (k : Boole
     : Type 0 where
   pub went : Went s c (drop 1 (booleanBytes b)) 0 (booleanContexts b) 0 c′
   pub starts : booleanBytes b ≡ booleanCode k ∷ drop 1 (booleanBytes b)
-  pub depth : 0 < l → booleanDepth b ≤ l
+  pub depth : booleanDepth b ≤ suc l
   pub allowed : BooleanAllowed e sc b
   pub few : c .contexts ≤ 32 → c′ .contexts ≤ 32
 
@@ -63,7 +61,7 @@ module _ (s : List ℕ) (octets : Octets s) (e : Environment) (below : Operands)
         same w (λ v c′. ValueUnderSound l e sc Code.Literal s c v c′) (record {
           went = i .went;
           starts = refl;
-          depth = λ d. omega arith;
+          depth = omega arith;
           allowed = i .ranged;
           few = λ f. omega (arith, i .went .declared);
         }))
@@ -72,7 +70,7 @@ module _ (s : List ℕ) (octets : Octets s) (e : Environment) (below : Operands)
         same w (λ v c′. ValueUnderSound l e sc (Code.Reference k) s c v c′) (record {
           went = i .went;
           starts = i .starts;
-          depth = λ d. omega arith;
+          depth = omega arith;
           allowed = (i .known, i .fits);
           few = λ f. omega (arith, i .went .declared);
         }))
@@ -83,7 +81,7 @@ module _ (s : List ℕ) (octets : Octets s) (e : Environment) (below : Operands)
         same w₂ (λ v c′. ValueUnderSound l e sc (Code.Arithmetic o) s c v c′) (record {
           went = onward (i .went) (j .went);
           starts = refl;
-          depth = λ d. omega (arith, i .depth, j .depth);
+          depth = omega (arith, i .depth, j .depth);
           allowed = (i .allowed, j .allowed, t);
           few = λ f. j .few (i .few f);
         }))))
@@ -93,7 +91,7 @@ module _ (s : List ℕ) (octets : Octets s) (e : Environment) (below : Operands)
         same w₁ (λ v c′. ValueUnderSound l e sc Code.Negate s c v c′) (record {
           went = i .went;
           starts = refl;
-          depth = λ d. omega (arith, i .depth);
+          depth = omega (arith, i .depth);
           allowed = (i .allowed, t);
           few = i .few;
         })))
@@ -116,7 +114,7 @@ module _ (s : List ℕ) (octets : Octets s) (e : Environment) (below : Operands)
         same w₂ (λ b c′. BooleanUnderSound l e sc k s c b c′) (record {
           went = rw (bytes x y, counts x y) (onward (i .went) (j .went));
           starts = rw (bytes x y);
-          depth = λ d. omega (arith, depths x y, i .depth, j .depth);
+          depth = omega (arith, depths x y, i .depth, j .depth);
           allowed = rules x y (i .allowed) (j .allowed) t;
           few = λ f. j .few (i .few f);
         }))))
@@ -137,7 +135,7 @@ module _ (s : List ℕ) (octets : Octets s) (e : Environment) (below : Operands)
         same w₃ (λ b c′. BooleanUnderSound l e sc Between s c b c′) (record {
           went = onward (onward (i .went) (j .went)) (k .went);
           starts = refl;
-          depth = λ d. omega (arith, i .depth, j .depth, k .depth);
+          depth = omega (arith, i .depth, j .depth, k .depth);
           allowed = (i .allowed, j .allowed, k .allowed, t);
           few = λ f. k .few (j .few (i .few f));
         })))))
@@ -148,7 +146,7 @@ module _ (s : List ℕ) (octets : Octets s) (e : Environment) (below : Operands)
         same w₁ (λ b c′. BooleanUnderSound l e sc (Connect k) s c b c′) (record {
           went = onward (i .went) (j .went);
           starts = refl;
-          depth = λ d. omega (arith, i .depth, j .depth);
+          depth = omega (arith, i .depth, j .depth);
           allowed = (i .allowed, j .allowed);
           few = λ f. j .few (i .few f);
         })))
@@ -157,7 +155,7 @@ module _ (s : List ℕ) (octets : Octets s) (e : Environment) (below : Operands)
         same w (λ b c′. BooleanUnderSound l e sc Not s c b c′) (record {
           went = i .went;
           starts = refl;
-          depth = λ d. i .depth;
+          depth = omega (arith, i .depth);
           allowed = i .allowed;
           few = i .few;
         }))
@@ -166,7 +164,7 @@ module _ (s : List ℕ) (octets : Octets s) (e : Environment) (below : Operands)
         same w (λ b c′. BooleanUnderSound l e sc Missing s c b c′) (record {
           went = i .went;
           starts = refl;
-          depth = λ d. i .depth;
+          depth = omega (arith, i .depth);
           allowed = i .allowed;
           few = i .few;
         }))
@@ -186,27 +184,27 @@ module _ (s : List ℕ) (octets : Octets s) (e : Environment) where
     unfolding readValue readBoolean
 
     pub value-sound : (sc : Scope) (l : ℕ) → ReadsValues l e sc s (readValue l e sc)
-    value-sound sc zero c v c′ h = never h
-    value-sound sc (suc l) c v c′ h = undo (coded _ s c) _ h (λ k q e₁ w. needed (ltb 0 l) _ _ _ _ _ w (λ t w₁.
+    value-sound sc zero c v c′ h = undo (coded _ s c) _ h (λ k q e₁ w. never w)
+    value-sound sc (suc l) c v c′ h = undo (coded _ s c) _ h (λ k q e₁ w.
         let below = both-sound l (λ x c b c′ h. boolean-sound x l c b c′ h) (λ x c v c′ h. value-sound x l c v c′ h) in
         let g = coded-went value-due s c e₁ in
-        let i = value-under-sound s octets e (atLevel l) l below sc (c .at) k q v c′ w₁ in
+        let i = value-under-sound s octets e (atLevel l) l below sc (c .at) k q v c′ w in
         record {
           went = coded-onward g (i .starts) (i .went);
-          depth = omega (arith, i .depth (ltb-true 0 l t));
+          depth = i .depth;
           allowed = i .allowed;
           few = λ f. i .few (omega (arith, g .declared));
-        }))
+        })
 
     pub boolean-sound : (sc : Scope) (l : ℕ) → ReadsBooleans 0 l e sc s (readBoolean l e sc)
-    boolean-sound sc zero c b c′ h = never h
-    boolean-sound sc (suc l) c b c′ h = undo (coded _ s c) _ h (λ k q e₁ w. needed (ltb 0 l) _ _ _ _ _ w (λ t w₁.
+    boolean-sound sc zero c b c′ h = undo (coded _ s c) _ h (λ k q e₁ w. never w)
+    boolean-sound sc (suc l) c b c′ h = undo (coded _ s c) _ h (λ k q e₁ w.
         let below = both-sound l (λ x c b c′ h. boolean-sound x l c b c′ h) (λ x c v c′ h. value-sound x l c v c′ h) in
         let g = coded-went boolean-due s c e₁ in
-        let i = boolean-under-sound s octets e (atLevel l) l below sc (c .at) k q b c′ w₁ in
+        let i = boolean-under-sound s octets e (atLevel l) l below sc (c .at) k q b c′ w in
         record {
           went = coded-onward g (i .starts) (i .went);
-          depth = omega (arith, i .depth (ltb-true 0 l t));
+          depth = i .depth;
           allowed = i .allowed;
           few = λ f. i .few (omega (arith, g .declared));
-        }))
+        })

@@ -3,7 +3,7 @@ use Prim.Native.Nat.{ℕ, _+_}
 use mathlib.Core.List.{List, [], _∷_, _++_}
 use lib.ListN.{length}
 use Rattle.dictionary.specs.Dictionary.{Relation}
-use Rattle.grammar.specs.Tree.{Boolean, Keys, Clauses, noClauses, such, sorted, Rse, rse, Statement, assignment, begin, erase, for, headed, leave, if, ifElse, select, Statements, none as nothing, _then_, Receives, last, more, Request}
+use Rattle.grammar.specs.Tree.{Boolean, Clauses, noClauses, such, sorted, Rse, rse, Statement, assignment, begin, erase, for, headed, leave, if, ifElse, select, Statements, none as nothing, _then_, Receives, last, more, Request}
 use Rattle.grammar.specs.Bytes.{keysBytes, headBytes, rseBytes, headingBytes, booleanBytes}
 use Rattle.grammar.specs.Environment.{Scope, outermost, underStreams, underRse, underHeading}
 use Rattle.grammar.specs.Rows.{size, statementsStart}

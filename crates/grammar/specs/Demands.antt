@@ -8,6 +8,7 @@ use mathlib.Core.List.{List}
 use lib.Dec.{eqb}
 use lib.ListN.{length, replicate}
 use Rattle.wire.specs.Words.{byteAt}
+use Rattle.wire.specs.Limits.{maxRequestBytes, statementRowNumbers, parameterRowNumbers, contextRowNumbers, statementTableNumbers, parameterTableNumbers, contextTableNumbers}
 use Rattle.dictionary.specs.Dictionary.{Relation, proper, dictionary}
 use Rattle.grammar.specs.declared.Refusal.{Refusal}
 use Rattle.grammar.specs.declared.Refusal.the-variants.{BadDictionary}
@@ -37,9 +38,9 @@ pub record RefusalWithin (s d : List ℕ) (x : Refusal) (p : ℕ) : Type 0 where
   pub least : 1 ≤ number x
   pub most : number x ≤ 16
   pub placed : p ≤ length (placedIn x s d)
-  pub short : p ≤ 65535
+  pub short : p ≤ maxRequestBytes
 
--- 01: "A refusal by the reader zeroes all lent tables of any length"
+-- a table as it was lent and as it was left: zeros alone; 01: "A refusal by the reader zeroes all lent tables of any length"
 abbrev pub Zeroed : List ℕ → List ℕ → Type 0
 Zeroed t t′ = t′ ≡ replicate (length t) 0
 
@@ -55,9 +56,9 @@ pub record RefusedReading (s d st pa ct st′ pa′ ct′ : List ℕ) (x : Refus
 
 -- 01: 1 is given for "tables below 2048, 1536, 160 numbers"
 pub record Room (st pa ct : List ℕ) : Type 0 where
-  pub statements : 2048 ≤ length st
-  pub parameters : 1536 ≤ length pa
-  pub contexts : 160 ≤ length ct
+  pub statements : statementTableNumbers ≤ length st
+  pub parameters : parameterTableNumbers ≤ length pa
+  pub contexts : contextTableNumbers ≤ length ct
 
 -- "the grammar and the rules of scope, kind and size of document 01 allow it": the tables have room, the dictionary is proper and says
 -- the relations rs, and the request is the bytes of the tree t, which the rules allow
@@ -67,12 +68,11 @@ pub record Acceptable (s d st pa ct : List ℕ) (rs : List Relation) (t : Reques
   pub whole : s ≡ requestBytes t
   pub allowed : Allowed rs t
 
--- 01: "Acceptance gives the counts of rows and fills three lent tables of 32-bit numbers, the rest zero." A statement's row has four
--- numbers, a parameter's six, a context's five
+-- 01: "Acceptance gives the counts of rows and fills three lent tables of 32-bit numbers, the rest zero."; n, m and k are the counts
 pub record Filled (rs : List Relation) (t : Request) (st pa ct st′ pa′ ct′ : List ℕ) (n m k : ℕ) : Type 0 where
-  pub statement-count : length (requestStatementRows t) ≡ n * 4
-  pub parameter-count : length (parameterRows (t .messages)) ≡ m * 6
-  pub context-count : length (requestContextRows rs t) ≡ k * 5
+  pub statement-count : length (requestStatementRows t) ≡ n * statementRowNumbers
+  pub parameter-count : length (parameterRows (t .messages)) ≡ m * parameterRowNumbers
+  pub context-count : length (requestContextRows rs t) ≡ k * contextRowNumbers
   pub statements : st′ ≡ padded (requestStatementRows t) (length st)
   pub parameters : pa′ ≡ padded (parameterRows (t .messages)) (length pa)
   pub contexts : ct′ ≡ padded (requestContextRows rs t) (length ct)

@@ -1,10 +1,10 @@
 -- What the names in a request stand for: contexts, messages, parameters and fields.
 use Prim.Native.Nat.{ℕ}
-use mathlib.Core.Bool.{Bool, true, false}
 use mathlib.Core.List.{List, [], _∷_, _++_, map}
 use mathlib.Core.Option.{Option, none, some, Option·map}
 use lib.Dec.{eqb}
-use lib.ListN.{length, getElem?}
+use lib.ListN.{getElem?}
+use Rattle.wire.specs.Codes as blr
 use Rattle.wire.specs.Lists.{find, _andThen_}
 use Rattle.wire.specs.declared.codes.DataType.the-variants.{Number, Date, Chars}
 use Rattle.wire.specs.declared.codes.FieldType.the-variants.{Plain}
@@ -18,11 +18,11 @@ pub record Environment : Type 0 where
   pub relations : List Relation
   pub messages : List Message
 
--- a context: its number, its relation if that is known, and whether a for opened it
+-- a context: its number, its relation if that is known, and the code of the statement that opened it: for, store or modify
 pub record Context : Type 0 where
   pub number : ℕ
   pub relation : Option Relation
-  pub fromFor : Bool
+  pub opener : ℕ
 
 -- what is in scope at a place: contexts in the order of their declarations, the context of the nearest store or modify around, the
 -- messages being sent, and the labels around
@@ -51,8 +51,9 @@ relationOfContext sc c = contextOf sc c andThen relationIn
 
 -- ---- scopes
 
-abbrev pub streamContext : List Relation → Bool → Stream → Context
-streamContext d f s = record { number = s .context; relation = relationOf d (s .relation); fromFor = f }
+-- the context of a stream, which the statement of a code opens
+abbrev pub streamContext : List Relation → ℕ → Stream → Context
+streamContext d opener s = record { number = s .context; relation = relationOf d (s .relation); opener = opener }
 
 abbrev pub withContexts : Scope → List Context → Scope
 withContexts sc xs =
@@ -60,7 +61,7 @@ withContexts sc xs =
 
 -- 01: "A context of an rse is in scope from the byte after its last stream to the end of its for"
 unfoldable pub underStreams : List Relation → Scope → List Stream → Scope
-underStreams d sc ss = withContexts sc (map (streamContext d true) ss)
+underStreams d sc ss = withContexts sc (map (streamContext d blr.for) ss)
 
 unfoldable pub underRse : List Relation → Scope → Rse → Scope
 underRse d sc (rse ss cs) = underStreams d sc ss
@@ -72,7 +73,7 @@ underUpdate sc x =
 
 -- 01: "relation id (modify: of its from-ctx)"
 abbrev pub modifyContext : Scope → ℕ → ℕ → Context
-modifyContext sc from to = record { number = to; relation = relationOfContext sc from; fromFor = false }
+modifyContext sc from to = record { number = to; relation = relationOfContext sc from; opener = blr.modify }
 
 unfoldable pub underHeading : List Relation → Scope → Heading → Scope
 underHeading d sc loop = sc
@@ -81,7 +82,7 @@ underHeading d sc handler = sc
 underHeading d sc (receive m) = sc
 underHeading d sc (send m) =
     record { contexts = sc .contexts; target = sc .target; sends = sc .sends ++ (m ∷ []); labels = sc .labels }
-underHeading d sc (store s) = underUpdate sc (streamContext d false s)
+underHeading d sc (store s) = underUpdate sc (streamContext d blr.store s)
 underHeading d sc (label n) =
     record { contexts = sc .contexts; target = sc .target; sends = sc .sends; labels = sc .labels ++ (n ∷ []) }
 

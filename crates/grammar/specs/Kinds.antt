@@ -3,9 +3,10 @@ use Prim.Native.Nat.{ℕ}
 use mathlib.Core.Path.{_≡_}
 use mathlib.Core.Bool.{Bool, true, false, cond, _&&_}
 use mathlib.Core.Option.{Option, none, some, Option·map}
-use lib.IntN.{ℤ, pos, negsuc, _+ℤ_, _-ℤ_}
+use lib.IntN.{ℤ, pos, _+ℤ_, _-ℤ_}
 use lib.Signed.{ltZ, leZ}
 use Rattle.wire.specs.Words.{signed}
+use Rattle.wire.specs.Limits.{minArithmeticScale}
 use Rattle.wire.specs.Lists.{isSome}
 use Rattle.wire.specs.declared.codes.Operator.{Operator}
 use Rattle.wire.specs.declared.codes.Operator.the-variants.{Add, Subtract, Multiply, Divide}
@@ -56,7 +57,7 @@ resultScale Divide a b = a -ℤ b
 
 -- 01: "arithmetic -18 to 0"
 abbrev pub arithmeticRange : ℤ → Option Kind
-arithmeticRange s = cond (leZ (negsuc 17) s && leZ s (pos 0)) (some (Number s)) none
+arithmeticRange s = cond (leZ minArithmeticScale s && leZ s (pos 0)) (some (Number s)) none
 
 -- 01: "arithmetic numbers"
 abbrev pub negatedKind : Option Kind → Option Kind

@@ -16,6 +16,6 @@ pub mod Rses
 pub mod Values
 pub mod Statements
 pub mod Reading
-pub mod Steps
 pub mod Demands
 pub mod Answered
+pub mod Internal

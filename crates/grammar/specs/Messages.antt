@@ -1,9 +1,10 @@
 -- Reading messages.
 use Prim.Native.Nat.{ℕ, zero, suc, _+_}
-use mathlib.Core.Bool.{Bool, cond, not, _&&_}
+use mathlib.Core.Bool.{cond, not, _&&_}
 use mathlib.Core.List.{List, [], _∷_, _++_}
 use lib.Dec.{eqb, leb}
 use Rattle.wire.specs.Codes as blr
+use Rattle.wire.specs.Limits.{maxMessageParameters, maxParameters, maxMessageBytes}
 use Rattle.wire.specs.Lists.{anyOf}
 use Rattle.wire.specs.Classes.{descriptorClass}
 use Rattle.wire.specs.declared.codes.DataType.{DataType}
@@ -37,7 +38,7 @@ descriptor size = do
   p ← place
   t ← coded descriptorClass
   d ← descriptorUnder t
-  need (leb (size + held (descriptorFormat d)) 4096) TooGreat p
+  need (leb (size + held (descriptorFormat d)) maxMessageBytes) TooGreat p
   return d
 
 unfoldable pub descriptors : ℕ → ℕ → Reader (List Descriptor)
@@ -51,7 +52,7 @@ descriptors (suc n) size = do
 unfoldable pub message : List Message → Reader Message
 message ms = do
   m ← tested byte (λ m. not (anyOf (λ x. eqb (x .number) m) ms)) BadMessage
-  n ← tested word (λ n. leb n 128 && leb (parameterCount ms + n) 256) TooGreat
+  n ← tested word (λ n. leb n maxMessageParameters && leb (parameterCount ms + n) maxParameters) TooGreat
   ds ← descriptors n 0
   return (record { number = m; descriptors = ds })
 

@@ -5,6 +5,7 @@ use mathlib.Core.List.{List}
 use lib.Dec.{eqb, leb, ltb}
 use lib.ListN.{length, take, drop}
 use Rattle.wire.specs.Words.{byteAt, wordAt, longAt}
+use Rattle.wire.specs.Limits.{maxStatements, maxContexts}
 use Rattle.wire.specs.Classes.{Class}
 use Rattle.grammar.specs.declared.Refusal.{Refusal}
 use Rattle.grammar.specs.declared.Refusal.the-variants.{EndsEarly, NotDue, LeftOut, TooGreat}
@@ -111,13 +112,13 @@ withContext c = record { at = c .at; statements = c .statements; contexts = c .c
 abbrev pub withCondition : Cursor → Cursor
 withCondition c = record { at = c .at; statements = c .statements; contexts = c .contexts; conditions = c .conditions + 1 }
 
--- "512 statements": one more, whose code stands at p
+-- 01: "512 statements": one more, whose code stands at p
 unfoldable pub countStatement : ℕ → Reader (Unit {0})
-countStatement p s c = cond (ltb (c .statements) 512) (read tt (withStatement c)) (refused TooGreat p)
+countStatement p s c = cond (ltb (c .statements) maxStatements) (read tt (withStatement c)) (refused TooGreat p)
 
--- "32 context declarations": one more, whose code stands at p
+-- 01: "32 context declarations": one more, whose code stands at p
 unfoldable pub opened : ℕ → Reader (Unit {0})
-opened p s c = cond (ltb (c .contexts) 32) (read tt (withContext c)) (refused TooGreat p)
+opened p s c = cond (ltb (c .contexts) maxContexts) (read tt (withContext c)) (refused TooGreat p)
 
 -- one condition more
 unfoldable pub noted : Reader (Unit {0})

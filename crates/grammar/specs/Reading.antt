@@ -1,18 +1,18 @@
 -- The answer of reading for every request, dictionary and table length, and what the three tables hold afterwards.
 use Prim.Native.Nat.{ℕ, _-_}
-use mathlib.Core.Bool.{Bool, true, false, cond, _&&_}
-use mathlib.Core.List.{List, [], _∷_, _++_}
+use mathlib.Core.Bool.{Bool, cond, _&&_}
+use mathlib.Core.List.{List, [], _++_}
 use lib.Dec.{eqb, leb}
 use lib.ListN.{length, replicate}
 use Rattle.wire.specs.Codes as blr
+use Rattle.wire.specs.Limits.{maxRequestBytes, maxDepth, maxStatements, maxMessages, statementTableNumbers, parameterTableNumbers, contextTableNumbers}
 use Rattle.dictionary.specs.Dictionary.{Relation, Checked, proper, atFault, dictionary}
 use Rattle.grammar.specs.declared.Cursor.{Cursor}
-use Rattle.grammar.specs.declared.Refusal.{Refusal}
 use Rattle.grammar.specs.declared.Refusal.the-variants.{TablesTooShort, RequestTooLong, BadDictionary, BadVersion, NotDue, BytesAfterEnd}
 use Rattle.grammar.specs.Tree.{Message, Statements, Request}
-use Rattle.grammar.specs.Environment.{Environment, outermost}
+use Rattle.grammar.specs.Environment.{outermost}
 use Rattle.grammar.specs.Rows.{requestStatementRows, parameterRows, requestContextRows}
-use Rattle.grammar.specs.Reader.{Read, read, refused, Reader, _>>=_, _>>_, return, need, place, code, countStatement}
+use Rattle.grammar.specs.Reader.{Read, read, refused, Reader, _>>=_, _>>_, return, place, code, countStatement}
 use Rattle.grammar.specs.Messages.{messages}
 use Rattle.grammar.specs.Statements.{many, readStatement}
 
@@ -20,9 +20,9 @@ use Rattle.grammar.specs.Statements.{many, readStatement}
 unfoldable pub nothingMore : Reader (Unit {0})
 nothingMore s c = cond (eqb (c .at) (length s)) (read tt c) (refused BytesAfterEnd (c .at))
 
--- 01: "Depth 32: .. the outer begin the first."
+-- 01: "Depth 32: .. the outer begin the first."; the other levels are left for what stands in it
 unfoldable pub outerStatements : List Relation → List Message → Reader Statements
-outerStatements d ms = many 512 (readStatement 32 (record { relations = d; messages = ms }) outermost)
+outerStatements d ms = many maxStatements (readStatement (maxDepth - 1) (record { relations = d; messages = ms }) outermost)
 
 -- 01: "Request: 4 (version), begin 2, messages, statements, end 255, eoc 76, nothing more."
 unfoldable pub request : List Relation → Reader Request
@@ -31,7 +31,7 @@ request d = do
   p ← place
   code blr.begin NotDue
   countStatement p
-  ms ← messages 16 []
+  ms ← messages maxMessages []
   ss ← outerStatements d ms
   code blr.eoc NotDue
   nothingMore
@@ -46,11 +46,12 @@ beside (atFault p) s = refused BadDictionary p
 
 -- a request beside a dictionary, room in the tables aside; 01: "Order: 1, 2, 3, then reading order"
 unfoldable pub reading : List ℕ → List ℕ → Read Request
-reading s d = cond (leb (length s) 65535) (beside (dictionary d) s) (refused RequestTooLong 0)
+reading s d = cond (leb (length s) maxRequestBytes) (beside (dictionary d) s) (refused RequestTooLong 0)
 
 -- 1: "tables below 2048, 1536, 160 numbers"
 abbrev pub room : ℕ → ℕ → ℕ → Bool
-room statements parameters contexts = leb 2048 statements && leb 1536 parameters && leb 160 contexts
+room statements parameters contexts =
+    leb statementTableNumbers statements && leb parameterTableNumbers parameters && leb contextTableNumbers contexts
 
 -- the answer to a request and a dictionary with three tables of so many numbers
 unfoldable pub answer : List ℕ → List ℕ → ℕ → ℕ → ℕ → Read Request

@@ -2,14 +2,15 @@
 use Prim.Native.Nat.{ℕ}
 use mathlib.Core.Path.{_≡_}
 use mathlib.Core.Bool.{Bool, true, false}
-use mathlib.Core.List.{List, [], _∷_}
+use mathlib.Core.List.{List, [], _∷_, map}
 use mathlib.Core.Option.{Option, none, some}
 use lib.Dec.{eqb}
+use Rattle.wire.specs.Codes as blr
 use Rattle.wire.specs.Lists.{among, isSome}
 use Rattle.dictionary.specs.Dictionary.{Relation}
 use Rattle.dictionary.specs.Naming.{relationOf}
 use Rattle.grammar.specs.Tree.{Message, Stream, Reference, field, parameter, parameter2, Heading, loop, modify, handler, receive, send, store, label, Receives, last, more}
-use Rattle.grammar.specs.Environment.{Environment, Context, Scope, underStreams, contextOf, messageOf, parameterFormat, fieldFormat}
+use Rattle.grammar.specs.Environment.{Environment, Context, Scope, contextOf, messageOf, parameterFormat, fieldFormat}
 
 -- ---- tests, which reading makes too
 
@@ -21,7 +22,7 @@ declared e m = isSome (messageOf e m)
 
 abbrev pub openedByFor : Option Context → Bool
 openedByFor none = false
-openedByFor (some x) = x .fromFor
+openedByFor (some x) = eqb (x .opener) blr.for
 
 -- 01: "Erase and modify name a context from a for."
 unfoldable pub ofFor : Scope → ℕ → Bool
@@ -44,6 +45,14 @@ parameterTarget sc m = among m (sc .sends)
 
 -- ---- the rules
 
+-- no number stands twice in a list
+abbrev pub Unique : List ℕ → Type 0
+Unique [] = Unit {0}
+Unique (x ∷ xs) = (among x xs ≡ false) × Unique xs
+
+abbrev pub messageNumbers : List Message → List ℕ
+messageNumbers ms = map (λ m. m .number) ms
+
 abbrev pub Known : Environment → Scope → Reference → Type 0
 Known e sc (field c n) = isSome (fieldFormat sc c n) ≡ true
 Known e sc (parameter m i) = isSome (parameterFormat e m i) ≡ true
@@ -54,14 +63,20 @@ Target sc (field c n) = fieldTarget sc c ≡ true
 Target sc (parameter m i) = parameterTarget sc m ≡ true
 Target sc (parameter2 m i flag) = parameterTarget sc m ≡ true
 
--- 01: "A number already in scope cannot be declared again, nor twice among the streams of one rse (11); after its scope it can."
+-- 01: "A number already in scope cannot be declared again, ..; after its scope it can."
 abbrev pub StreamScoped : List Relation → Scope → Stream → Type 0
 StreamScoped d sc s = (isSome (relationOf d (s .relation)) ≡ true) × (inScope sc (s .context) ≡ false)
 
--- each beside the contexts in scope and those of the streams before it
+abbrev pub EachScoped : List Relation → Scope → List Stream → Type 0
+EachScoped d sc [] = Unit {0}
+EachScoped d sc (s ∷ ss) = StreamScoped d sc s × EachScoped d sc ss
+
+abbrev pub streamContexts : List Stream → List ℕ
+streamContexts ss = map (λ s. s .context) ss
+
+-- 01: "nor twice among the streams of one rse (11)"
 abbrev pub StreamsScoped : List Relation → Scope → List Stream → Type 0
-StreamsScoped d sc [] = Unit {0}
-StreamsScoped d sc (s ∷ ss) = StreamScoped d sc s × StreamsScoped d (underStreams d sc (s ∷ [])) ss
+StreamsScoped d sc ss = EachScoped d sc ss × Unique (streamContexts ss)
 
 -- 01: "Store and modify contain no send or receive."
 abbrev pub Exchanged : Environment → Scope → ℕ → Type 0
@@ -76,15 +91,11 @@ HeadingScoped e sc (send m) = Exchanged e sc m
 HeadingScoped e sc (store s) = StreamScoped (e .relations) sc s
 HeadingScoped e sc (label n) = Unit {0}
 
--- 01: "Leave stands inside a label of its number and means the nearest; labels may repeat."
+-- 01: "Leave stands inside a label of its number"; which label it means, where several have that number, is not said here
 abbrev pub Labelled : Scope → ℕ → Type 0
 Labelled sc n = among n (sc .labels) ≡ true
 
--- 01: "select 13, one or more receive statements of different messages"
-abbrev pub Selected : Environment → Scope → List ℕ → ℕ → Type 0
-Selected e sc before m = Exchanged e sc m × (among m before ≡ false)
-
--- no message is declared twice
-abbrev pub Distinct : List ℕ → List Message → Type 0
-Distinct before [] = Unit {0}
-Distinct before (m ∷ ms) = (among (m .number) before ≡ false) × Distinct (m .number ∷ before) ms
+-- the messages of the receives of a select
+abbrev pub selectedMessages : Receives → List ℕ
+selectedMessages (last m s) = m ∷ []
+selectedMessages (more m s rs) = m ∷ selectedMessages rs

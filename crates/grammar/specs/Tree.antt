@@ -1,4 +1,4 @@
--- Requests as trees. What only two or more productions share has a type of its own: names, references, headings.
+-- Requests as trees. What two or more productions share has a type of its own: names, references, headings.
 use Prim.Native.Nat.{ℕ}
 use mathlib.Core.List.{List}
 use Rattle.wire.specs.declared.codes.Width.{Width}

@@ -1,6 +1,9 @@
 // What the reader and the evaluator share: refusals, and how far a reading has come.
 ghost use mathlib.Core.Path.{_≡_};
 ghost use Rattle.grammar.specs.Refusals.{number};
+use wire::numbers::ContextNumber;
+use wire::numbers::LabelNumber;
+use wire::numbers::MessageNumber;
 
 // The refusals of document 01, named by what went wrong. The definition `number` has 01's number for each.
 pub enum Refusal {
@@ -89,6 +92,22 @@ pub enum Step {
 // A byte that was read.
 pub enum ByteStep {
     Is(u8, Cursor),
+    Refused(Refusal, usize),
+}
+
+// The number of a context, a message or a label that was read.
+pub enum ContextStep {
+    Is(ContextNumber, Cursor),
+    Refused(Refusal, usize),
+}
+
+pub enum MessageStep {
+    Is(MessageNumber, Cursor),
+    Refused(Refusal, usize),
+}
+
+pub enum LabelStep {
+    Is(LabelNumber, Cursor),
     Refused(Refusal, usize),
 }
 

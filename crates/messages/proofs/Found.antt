@@ -10,7 +10,7 @@ use Rattle.wire.specs.Lists.{find, isSome}
 use Rattle.grammar.specs.Tree as Tree
 use Rattle.grammar.specs.Kinds as Kinds
 use Rattle.grammar.specs.Kinds.{formatKind}
-use Rattle.grammar.specs.Environment as Names
+use Rattle.grammar.specs.Environment as Grammar
 use Rattle.grammar.specs.Environment.{Environment, descriptorFormat, parameterFormat}
 use Rattle.grammar.specs.Scope.{declared}
 use Rattle.scopes.proofs.Scopes.{find-map}
@@ -38,14 +38,14 @@ some-map f none = refl
 some-map f (some a) = refl
 
 module _ (e : Environment) (table : List ℕ) (x : Messages) (k : e .messages ≡ messagesOf table x) (m : ℕ) where
-  pub found-in : Names.messageOf e m ≡ foundIn table (foundOf (declaredIn x) m)
-  unfolding Names.messageOf messagesOf
+  pub found-in : Grammar.messageOf e m ≡ foundIn table (foundOf (declaredIn x) m)
+  unfolding Grammar.messageOf messagesOf
   found-in =
       ap (find (λ y. eqb (y .number) m)) k ∙ find-map (messageIn table) (λ y. eqb (y .number) m) (declaredIn x) ∙
       found-answer table (find (λ y. eqb (y .number .0) m) (declaredIn x))
 
   module _ (y : Message) (h : foundOf (declaredIn x) m ≡ Is y) where
-    pub found-message : Names.messageOf e m ≡ some (messageIn table y)
+    pub found-message : Grammar.messageOf e m ≡ some (messageIn table y)
     found-message = found-in ∙ ap (foundIn table) h
 
     pub message-declared : declared e m ≡ true
@@ -60,7 +60,7 @@ module _ (e : Environment) (table : List ℕ) (x : Messages) (k : e .messages �
     found-some i = sym (some-map formatKind (parameterFormat e m i)) ∙ ap isSome (found-kind i)
 
   module _ (h : foundOf (declaredIn x) m ≡ Nothing) where
-    pub no-message : Names.messageOf e m ≡ none
+    pub no-message : Grammar.messageOf e m ≡ none
     no-message = found-in ∙ ap (foundIn table) h
 
     pub message-undeclared : declared e m ≡ false

@@ -11,7 +11,7 @@ use Rattle.grammar.specs.Kinds.{formatKind}
 use Rattle.grammar.specs.Environment.{descriptorFormat}
 use Rattle.grammar.specs.declared.Fit.{Fit}
 use Rattle.grammar.specs.declared.Fit.the-variants as Fit
-use Rattle.grammar.specs.Steps.{fitOf}
+use Rattle.grammar.specs.Internal.Steps.{fitOf}
 use Rattle.messages.specs.declared.declared.Message.{Message}
 use Rattle.messages.specs.Entries.{descriptorOf, descriptorAt, descriptorsAt, parameterKind}
 

@@ -27,18 +27,18 @@ use Rattle.grammar.specs.Sizes.{parameterCount}
 use Rattle.grammar.specs.Rows.{descriptorRows, parameterRows}
 use Rattle.grammar.specs.Reader.{Read, read, refused, onRead, on, peek, byte, word, tested}
 use Rattle.grammar.specs.Messages.{descriptor, descriptors, message, messages}
-use Rattle.grammar.specs.Steps.{stepOf, noKind}
+use Rattle.grammar.specs.Internal.Steps.{stepOf, noKind}
 use Rattle.grammar.proofs.StepLaws.{absurd-eq, step-read, step-refused}
 use Rattle.grammar.proofs.Went.{undo, same, both, taken-read, tested-read, peek-read}
 use Rattle.messages.specs.declared.declared.Message.{Message}
 use Rattle.messages.specs.declared.declared.Messages.{Messages}
 use Rattle.messages.specs.declared.declared.FoundMessage.the-variants as Found
 use Rattle.messages.specs.declared.reading.Parameter.{Parameter}
-use Rattle.messages.specs.declared.reading.MessageStep.{MessageStep}
-use Rattle.messages.specs.declared.reading.MessageStep.the-variants as MessageStep
+use Rattle.messages.specs.declared.reading.DeclaredStep.{DeclaredStep}
+use Rattle.messages.specs.declared.reading.DeclaredStep.the-variants as DeclaredStep
 use Rattle.messages.specs.declared.reading.Declaration.{Declaration}
 use Rattle.messages.specs.Entries.{declaredIn, foundOf, withMessage, entriesFrom, noMessage}
-use Rattle.messages.specs.Declaring.{Described, messageBeside, messageStep, Told, Declares}
+use Rattle.messages.specs.Declaring.{Described, messageBeside, declaredStep, Told, ReadEach, Declares}
 use Rattle.messages.proofs.Searches.{isFound, found-any}
 use Rattle.messages.proofs.Tables.{count-more, table-more}
 use Rattle.messages.proofs.Descriptors.{taken-ended, peek-ended}
@@ -59,7 +59,7 @@ module _ (s : List ℕ) (c : Cursor) (before : Messages) (table : List ℕ) wher
   abbrev here : Read Tree.Message
   here = messageBeside (declaredIn before) (before .rows) s c
 
-  pub told-refused : {r : Refusal} {p : ℕ} → here ≡ refused r p → (table′ : List ℕ) → Told s c before table table′ (MessageStep.Refused r p)
+  pub told-refused : {r : Refusal} {p : ℕ} → here ≡ refused r p → (table′ : List ℕ) → Told s c before table table′ (DeclaredStep.Refused r p)
   told-refused e table′ = record { answer = rw e; filled = rw e }
 
   pub message-ended : {r : Refusal} {p : ℕ} → byte s c ≡ refused r p → here ≡ refused EndsEarly (length s)
@@ -104,7 +104,7 @@ module _ (s : List ℕ) (c : Cursor) (before : Messages) (table : List ℕ) wher
             described = rw w at j′
 
             pub message-told : {k : Fit} {q : Cursor} → r ≡ Step.Next k q → {y : Message} →
-                y ≡ record { number = record { 0 = m }; first = before .rows; parameters = n } → Told s c before table table′ (MessageStep.Is y q)
+                y ≡ record { number = record { 0 = m }; first = before .rows; parameters = n } → Told s c before table table′ (DeclaredStep.Is y q)
             message-told {q} v {y} u =
                 let d = step-read noKind (descriptors n 0 s second) (sym v ∙ described .answer) in
                 let z = told-by (read (d .0) q) (d .1) in
@@ -112,7 +112,7 @@ module _ (s : List ℕ) (c : Cursor) (before : Messages) (table : List ℕ) wher
                 let l : n ≡ length (d .0) = sym (descriptors-many n 0 s second (d .1)) in
                 record { answer = rw (z, u, ← l); filled = rw z f }
 
-            pub message-untold : {u : Refusal} {p : ℕ} → r ≡ Step.Refused u p → Told s c before table table′ (MessageStep.Refused u p)
+            pub message-untold : {u : Refusal} {p : ℕ} → r ≡ Step.Refused u p → Told s c before table table′ (DeclaredStep.Refused u p)
             message-untold {u} {p} v =
                 told-refused (told-by (refused u p) (step-refused noKind (descriptors n 0 s second) (sym v ∙ described .answer))) table′
 
@@ -129,12 +129,12 @@ beside-few before rows s c {m} {q} h =
     same v₂ (λ m q. rows + length (m .descriptors) ≤ 256) (omega (arith, l, descriptors-many n 0 s q₂ e₂)))))
 
 -- the code's answer taken apart
-told-read : (row : ℕ) (x : Read Tree.Message) {y : Message} {q : Cursor} → MessageStep.Is y q ≡ messageStep row x →
+told-read : (row : ℕ) (x : Read Tree.Message) {y : Message} {q : Cursor} → DeclaredStep.Is y q ≡ declaredStep row x →
     (m : Tree.Message) × (x ≡ read m q) × (y ≡ record { first = row; number = record { 0 = m .number }; parameters = length (m .descriptors) })
 told-read row (read m c) e = (m, cc, cc)
 told-read row (refused r p) e = absurd-eq (cc)
 
-told-not : (row : ℕ) (x : Read Tree.Message) {r : Refusal} {p : ℕ} → MessageStep.Refused r p ≡ messageStep row x → x ≡ refused r p
+told-not : (row : ℕ) (x : Read Tree.Message) {r : Refusal} {p : ℕ} → DeclaredStep.Refused r p ≡ declaredStep row x → x ≡ refused r p
 told-not row (read m c) e = absurd-eq (cc)
 told-not row (refused r p) e = cc
 
@@ -237,18 +237,18 @@ module _ {s : List ℕ} {c₀ c : Cursor} {x : Messages} {table₀ table : List 
   reached-length = ap length (r .filled) ∙ length-sets table₀ 0 (parameterRows (r .list))
 
   declares-refused : {u : Refusal} {p : ℕ} → messages (16 - x .count) (r .list) s c ≡ refused u p → (table′ : List ℕ) →
-      {z : Declaration} → z ≡ record { step = Step.Refused u p; messages = x } → Declares (messages 16 [] s c₀) table₀ table′ z
+      {z : Declaration} → z ≡ record { step = Step.Refused u p; messages = x } → ReadEach (messages 16 [] s c₀) table₀ table′ z
   declares-refused e table′ w =
       let i = r .reading ∙ e in
       rw w (record { answer = rw i; filled = rw i; entries = rw i; rows = rw i })
 
   pub declares-ended : {u : Refusal} {p : ℕ} → peek s c ≡ refused u p → {z : Declaration} →
-      z ≡ record { step = Step.Refused EndsEarly (length s); messages = x } → Declares (messages 16 [] s c₀) table₀ table z
+      z ≡ record { step = Step.Refused EndsEarly (length s); messages = x } → ReadEach (messages 16 [] s c₀) table₀ table z
   declares-ended e w = declares-refused (messages-ended s c (r .list) (16 - x .count) e) table w
 
   -- after as many messages as there may be
   declares-by : (y : Read ℕ) → messages 16 [] s c₀ ≡ onRead y (λ k q. read (r .list) q) →
-      Declares (messages 16 [] s c₀) table₀ table (record {
+      ReadEach (messages 16 [] s c₀) table₀ table (record {
         step = stepOf (noKind {A = List Tree.Message})
             (onRead y (λ k q. read [] q));
         messages = x;
@@ -257,7 +257,7 @@ module _ {s : List ℕ} {c₀ c : Cursor} {x : Messages} {table₀ table : List 
   declares-by (refused u p) i = record { answer = rw i; filled = rw i; entries = rw i; rows = rw i }
 
   pub declares-last : 16 ≤ x .count → {y : Step} → y ≡ stepOf noKind (messages 0 [] s c) → {z : Declaration} →
-      z ≡ record { step = y; messages = x } → Declares (messages 16 [] s c₀) table₀ table z
+      z ≡ record { step = y; messages = x } → ReadEach (messages 16 [] s c₀) table₀ table z
   unfolding messages
   declares-last h v w =
       let n : 16 - x .count ≡ 0 = omega arith in
@@ -266,7 +266,7 @@ module _ {s : List ℕ} {c₀ c : Cursor} {x : Messages} {table₀ table : List 
 
   module _ {k : ℕ} {q : Cursor} (e : peek s c ≡ read k q) where
     pub declares-all : (k ≡ 4 → ⊥) → {z : Declaration} → z ≡ record { step = Step.Next NoKind c; messages = x } →
-        Declares (messages 16 [] s c₀) table₀ table z
+        ReadEach (messages 16 [] s c₀) table₀ table z
     declares-all h w =
         let i = r .reading ∙ messages-over s c (r .list) (16 - x .count) e h in
         rw w (record { answer = rw i; filled = rw i (r .filled); entries = rw i (r .entries); rows = rw i (r .rows) })
@@ -279,9 +279,9 @@ module _ {s : List ℕ} {c₀ c : Cursor} {x : Messages} {table₀ table : List 
           let m : message (r .list) s (on c 1) ≡ y = message-beside (r .list) s (on c 1) ∙ rw (r .entries, r .rows) at j in
           messages-next s c (r .list) (16 - x .count) z e h ∙ rw m
 
-      pub declares-untold : {table₁ : List ℕ} {y : MessageStep} {u : Refusal} {p : ℕ} → Told s (on c 1) x table table₁ y →
-          y ≡ MessageStep.Refused u p → {z : Declaration} → z ≡ record { step = Step.Refused u p; messages = x } →
-          Declares (messages 16 [] s c₀) table₀ table₁ z
+      pub declares-untold : {table₁ : List ℕ} {y : DeclaredStep} {u : Refusal} {p : ℕ} → Told s (on c 1) x table table₁ y →
+          y ≡ DeclaredStep.Refused u p → {z : Declaration} → z ≡ record { step = Step.Refused u p; messages = x } →
+          ReadEach (messages 16 [] s c₀) table₀ table₁ z
       declares-untold {table₁} {y} {u} {p} t v w =
           let n = told-not (x .rows) (messageBeside (declaredIn x) (x .rows) s (on c 1)) (sym v ∙ t .answer) in
           declares-refused (beside (refused u p) n) table₁ w
@@ -305,8 +305,8 @@ module _ {s : List ℕ} {c₀ c : Cursor} {x : Messages} {table₀ table : List 
             reading = r .reading ∙ beside (read tree q₁) d ∙ rw z;
           }
 
-      module _ {table₁ : List ℕ} {y : MessageStep} {m : Message} {q₁ : Cursor} (t : Told s (on c 1) x table table₁ y)
-          (v : y ≡ MessageStep.Is m q₁) where
+      module _ {table₁ : List ℕ} {y : DeclaredStep} {m : Message} {q₁ : Cursor} (t : Told s (on c 1) x table table₁ y)
+          (v : y ≡ DeclaredStep.Is m q₁) where
         pub told-few : x .rows + m .parameters ≤ 256
         told-few =
             let d = told-read (x .rows) (messageBeside (declaredIn x) (x .rows) s (on c 1)) (sym v ∙ t .answer) in
@@ -320,3 +320,22 @@ module _ {s : List ℕ} {c₀ c : Cursor} {x : Messages} {table₀ table : List 
             w ∙ rw (lt-ltb (x .count) 16 i) in
             subst (λ x. Reached s c₀ q₁ x table₀ table₁) (sym u)
             (more (d .0) q₁ (d .1) table₁ (rw (d .1) at (t .filled)) m (d .2))
+
+-- ---- the whole: what was read stays, and a refusal leaves zeros
+
+pub declares-read : (x : Read (List Tree.Message)) {table table₁ : List ℕ} {y : Declaration} {k : Fit} {q : Cursor} →
+    ReadEach x table table₁ y → y .step ≡ Step.Next k q → Declares x table table₁ y
+declares-read (read ms c) h e = record { answer = h .answer; filled = h .filled; entries = h .entries; rows = h .rows }
+declares-read (refused r p) h e = let a = h .answer in absurd-eq (cc)
+
+pub declares-nothing : (x : Read (List Tree.Message)) {table table₁ table₂ : List ℕ} {y : Declaration} {u : Refusal} {p : ℕ} →
+    ReadEach x table table₁ y → y .step ≡ Step.Refused u p → length table₁ ≡ length table → table₂ ≡ replicate (length table₁) 0 →
+    {n : Messages} → n ≡ record { all = replicate 16 noMessage; count = 0; rows = 0 } → {z : Declaration} →
+    z ≡ record { step = Step.Refused u p; messages = n } → Declares x table table₂ z
+declares-nothing (read ms c) h e l f v w = let a = h .answer in absurd-eq (cc)
+declares-nothing (refused r q) h e l f v w = rw (w, v) (record {
+  answer = sym e ∙ h .answer;
+  filled = f ∙ ap (λ n. replicate n 0) l;
+  entries = refl;
+  rows = refl;
+})

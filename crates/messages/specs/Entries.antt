@@ -7,6 +7,8 @@ use mathlib.Core.Option.{Option, none, some, Option·map}
 use lib.Dec.{eqb, ltb}
 use lib.ListN.{take, set, getD, getElem?, length}
 use Rattle.wire.specs.Codes as blr
+use Rattle.wire.specs.Internal.Columns.{parameterType, parameterScale, parameterHeld}
+use Rattle.wire.specs.Limits.{maxMessages, maxParameters, parameterRowNumbers}
 use Rattle.wire.specs.Lists.{find}
 use Rattle.wire.specs.declared.codes.Width.the-variants.{Short, Long}
 use Rattle.wire.specs.declared.codes.TextType.the-variants.{Text, Varying, Cstring}
@@ -31,7 +33,7 @@ foundOf xs m = foundAnswer (find (λ x. eqb (x .number .0) m) xs)
 
 abbrev pub withMessage : Messages → Message → Messages
 withMessage x m =
-    cond (ltb (x .count) 16) (record { all = set (x .all) (x .count) m; count = x .count + 1; rows = x .rows + m .parameters }) x
+    cond (ltb (x .count) maxMessages) (record { all = set (x .all) (x .count) m; count = x .count + 1; rows = x .rows + m .parameters }) x
 
 -- ---- what the rows of the parameter table stand for
 
@@ -44,11 +46,15 @@ descriptorOf t scale held =
     (cond (eqb t blr.varying) (Tree.Descriptor.text Varying (held - 2))
     (cond (eqb t blr.cstring) (Tree.Descriptor.text Cstring held) Tree.Descriptor.date))))
 
--- a row of the table; what is past the 256 rows of 01 counts as a date
+-- number k of a row
+abbrev pub cell : List ℕ → ℕ → ℕ → ℕ
+cell table row k = getD table (row * parameterRowNumbers + k) 0
+
+-- a row of the table; what is past 01's 256 rows counts as a date
 unfoldable pub descriptorAt : List ℕ → ℕ → Tree.Descriptor
 descriptorAt table row =
-    cond (ltb row 256) (descriptorOf (getD table (row * 6 + 2) 0) (getD table (row * 6 + 3) 0) (getD table (row * 6 + 5) 0))
-    Tree.Descriptor.date
+    cond (ltb row maxParameters)
+    (descriptorOf (cell table row parameterType) (cell table row parameterScale) (cell table row parameterHeld)) Tree.Descriptor.date
 
 -- so many rows from one on
 unfoldable pub descriptorsAt : List ℕ → ℕ → ℕ → List Tree.Descriptor
@@ -68,10 +74,12 @@ parameterKind table x i = Option·map (λ d. formatKind (descriptorFormat d)) (g
 
 -- ---- the array of a list of messages, whose first parameter has a row
 
+abbrev pub messageFrom : ℕ → Tree.Message → Message
+messageFrom row m = record { first = row; number = record { 0 = m .number }; parameters = length (m .descriptors) }
+
 unfoldable pub entriesFrom : ℕ → List Tree.Message → List Message
 entriesFrom row [] = []
-entriesFrom row (m ∷ ms) =
-    record { first = row; number = record { 0 = m .number }; parameters = length (m .descriptors) } ∷ entriesFrom (row + length (m .descriptors)) ms
+entriesFrom row (m ∷ ms) = messageFrom row m ∷ entriesFrom (row + length (m .descriptors)) ms
 
 abbrev pub noMessage : Message
 noMessage = record { first = 0; number = record { 0 = 0 }; parameters = 0 }

@@ -1,14 +1,25 @@
 // The messages that a request has declared, and their parameters, which the parameter table holds.
 ghost use mathlib.Core.Path.{_≡_};
-ghost use lib.ListN.{getD, getElem?};
 ghost use mathlib.Core.Option.{some};
 ghost use Rattle.grammar.specs.Kinds.{formatKind};
 ghost use Rattle.grammar.specs.Environment.{descriptorFormat};
-ghost use Rattle.grammar.specs.Steps.{fitOf};
+ghost use Rattle.grammar.specs.Internal.Steps.{fitOf};
 ghost use Rattle.messages.specs.Entries.{declaredIn, foundOf, withMessage, parameterKind, descriptorOf};
 use grammar::Fit;
 use scopes::kinds::scale_of;
+use wire::blr::CSTRING;
+use wire::blr::LONG;
+use wire::blr::SHORT;
+use wire::blr::TEXT;
+use wire::blr::VARYING;
+use wire::limits::MAX_MESSAGES;
+use wire::limits::MAX_PARAMETERS;
+use wire::limits::PARAMETER_ROW;
 use wire::numbers::MessageNumber;
+use wire::rows::PARAMETER_HELD;
+use wire::rows::PARAMETER_SCALE;
+use wire::rows::PARAMETER_TYPE;
+use wire::table::number_at;
 
 // A message: the row of its first parameter, its number, and how many parameters it has. Messages go by value through every level, so that one
 // is kept small.
@@ -20,7 +31,7 @@ pub struct Message {
 
 // The messages in the order of their declarations, and the rows of all their parameters.
 pub struct Messages {
-    pub all: [Message; 16],
+    pub all: [Message; MAX_MESSAGES],
     pub count: usize,
     pub rows: usize,
 }
@@ -38,7 +49,7 @@ impl Messages {
         let all = self.all;
         let count = self.count;
         let mut i: usize = 0;
-        while i < 16 {
+        while i < MAX_MESSAGES {
             if i == count {
                 return FoundMessage::Nothing;
             }
@@ -52,30 +63,23 @@ impl Messages {
     }
 }
 
-// The number at a place of a table; 0 past its end.
-fn number_at(table: &[u32], at: usize) -> u32
-    ensures { λ r. ⌜ r ≡ getD (now (table .entry)) at 0 ⌝ }
-{
-    if at < table.len() { table[at] } else { 0 }
-}
-
 // The kind of the parameter of a row's type and scale.
 fn row_fit(code: u32, scale: u32, held: u32) -> Fit
     ensures { λ r. ⌜ r ≡ fitOf (some (formatKind (descriptorFormat (descriptorOf code scale held)))) ⌝ }
 {
-    if code == 7 {
+    if code == SHORT as u32 {
         return Fit::Number(scale_of((scale % 256) as u8));
     }
-    if code == 8 {
+    if code == LONG as u32 {
         return Fit::Number(scale_of((scale % 256) as u8));
     }
-    if code == 14 {
+    if code == TEXT as u32 {
         return Fit::Text;
     }
-    if code == 37 {
+    if code == VARYING as u32 {
         return Fit::Text;
     }
-    if code == 40 {
+    if code == CSTRING as u32 {
         return Fit::Text;
     }
     Fit::Date
@@ -90,17 +94,17 @@ pub fn parameter_fit(parameters: &[u32], x: Message, i: u32) -> Fit
         return Fit::NoKind;
     }
     let first = x.first as usize;
-    if 256 <= first {
+    if MAX_PARAMETERS <= first {
         return Fit::Date;
     }
     let row = first + n;
-    if 256 <= row {
+    if MAX_PARAMETERS <= row {
         return Fit::Date;
     }
-    let at = row * 6;
+    let at = row * PARAMETER_ROW;
     row_fit(
-        number_at(parameters, at + 2),
-        number_at(parameters, at + 3),
-        number_at(parameters, at + 5),
+        number_at(parameters, at + PARAMETER_TYPE),
+        number_at(parameters, at + PARAMETER_SCALE),
+        number_at(parameters, at + PARAMETER_HELD),
     )
 }

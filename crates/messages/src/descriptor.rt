@@ -1,11 +1,13 @@
 // One descriptor of a message.
 ghost use mathlib.Core.Path.{_≡_};
 ghost use Prim.Native.Nat.{_≤_, _+_};
-ghost use Rattle.dictionary.specs.Format.{widthBytes, textBytes};
+ghost use Rattle.wire.specs.Limits.{maxMessageBytes};
 ghost use Rattle.grammar.specs.Messages.{descriptorUnder, descriptor};
 ghost use Rattle.messages.specs.Declaring.{formatStep, descriptorStep};
 use classes::DescriptorClass;
 use classes::descriptor_class;
+use dictionary::format::text_bytes;
+use dictionary::format::width_bytes;
 use grammar::ByteStep;
 use grammar::Cursor;
 use grammar::Refusal;
@@ -14,40 +16,19 @@ use steps::next_byte;
 use steps::scale_byte;
 use steps::size_word;
 use wire::codes::DataType;
-use wire::codes::TextType;
-use wire::codes::Width;
+use wire::limits::DATE_SIZE;
+use wire::limits::MAX_MESSAGE_BYTES;
 
 // The fields of a descriptor: its scale byte and the bytes that it holds, and the cursor after it.
-pub enum FormatStep {
+pub(crate) enum FormatStep {
     Is(u8, usize, Cursor),
     Refused(Refusal, usize),
 }
 
 // A descriptor: its type's code, its scale byte and the bytes that it holds, and the cursor after it.
-pub enum DescriptorStep {
+pub(crate) enum DescriptorStep {
     Is(u8, u8, usize, Cursor),
     Refused(Refusal, usize),
-}
-
-fn width_bytes(w: Width) -> usize
-    ensures { λ r. ⌜ r ≡ widthBytes w ⌝ }
-{
-    match w {
-        Width::Short => 2,
-        Width::Long => 4,
-    }
-}
-
-fn text_bytes(t: TextType, n: u32) -> usize
-    requires { ⌜ n ≤ 255 ⌝ }
-    ensures { λ r. ⌜ r ≡ textBytes t n ⌝ }
-{
-    let size = n as usize;
-    match t {
-        TextType::Text => size,
-        TextType::Varying => size + 2,
-        TextType::Cstring => size,
-    }
 }
 
 // What stands under the code of a descriptor.
@@ -59,7 +40,7 @@ fn format(request: &[u8], t: DataType, c: Cursor) -> FormatStep
             ByteStep::Is(scale, after) => FormatStep::Is(scale, width_bytes(w), after),
             ByteStep::Refused(r, p) => FormatStep::Refused(r, p),
         },
-        DataType::Date => FormatStep::Is(0, 8, c),
+        DataType::Date => FormatStep::Is(0, DATE_SIZE, c),
         DataType::Chars(x) => match size_word(request, c) {
             WordStep::Is(n, after) => FormatStep::Is(0, text_bytes(x, n), after),
             WordStep::Refused(r, p) => FormatStep::Refused(r, p),
@@ -68,8 +49,8 @@ fn format(request: &[u8], t: DataType, c: Cursor) -> FormatStep
 }
 
 // A descriptor of a message that has so many bytes before it.
-pub fn read_descriptor(request: &[u8], c: Cursor, size: usize) -> DescriptorStep
-    requires { ⌜ size ≤ 4096 ⌝ }
+pub(crate) fn read_descriptor(request: &[u8], c: Cursor, size: usize) -> DescriptorStep
+    requires { ⌜ size ≤ maxMessageBytes ⌝ }
     ensures { λ r. ⌜ r ≡ descriptorStep (descriptor size (now (request .entry)) c) ⌝ }
 {
     let ByteStep::Is(code, first) = next_byte(request, c) else {
@@ -78,7 +59,7 @@ pub fn read_descriptor(request: &[u8], c: Cursor, size: usize) -> DescriptorStep
     match descriptor_class(code) {
         DescriptorClass::Due(t) => match format(request, t, first) {
             FormatStep::Is(scale, held, after) => {
-                if 4096 < size + held {
+                if MAX_MESSAGE_BYTES < size + held {
                     return DescriptorStep::Refused(Refusal::TooGreat, c.at);
                 }
                 DescriptorStep::Is(code, scale, held, after)

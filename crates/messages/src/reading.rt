@@ -2,11 +2,12 @@
 ghost use mathlib.Core.Path.{_≡_};
 ghost use mathlib.Core.List.{[], _∷_};
 ghost use Prim.Native.Nat.{_≤_, _+_, _*_};
-ghost use lib.ListN.{set, replicate};
+ghost use lib.ListN.{replicate};
 ghost use lib.Seq.{sets};
+ghost use Rattle.wire.specs.Limits.{maxMessages, maxMessageParameters, maxParameters, maxMessageBytes, parameterRowNumbers};
 ghost use Rattle.grammar.specs.Messages.{descriptors, messages};
-ghost use Rattle.grammar.specs.Steps.{stepOf, noKind};
-ghost use Rattle.messages.specs.Declaring.{rowOf, parameterAfter, Described, Told, Declares};
+ghost use Rattle.grammar.specs.Internal.Steps.{stepOf, noKind};
+ghost use Rattle.messages.specs.Declaring.{rowOf, parameterAfter, Described, Told, ReadEach, Declares};
 ghost use Rattle.messages.specs.Entries.{withMessage, noMessage};
 use crate::declared::FoundMessage;
 use crate::declared::Message;
@@ -16,16 +17,30 @@ use crate::descriptor::read_descriptor;
 use grammar::ByteStep;
 use grammar::Cursor;
 use grammar::Fit;
+use grammar::MessageStep;
 use grammar::Refusal;
 use grammar::Step;
 use grammar::WordStep;
-use steps::next_byte;
+use steps::next_message;
 use steps::next_word;
 use steps::peek_byte;
+use wire::blr::MESSAGE;
+use wire::limits::MAX_MESSAGE_PARAMETERS;
+use wire::limits::MAX_MESSAGES;
+use wire::limits::MAX_PARAMETERS;
+use wire::limits::PARAMETER_ROW;
 use wire::numbers::MessageNumber;
+use wire::rows::PARAMETER_HELD;
+use wire::rows::PARAMETER_INDEX;
+use wire::rows::PARAMETER_MESSAGE;
+use wire::rows::PARAMETER_OFFSET;
+use wire::rows::PARAMETER_SCALE;
+use wire::rows::PARAMETER_TYPE;
+use wire::table::clear;
+use wire::table::put;
 
 // The next parameter: its message, its index there, its row of the table, and the bytes of the message before it.
-pub struct Parameter {
+pub(crate) struct Parameter {
     pub message: MessageNumber,
     pub index: usize,
     pub row: usize,
@@ -33,7 +48,7 @@ pub struct Parameter {
 }
 
 // A message that was read.
-pub enum MessageStep {
+pub(crate) enum DeclaredStep {
     Is(Message, Cursor),
     Refused(Refusal, usize),
 }
@@ -44,32 +59,23 @@ pub struct Declaration {
     pub messages: Messages,
 }
 
-// Sets one number of a table; past its end nothing.
-fn put(table: &mut [u32], at: usize, x: u32)
-    ensures { λ _. ⌜ now (table .exit) ≡ set (now (table .entry)) at x ⌝ }
-{
-    if at < table.len() {
-        table[at] = x;
-    }
-}
-
 // A row of the parameter table.
 fn put_row(table: &mut [u32], x: Parameter, code: u8, scale: u8, held: usize)
-    requires { ⌜ (x .index ≤ 128) × ((x .row ≤ 256) × ((x .offset ≤ 4096) × (held ≤ 4096))) ⌝ }
-    ensures { λ _. ⌜ now (table .exit) ≡ sets (now (table .entry)) (x .row * 6) (rowOf x code scale held) ⌝ }
+    requires { ⌜ (x .index ≤ maxMessageParameters) × ((x .row ≤ maxParameters) × ((x .offset ≤ maxMessageBytes) × (held ≤ maxMessageBytes))) ⌝ }
+    ensures { λ _. ⌜ now (table .exit) ≡ sets (now (table .entry)) (x .row * parameterRowNumbers) (rowOf x code scale held) ⌝ }
 {
-    let at = x.row * 6;
-    put(table, at, x.message.0 as u32);
-    put(table, at + 1, x.index as u32);
-    put(table, at + 2, code as u32);
-    put(table, at + 3, scale as u32);
-    put(table, at + 4, x.offset as u32);
-    put(table, at + 5, held as u32);
+    let at = x.row * PARAMETER_ROW;
+    put(table, at + PARAMETER_MESSAGE, x.message.0 as u32);
+    put(table, at + PARAMETER_INDEX, x.index as u32);
+    put(table, at + PARAMETER_TYPE, code as u32);
+    put(table, at + PARAMETER_SCALE, scale as u32);
+    put(table, at + PARAMETER_OFFSET, x.offset as u32);
+    put(table, at + PARAMETER_HELD, held as u32);
 }
 
 // The parameter after one that holds so many bytes.
 fn parameter_after(x: Parameter, held: usize) -> Parameter
-    requires { ⌜ (x .index ≤ 128) × ((x .row ≤ 256) × ((x .offset ≤ 4096) × (held ≤ 4096))) ⌝ }
+    requires { ⌜ (x .index ≤ maxMessageParameters) × ((x .row ≤ maxParameters) × ((x .offset ≤ maxMessageBytes) × (held ≤ maxMessageBytes))) ⌝ }
     ensures { λ r. ⌜ r ≡ parameterAfter x held ⌝ }
 {
     let mut next = x;
@@ -81,7 +87,7 @@ fn parameter_after(x: Parameter, held: usize) -> Parameter
 
 // The descriptors of a message from a parameter on, so many.
 fn read_descriptors(request: &[u8], table: &mut [u32], c: Cursor, x: Parameter, left: usize) -> Step
-    requires { ⌜ (x .index + left ≤ 128) × ((x .row + left ≤ 256) × (x .offset ≤ 4096)) ⌝ }
+    requires { ⌜ (x .index + left ≤ maxMessageParameters) × ((x .row + left ≤ maxParameters) × (x .offset ≤ maxMessageBytes)) ⌝ }
     ensures { λ r. ⌜ Described (descriptors left (x .offset) (now (request .entry)) c) x (now (table .entry)) (now (table .exit)) r ⌝ }
 {
     if left == 0 {
@@ -110,7 +116,7 @@ fn first_parameter(message: MessageNumber, row: usize) -> Parameter
 
 // A message of its number, its first row and its parameters.
 fn message_of(number: MessageNumber, first: usize, parameters: usize) -> Message
-    requires { ⌜ (first ≤ 256) × (parameters ≤ 128) ⌝ }
+    requires { ⌜ (first ≤ maxParameters) × (parameters ≤ maxMessageParameters) ⌝ }
     ensures { λ r. ⌜ r ≡ record { first = first; number = number; parameters = parameters } ⌝ }
 {
     let row = first as u16;
@@ -123,44 +129,41 @@ fn message_of(number: MessageNumber, first: usize, parameters: usize) -> Message
 }
 
 // A message after its code, beside the messages before it.
-fn read_message(request: &[u8], table: &mut [u32], c: Cursor, before: Messages) -> MessageStep
-    requires { ⌜ before .rows ≤ 256 ⌝ }
+fn read_message(request: &[u8], table: &mut [u32], c: Cursor, before: Messages) -> DeclaredStep
+    requires { ⌜ before .rows ≤ maxParameters ⌝ }
     ensures { λ r. ⌜ Told (now (request .entry)) c before (now (table .entry)) (now (table .exit)) r ⌝ }
 {
-    let ByteStep::Is(m, first) = next_byte(request, c) else {
-        return MessageStep::Refused(Refusal::EndsEarly, request.len());
+    let MessageStep::Is(m, first) = next_message(request, c) else {
+        return DeclaredStep::Refused(Refusal::EndsEarly, request.len());
     };
-    if let FoundMessage::Is(_) = before.find(MessageNumber(m)) {
-        return MessageStep::Refused(Refusal::BadMessage, c.at);
+    if let FoundMessage::Is(_) = before.find(m) {
+        return DeclaredStep::Refused(Refusal::BadMessage, c.at);
     }
     let WordStep::Is(n, second) = next_word(request, first) else {
-        return MessageStep::Refused(Refusal::EndsEarly, request.len());
+        return DeclaredStep::Refused(Refusal::EndsEarly, request.len());
     };
     let parameters = n as usize;
-    if 128 < parameters {
-        return MessageStep::Refused(Refusal::TooGreat, first.at);
+    if MAX_MESSAGE_PARAMETERS < parameters {
+        return DeclaredStep::Refused(Refusal::TooGreat, first.at);
     }
-    if 256 < before.rows + parameters {
-        return MessageStep::Refused(Refusal::TooGreat, first.at);
+    if MAX_PARAMETERS < before.rows + parameters {
+        return DeclaredStep::Refused(Refusal::TooGreat, first.at);
     }
-    let x = first_parameter(MessageNumber(m), before.rows);
+    let x = first_parameter(m, before.rows);
     match read_descriptors(request, table, second, x, parameters) {
-        Step::Next(_, after) => MessageStep::Is(
-            message_of(MessageNumber(m), before.rows, parameters),
-            after,
-        ),
-        Step::Refused(r, p) => MessageStep::Refused(r, p),
+        Step::Next(_, after) => DeclaredStep::Is(message_of(m, before.rows, parameters), after),
+        Step::Refused(r, p) => DeclaredStep::Refused(r, p),
     }
 }
 
 // One message more.
 fn with_message(x: Messages, m: Message) -> Messages
-    requires { ⌜ x .rows + m .parameters ≤ 256 ⌝ }
+    requires { ⌜ x .rows + m .parameters ≤ maxParameters ⌝ }
     ensures { λ r. ⌜ r ≡ withMessage x m ⌝ }
 {
     let at = x.count;
     let mut next = x;
-    if at < 16 {
+    if at < MAX_MESSAGES {
         next.all[at] = m;
         next.count = at + 1;
         next.rows = x.rows + m.parameters as usize;
@@ -170,11 +173,11 @@ fn with_message(x: Messages, m: Message) -> Messages
 
 // No message yet.
 fn no_messages() -> Messages
-    ensures { λ r. ⌜ r ≡ record { all = replicate 16 noMessage; count = 0; rows = 0 } ⌝ }
+    ensures { λ r. ⌜ r ≡ record { all = replicate maxMessages noMessage; count = 0; rows = 0 } ⌝ }
 {
     let none = message_of(MessageNumber(0), 0, 0);
     Messages {
-        all: [none; 16],
+        all: [none; MAX_MESSAGES],
         count: 0,
         rows: 0,
     }
@@ -197,36 +200,51 @@ fn no_more(request: &[u8], c: Cursor) -> Step
     let ByteStep::Is(x, _) = peek_byte(request, c) else {
         return Step::Refused(Refusal::EndsEarly, request.len());
     };
-    if x == 4 {
+    if x == MESSAGE {
         return Step::Refused(Refusal::TooGreat, c.at);
     }
     Step::Next(Fit::NoKind, c)
 }
 
-// The messages up to the first other code.
-pub fn read_messages(request: &[u8], table: &mut [u32], c: Cursor) -> Declaration
-    ensures { λ r. ⌜ Declares (messages 16 [] (now (request .entry)) c) (now (table .entry)) (now (table .exit)) r ⌝ }
+// The messages up to the first other code, with what was written before a refusal.
+fn read_each(request: &[u8], table: &mut [u32], c: Cursor) -> Declaration
+    ensures { λ r. ⌜ ReadEach (messages maxMessages [] (now (request .entry)) c) (now (table .entry)) (now (table .exit)) r ⌝ }
 {
     let mut messages = no_messages();
     let mut at = c;
-    while messages.count < 16 {
+    while messages.count < MAX_MESSAGES {
         let ByteStep::Is(x, _) = peek_byte(request, at) else {
             return declared_with(Step::Refused(Refusal::EndsEarly, request.len()), messages);
         };
-        if x != 4 {
+        if x != MESSAGE {
             return declared_with(Step::Next(Fit::NoKind, at), messages);
         }
         let mut after = at;
         after.at = at.at + 1;
         match read_message(request, table, after, messages) {
-            MessageStep::Is(m, next) => {
+            DeclaredStep::Is(m, next) => {
                 messages = with_message(messages, m);
                 at = next;
             }
-            MessageStep::Refused(r, p) => {
+            DeclaredStep::Refused(r, p) => {
                 return declared_with(Step::Refused(r, p), messages);
             }
         }
     }
     declared_with(no_more(request, at), messages)
+}
+
+// The messages up to the first other code. A refusal leaves zeros alone in the table, and no message.
+pub fn read_messages(request: &[u8], table: &mut [u32], c: Cursor) -> Declaration
+    ensures { λ r. ⌜ Declares (messages maxMessages [] (now (request .entry)) c) (now (table .entry)) (now (table .exit)) r ⌝ }
+{
+    let found = read_each(request, table, c);
+    let step = found.step;
+    match step {
+        Step::Next(_, _) => found,
+        Step::Refused(r, p) => {
+            clear(table);
+            declared_with(Step::Refused(r, p), no_messages())
+        }
+    }
 }

@@ -1,5 +1,5 @@
 -- Codes with a level below them, in the code's terms.
-use Prim.Native.Nat.{ℕ, _+_}
+use Prim.Native.Nat.{ℕ, suc, _+_}
 use mathlib.Core.Path.{_≡_, refl, sym, _∙_}
 use mathlib.Core.Bool.{Bool, true, false}
 use mathlib.Core.List.{List}
@@ -19,7 +19,7 @@ use Rattle.grammar.specs.declared.Fit.the-variants as Fit
 use Rattle.grammar.specs.declared.Step.{Step}
 use Rattle.grammar.specs.declared.Step.the-variants as Step
 use Rattle.grammar.specs.Reader.{Read, read, refused, on, byte, peek, coded, countStatement}
-use Rattle.grammar.specs.Steps.{stepOf, noKind}
+use Rattle.grammar.specs.Internal.Steps.{stepOf, noKind}
 use Rattle.grammar.proofs.StepLaws.{taken-whole, taken-cut, peek-here, peek-past}
 use Rattle.grammar.proofs.Went.{never, taken-read}
 use Rattle.reader.specs.declared.heads.Ending.{Ending}
@@ -31,6 +31,9 @@ no-level l e = le-ltb 0 l (omega (arith, e))
 
 pub some-level : (l : ℕ) → (l ≡ 0 → ⊥) → ltb 0 l ≡ true
 some-level l e = lt-ltb 0 l (omega (arith, e))
+
+pub one-left : (l : ℕ) → ltb 0 (suc l) ≡ true
+one-left l = lt-ltb 0 (suc l) (omega arith)
 
 module _ {A : Type 0} (class : ℕ → Class A) (s : List ℕ) (c : Cursor) where
   module _ {x : ℕ} {q : Cursor} (b : byte s c ≡ read x q) where

@@ -11,6 +11,7 @@ use types.Run.{OneOf}
 use denote.Enum.Declared.{tagOf}
 use lib.ListN.{length}
 use lib.Seq.{sets}
+use Rattle.wire.specs.Codes as blr
 use Rattle.wire.specs.Lists.{isSome}
 use Rattle.wire.specs.declared.codes.StatementCode.{StatementCode}
 use Rattle.wire.specs.declared.codes.StatementCode.the-variants as Code
@@ -22,7 +23,7 @@ use Rattle.grammar.specs.declared.Refusal.the-variants.{TooGreat, BadContext, B
 use Rattle.grammar.specs.declared.Step.the-variants as Step
 use Rattle.grammar.specs.declared.Fit.the-variants as Fit
 use Rattle.grammar.specs.Tree.{Stream, Heading, loop, modify, handler, receive, send, store, label}
-use Rattle.grammar.specs.Environment as Names
+use Rattle.grammar.specs.Environment as Grammar
 use Rattle.grammar.specs.Environment.{Environment, underUpdate, underHeading}
 use Rattle.grammar.specs.Scope.{inScope, declared, ofFor, updating}
 use Rattle.grammar.specs.Sizes.{headingContexts}
@@ -31,11 +32,12 @@ use Rattle.grammar.specs.Reader.{Read, read, refused, onRead, need, byte, opene
 use Rattle.grammar.specs.Values.{contextByte, messageByte}
 use Rattle.grammar.specs.Statements.{stream, exchanged, modifyHeading, storeHeading}
 use Rattle.grammar.proofs.Went.{opened-went}
-use Rattle.scopes.specs.declared.scope.Numbers.{Numbers}
 use Rattle.scopes.specs.declared.scope.Context.{Context}
+use Rattle.wire.specs.declared.numbers.MessageNumber.{MessageNumber}
+use Rattle.wire.specs.declared.numbers.LabelNumber.{LabelNumber}
 use Rattle.scopes.specs.declared.scope.Scope.{Scope}
-use Rattle.scopes.specs.Scopes.{withNumber, withContext, contextOf, scopeOf}
-use Rattle.scopes.proofs.Scopes.{with-number, with-number-count, scope-with, with-context-count, with-context-sends, with-context-labels}
+use Rattle.scopes.specs.Scopes.{sendsWith, labelsWith, withContext, contextOf, scopeOf}
+use Rattle.scopes.proofs.Scopes.{with-send, with-send-count, with-label, with-label-count, scope-with, with-context-count, with-context-sends, with-context-labels}
 use Rattle.reader.specs.declared.opening.Opened.{Opened}
 use Rattle.reader.specs.Promises.{relations, headingReader, openRow, OpensHeading}
 use Rattle.reader.specs.Streams.{freshByte, Added}
@@ -44,7 +46,7 @@ use Rattle.reader.proofs.StreamLaws.{tested-is, tested-refused}
 
 -- ---- a context from a for
 
-module _ (sc : Names.Scope) (p : ℕ) (s : List ℕ) (c : Cursor) where
+module _ (sc : Grammar.Scope) (p : ℕ) (s : List ℕ) (c : Cursor) where
   module _ {n : ℕ} {q : Cursor} (e : byte s c ≡ read n q) where
     pub for-there : inScope sc n ≡ true → ofFor sc n ≡ true → forContext sc p s c ≡ read n q
     unfolding forContext contextByte
@@ -79,13 +81,13 @@ module _ (sc : Names.Scope) (p : ℕ) (s : List ℕ) (c : Cursor) where
 
 -- ---- a modify
 
-modify-opened : (sc : Names.Scope) (p : ℕ) (s : List ℕ) (c : Cursor) {u : Unit {0}} {q : Cursor} → opened p s c ≡ read u q →
+modify-opened : (sc : Grammar.Scope) (p : ℕ) (s : List ℕ) (c : Cursor) {u : Unit {0}} {q : Cursor} → opened p s c ≡ read u q →
     modifyHeading sc p s c ≡ onRead (forContext sc p s q) (λ n q. onRead (freshByte sc s q) (λ x q. read (modify n x) q))
 unfolding modifyHeading freshByte
 modify-opened sc p s c {u} {q} e =
     rw (modifyHeading, e) (sym (for-then sc p s q (λ n q. onRead (freshByte sc s q) (λ x q. read (modify n x) q))))
 
-module _ (sc : Names.Scope) (p : ℕ) (s : List ℕ) (c : Cursor) {u : Unit {0}} {q : Cursor} (o : opened p s c ≡ read u q) where
+module _ (sc : Grammar.Scope) (p : ℕ) (s : List ℕ) (c : Cursor) {u : Unit {0}} {q : Cursor} (o : opened p s c ≡ read u q) where
   pub modify-read : {n x : ℕ} {q₁ q₂ : Cursor} → forContext sc p s q ≡ read n q₁ → freshByte sc s q₁ ≡ read x q₂ →
       modifyHeading sc p s c ≡ read (modify n x) q₂
   modify-read e f = modify-opened sc p s c o ∙ rw (e, f)
@@ -100,19 +102,19 @@ module _ (sc : Names.Scope) (p : ℕ) (s : List ℕ) (c : Cursor) {u : Unit {0}}
   pub modify-room : c .contexts < 32
   modify-room = let w = opened-went p s c o in omega (arith, w .0 .declared, w .1)
 
-pub modify-full : (sc : Names.Scope) (p : ℕ) (s : List ℕ) (c : Cursor) {r : Refusal} {z : ℕ} → opened p s c ≡ refused r z →
+pub modify-full : (sc : Grammar.Scope) (p : ℕ) (s : List ℕ) (c : Cursor) {r : Refusal} {z : ℕ} → opened p s c ≡ refused r z →
     modifyHeading sc p s c ≡ refused r z
 unfolding modifyHeading
 modify-full sc p s c e = rw (modifyHeading, e)
 
-pub modify-context-is : (d : List ℕ) (sc : Names.Scope) (n to : ℕ) (x : Context) → Names.contextOf sc n ≡ some (contextOf d x) →
-    contextOf d (record { relation = x .relation; number = record { 0 = to }; «from_for» = false }) ≡ Names.modifyContext sc n to
-unfolding Names.relationOfContext
+pub modify-context-is : (d : List ℕ) (sc : Grammar.Scope) (n to : ℕ) (x : Context) → Grammar.contextOf sc n ≡ some (contextOf d x) →
+    contextOf d (record { relation = x .relation; number = record { 0 = to }; opener = blr.modify }) ≡ Grammar.modifyContext sc n to
+unfolding Grammar.relationOfContext
 modify-context-is d sc n to x e = rw e
 
 -- ---- a store
 
-module _ (rs : List Relation) (sc : Names.Scope) (s : List ℕ) (c : Cursor) where
+module _ (rs : List Relation) (sc : Grammar.Scope) (s : List ℕ) (c : Cursor) where
   pub store-read : {st : Stream} {q : Cursor} → stream rs sc s c ≡ read st q → storeHeading rs sc s c ≡ read (store st) q
   unfolding storeHeading
   store-read e = rw (storeHeading, e)
@@ -131,7 +133,7 @@ updating-is d sc = by (sc .updating)
     by true = refl
     by false = refl
 
-module _ (e : Environment) (sc : Names.Scope) (p : ℕ) (s : List ℕ) (c : Cursor) where
+module _ (e : Environment) (sc : Grammar.Scope) (p : ℕ) (s : List ℕ) (c : Cursor) where
   pub exchanged-updating : updating sc ≡ true → exchanged e sc p s c ≡ refused Misplaced p
   unfolding exchanged
   exchanged-updating u = rw (exchanged, u)
@@ -157,7 +159,7 @@ pub opens-plain : (x : Read Heading) (h : Heading) (q : Cursor) → x ≡ read h
     (ct : List ℕ)
     (sc′ : Scope) → openRow (relations d) (scopeOf d sc) h p ≡ [] → headingContexts h ≡ 0 →
     scopeOf d sc′ ≡ underHeading (relations d) (scopeOf d sc) h → sc′ .count ≡ sc .count →
-    sc′ .sends .0 .count ≤ sc .sends .0 .count + 1 → sc′ .labels .0 .count ≤ sc .labels .0 .count + 1 →
+    sc′ .sends .count ≤ sc .sends .count + 1 → sc′ .labels .count ≤ sc .labels .count + 1 →
     OpensHeading x d p sc c ct ct (record { step = Step.Next Fit.NoKind q; scope = sc′ })
 opens-plain x h q is d p sc c ct sc′ o n u k f g = rw is (record {
   answer = refl;
@@ -173,12 +175,12 @@ target-scope : (d : List ℕ) (sc : Scope) (x : Context) → sc .count < 32 → 
     scopeOf d (withTarget (withContext sc x) (x .number)) ≡ underUpdate (scopeOf d sc) (contextOf d x)
 unfolding scopeOf
 target-scope d sc x h e =
-    ap (λ (z : Names.Scope). record { contexts = z .contexts; target = some (x .number .0); sends = z .sends; labels = z .labels })
+    ap (λ (z : Grammar.Scope). record { contexts = z .contexts; target = some (x .number .0); sends = z .sends; labels = z .labels })
     (scope-with d sc x h e)
 
 module _ (d : List ℕ) (p : ℕ) (sc : Scope) (c : Cursor) (ct ct′ : List ℕ) (x : Context) (place : ℕ) (below : Scope)
     (few : sc .count < 32) (whole : length (sc .contexts) ≡ 32) (added : Added d sc x (c .contexts) place ct ct′ below) where
-  opens-update : (y : Read Heading) (h : Heading) (q : Cursor) → y ≡ read h q → (z : Names.Context) → contextOf d x ≡ z →
+  opens-update : (y : Read Heading) (h : Heading) (q : Cursor) → y ≡ read h q → (z : Grammar.Context) → contextOf d x ≡ z →
       openRow (relations d) (scopeOf d sc) h p ≡ contextRow z place 0 0 → headingContexts h ≡ 1 →
       underHeading (relations d) (scopeOf d sc) h ≡ underUpdate (scopeOf d sc) z →
       OpensHeading y d p sc c ct ct′ (record { step = Step.Next Fit.NoKind q; scope = withTarget below (x .number) })
@@ -198,38 +200,37 @@ module _ (d : List ℕ) (p : ℕ) (sc : Scope) (c : Cursor) (ct ct′ : List ℕ
   })
 
   pub opens-modify : (y : Read Heading) (n : ℕ) (q : Cursor) → y ≡ read (modify n (x .number .0)) q →
-      contextOf d x ≡ Names.modifyContext (scopeOf d sc) n (x .number .0) → place ≡ p →
+      contextOf d x ≡ Grammar.modifyContext (scopeOf d sc) n (x .number .0) → place ≡ p →
       OpensHeading y d p sc c ct ct′ (record { step = Step.Next Fit.NoKind q; scope = withTarget below (x .number) })
   unfolding headingContexts underHeading
   opens-modify y n q is k e =
-      opens-update y (modify n (x .number .0)) q is (Names.modifyContext (scopeOf d sc) n (x .number .0)) k (rw e) refl refl
+      opens-update y (modify n (x .number .0)) q is (Grammar.modifyContext (scopeOf d sc) n (x .number .0)) k (rw e) refl refl
 
   pub opens-store : (y : Read Heading) (st : Stream) (q : Cursor) → y ≡ read (store st) q →
-      contextOf d x ≡ Names.streamContext (relations d) false st → place ≡ p + 1 →
+      contextOf d x ≡ Grammar.streamContext (relations d) blr.store st → place ≡ p + 1 →
       OpensHeading y d p sc c ct ct′ (record { step = Step.Next Fit.NoKind q; scope = withTarget below (x .number) })
   unfolding headingContexts underHeading
-  opens-store y st q is k e = opens-update y (store st) q is (Names.streamContext (relations d) false st) k (rw e) refl refl
+  opens-store y st q is k e = opens-update y (store st) q is (Grammar.streamContext (relations d) blr.store st) k (rw e) refl refl
 
--- a number more
-number-more : (x : Numbers) (n : ℕ) → x .count ≤ 31 → withNumber x n .count ≤ x .count + 1
-number-more x n h = rw (with-number-count x n (omega arith)) (omega arith)
-
-module _ (d : List ℕ) (p : ℕ) (sc : Scope) (c : Cursor) (ct : List ℕ) (y : Read Heading) (n : ℕ) (q : Cursor) where
-  pub opens-receive : y ≡ read (receive n) q → OpensHeading y d p sc c ct ct (record { step = Step.Next Fit.NoKind q; scope = sc })
+module _ (d : List ℕ) (p : ℕ) (sc : Scope) (c : Cursor) (ct : List ℕ) (y : Read Heading) where
+  pub opens-receive : (m : ℕ) (q : Cursor) → y ≡ read (receive m) q →
+      OpensHeading y d p sc c ct ct (record { step = Step.Next Fit.NoKind q; scope = sc })
   unfolding headingContexts underHeading
-  opens-receive is = opens-plain y (receive n) q is d p sc c ct sc refl refl refl refl (omega arith) (omega arith)
+  opens-receive m q is = opens-plain y (receive m) q is d p sc c ct sc refl refl refl refl (omega arith) (omega arith)
 
-  pub opens-send : y ≡ read (send n) q → sc .sends .0 .count ≤ 31 → length (sc .sends .0 .bytes) ≡ 32 →
-      OpensHeading y d p sc c ct ct (record { step = Step.Next Fit.NoKind q; scope = withSend sc n })
+  pub opens-send : (m : MessageNumber) (q : Cursor) → y ≡ read (send (m .0)) q → sc .sends .count < 32 → length (sc .sends .messages) ≡ 32 →
+      OpensHeading y d p sc c ct ct (record { step = Step.Next Fit.NoKind q; scope = withSend sc m })
   unfolding headingContexts underHeading scopeOf
-  opens-send is h e = opens-plain y (send n) q is d p sc c ct (withSend sc n) refl refl
-      (rw (with-number (sc .sends .0) n (omega arith) e)) refl (number-more (sc .sends .0) n h) (omega arith)
+  opens-send m q is h e =
+      let more : sendsWith (sc .sends) m .count ≤ sc .sends .count + 1 = rw (with-send-count (sc .sends) m h) (omega arith) in
+      opens-plain y (send (m .0)) q is d p sc c ct (withSend sc m) refl refl (rw (with-send (sc .sends) m h e)) refl more (omega arith)
 
-  pub opens-label : y ≡ read (label n) q → sc .labels .0 .count ≤ 31 → length (sc .labels .0 .bytes) ≡ 32 →
+  pub opens-label : (n : LabelNumber) (q : Cursor) → y ≡ read (label (n .0)) q → sc .labels .count < 32 → length (sc .labels .labels) ≡ 32 →
       OpensHeading y d p sc c ct ct (record { step = Step.Next Fit.NoKind q; scope = withLabel sc n })
   unfolding headingContexts underHeading scopeOf
-  opens-label is h e = opens-plain y (label n) q is d p sc c ct (withLabel sc n) refl refl
-      (rw (with-number (sc .labels .0) n (omega arith) e)) refl (omega arith) (number-more (sc .labels .0) n h)
+  opens-label n q is h e =
+      let more : labelsWith (sc .labels) n .count ≤ sc .labels .count + 1 = rw (with-label-count (sc .labels) n h) (omega arith) in
+      opens-plain y (label (n .0)) q is d p sc c ct (withLabel sc n) refl refl (rw (with-label (sc .labels) n h e)) refl (omega arith) more
 
 pub opens-loop : (d : List ℕ) (p : ℕ) (sc : Scope) (c : Cursor) (ct : List ℕ) →
     OpensHeading (read loop c) d p sc c ct ct (record { step = Step.Next Fit.NoKind c; scope = sc })
@@ -256,7 +257,7 @@ has-heading n (inr (inr (inr (inr (inl e))))) l u = omega arith
 has-heading n (inr (inr (inr (inr (inr (inl e)))))) l u = omega arith
 has-heading n (inr (inr (inr (inr (inr (inr e)))))) l u = omega arith
 
-pub no-heading : (e : Environment) (sc : Names.Scope) (p : ℕ) (k : StatementCode) (s : List ℕ) (c : Cursor) → OneOf others
+pub no-heading : (e : Environment) (sc : Grammar.Scope) (p : ℕ) (k : StatementCode) (s : List ℕ) (c : Cursor) → OneOf others
     (tagOf the-type k) →
     headingReader e sc p k s c ≡ refused TooGreat p
 no-heading e sc p Code.Assignment s c h = refl

@@ -21,26 +21,25 @@ use Rattle.grammar.specs.Tree.{Heading, loop, handler, rse, for, headed}
 use Rattle.grammar.specs.Bytes.{headBytes, rseBytes, headingBytes, clausesBytes, statementBytes}
 use Rattle.grammar.specs.Environment.{Environment, Scope, underStreams, underRse, underHeading}
 use Rattle.grammar.specs.Sizes.{headingContexts}
-use Rattle.grammar.specs.Rows.{size, streamRows, clausesRows, rseRows, headingRows, statementRows, contextRows}
+use Rattle.grammar.specs.Rows.{size, streamRows, clausesRows, rseRows, headingRows, rowsBelow, statementRows, contextRows}
 use Rattle.grammar.specs.Conditions.{clausesConditions, rseConditions, conditions}
 use Rattle.grammar.specs.Reader.{read}
 use Rattle.grammar.specs.Values.{readValue, readBoolean}
 use Rattle.grammar.specs.Statements.{rseHead, numberedBoolean, clauses, forUnder, headedUnder, statementUnder, readStatement}
-use Rattle.grammar.specs.Steps.{noKind}
+use Rattle.grammar.specs.Internal.Steps.{noKind}
 use Rattle.grammar.specs.Demands.{Octets}
 use Rattle.grammar.proofs.Went.{never}
 use Rattle.grammar.proofs.SoundRses.{HeadingSound, head-sound, numbered-sound, clauses-sound, plain-heading-sound, receive-heading-sound, send-heading-sound, label-heading-sound, modify-heading-sound, store-heading-sound}
 use Rattle.grammar.proofs.SoundValues.{value-sound, boolean-sound}
 use Rattle.grammar.proofs.SoundStatements.{statement-sound}
-use Rattle.grammar.proofs.RowCounts.{clauses-rows}
+use Rattle.grammar.proofs.RowCounts.{stream-rows, clauses-rows}
 use Rattle.scopes.specs.declared.scope.Scope as Scopes
 use Rattle.scopes.specs.Scopes.{scopeOf}
 use Rattle.reader.specs.declared.opening.Opened.{Opened}
 use Rattle.reader.specs.Promises.{Opens, openRow, headingReader}
-use Rattle.reader.specs.Cycle.{Tables, tables, laid, Wrote, From, innerAt, places, statementTables, clausesTables, belowRows, belowTables, closedAfter}
+use Rattle.reader.specs.Cycle.{Tables, tables, laid, Wrote, From, innerAt, places, statementTables, clausesTables, belowTables, closedAfter}
 use Rattle.reader.proofs.Stores.{sets-append}
 use Rattle.reader.proofs.Steps.{stop, fill, by-read}
-use Rattle.reader.proofs.Laid.{stream-rows-length}
 use Rattle.reader.proofs.Statements.{Under}
 use Rattle.reader.proofs.Openings.{streams-closed, heading-closed}
 
@@ -85,7 +84,7 @@ module _ (s : List ℕ) (octets : Octets s) (e : Environment) (sc : Scope) (p : 
         (λ q t. statementTables (e .relations) (scopeOf d (o .scope)) t (q .at) (q .statements) (c .statements)) (tables st ct₁ nd) (tables st₁ ct₂ nd₁) r →
         ct₃ ≡ closedAfter ct₂ (c .contexts) (o .step) r →
         Wrote (headedUnder (innerAt l e) e sc (headingReader e sc p k) s c) noKind c (belowTables e sc p c) (tables st ct nd) (tables st₁ ct₃ nd₁) r
-    unfolding headedUnder belowRows contextRows conditions statementBytes
+    unfolding headedUnder rowsBelow contextRows conditions statementBytes
     headed-wrote {st} {nd} {st₁} {ct₂} {nd₁} {ct₃} {r} w₁ ce = by-read (headingReader e sc p k s c)
         (λ h q y.
         let oe : o .step ≡ Step.Next Fit.NoKind q = w .answer ∙ rw y in
@@ -135,7 +134,7 @@ module _ (s : List ℕ) (octets : Octets s) (e : Environment) (sc : Scope) (l p 
       (λ q t. statementTables (e .relations) (scopeOf d (o .scope)) t (q .at) (q .statements) (c .statements)) (tables st₁ ct₂ nd₁) (tables st₂ ct₃ nd₂) r →
       ct₄ ≡ closedAfter ct₃ (c .contexts) (o .step) r →
       Wrote (forUnder (innerAt l e) e sc s c) noKind c (belowTables e sc p c) (tables st ct nd) (tables st₂ ct₄ nd₂) r
-  unfolding forUnder underRse belowRows contextRows rseRows rseConditions rseBytes conditions statementBytes
+  unfolding forUnder underRse rowsBelow contextRows rseRows rseConditions rseBytes conditions statementBytes
   for-wrote {st} {nd} {st₁} {ct₂} {nd₁} {st₂} {ct₃} {nd₂} {ct₄} {a} {r} wc ws ce = by-read (rseHead (e .relations) sc s c)
       (λ ss q y.
       let oe : o .step ≡ Step.Next Fit.NoKind q = w .answer ∙ rw y in
@@ -166,7 +165,7 @@ module _ (s : List ℕ) (octets : Octets s) (e : Environment) (sc : Scope) (l p 
       let inner = clausesRows (e .relations) sc₁ cs (q .at) in
       let last = contextRows (e .relations) sc₁ t (q₁ .at) in
       let rows : q .contexts * 5 ≡ c .contexts * 5 + length own =
-      omega (arith, i .declared, stream-rows-length (e .relations) ss (c .at + 2) 0 0) in
+      omega (arith, i .declared, stream-rows (e .relations) ss (c .at + 2) 0 0) in
       let rows₁ : q₁ .contexts * 5 ≡ q .contexts * 5 + length inner = omega (arith, j .declared, clauses-rows (e .relations) sc₁ cs (q .at)) in
       let marks : q₁ .conditions ≡ q .conditions + length (places (clausesConditions sc₁ cs (q .at))) =
       omega (arith, j .noted, length-map (clausesConditions sc₁ cs (q .at)) (λ x. x .place)) in

@@ -5,6 +5,8 @@ use mathlib.Core.Bool.{true, false}
 use mathlib.Core.List.{List}
 use native.Mathlib.Numerals.{sub-one}
 use lib.ListN.{set}
+use borrow.Author.Tests.{eq-eqb, ne-eqb}
+use Rattle.wire.specs.Codes as blr
 use Rattle.wire.specs.Lists.{among}
 use Rattle.grammar.specs.declared.Cursor.{Cursor}
 use Rattle.grammar.specs.declared.Refusal.{Refusal}
@@ -16,29 +18,29 @@ use Rattle.grammar.specs.Statements.{eraseUnder, leaveUnder}
 use Rattle.scopes.specs.declared.scope.Context.{Context}
 use Rattle.scopes.specs.declared.scope.Scope.{Scope}
 use Rattle.scopes.specs.declared.scope.Found.the-variants.{Is, Nothing}
-use Rattle.scopes.specs.Scopes.{scopeOf, foundOf, contextsIn, numbersOf}
+use Rattle.scopes.specs.Scopes.{scopeOf, foundOf, contextsIn, labelNumbers}
 use Rattle.scopes.proofs.Scopes.{is-in-scope, is-of-for, nothing-in-scope}
 use Rattle.reader.specs.Cycle.{closed}
 
 module _ (d : List ℕ) (sc : Scope) (p : ℕ) (s : List ℕ) (c : Cursor) where
   module _ {n : ℕ} {q : Cursor} (b : byte s c ≡ read n q) where
-    pub erase-for : {x : Context} → foundOf (contextsIn sc) n ≡ Is x → x .«from_for» ≡ true → eraseUnder (scopeOf d sc) p s c ≡ read (erase n) q
+    pub erase-for : {x : Context} → foundOf (contextsIn sc) n ≡ Is x → x .opener ≡ blr.for → eraseUnder (scopeOf d sc) p s c ≡ read (erase n) q
     unfolding eraseUnder contextByte tested
-    erase-for {x} e t = rw (eraseUnder, contextByte, tested, b, is-in-scope d sc n x e, is-of-for d sc n x e, t)
+    erase-for {x} e t = rw (eraseUnder, contextByte, tested, b, is-in-scope d sc n x e, is-of-for d sc n x e, eq-eqb (x .opener) blr.for t)
 
-    pub erase-other : {x : Context} → foundOf (contextsIn sc) n ≡ Is x → x .«from_for» ≡ false → eraseUnder (scopeOf d sc) p s c ≡ refused Misplaced p
+    pub erase-other : {x : Context} → foundOf (contextsIn sc) n ≡ Is x → (x .opener ≡ blr.for → ⊥) → eraseUnder (scopeOf d sc) p s c ≡ refused Misplaced p
     unfolding eraseUnder contextByte tested
-    erase-other {x} e t = rw (eraseUnder, contextByte, tested, b, is-in-scope d sc n x e, is-of-for d sc n x e, t)
+    erase-other {x} e t = rw (eraseUnder, contextByte, tested, b, is-in-scope d sc n x e, is-of-for d sc n x e, ne-eqb (x .opener) blr.for t)
 
     pub erase-unknown : foundOf (contextsIn sc) n ≡ Nothing → eraseUnder (scopeOf d sc) p s c ≡ refused BadContext (c .at)
     unfolding eraseUnder contextByte tested
     erase-unknown e = rw (eraseUnder, contextByte, tested, b, nothing-in-scope d sc n e)
 
-    pub leave-inside : among n (numbersOf (sc .labels .0)) ≡ true → leaveUnder (scopeOf d sc) p s c ≡ read (leave n) q
+    pub leave-inside : among n (labelNumbers (sc .labels)) ≡ true → leaveUnder (scopeOf d sc) p s c ≡ read (leave n) q
     unfolding leaveUnder scopeOf
     leave-inside t = rw (leaveUnder, b, t)
 
-    pub leave-outside : among n (numbersOf (sc .labels .0)) ≡ false → leaveUnder (scopeOf d sc) p s c ≡ refused Misplaced p
+    pub leave-outside : among n (labelNumbers (sc .labels)) ≡ false → leaveUnder (scopeOf d sc) p s c ≡ refused Misplaced p
     unfolding leaveUnder scopeOf
     leave-outside t = rw (leaveUnder, b, t)
 

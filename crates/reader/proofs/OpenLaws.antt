@@ -18,7 +18,7 @@ use Rattle.grammar.specs.declared.Step.the-variants as Step
 use Rattle.grammar.specs.declared.Fit.the-variants as Fit
 use Rattle.grammar.specs.Tree.{Stream}
 use Rattle.grammar.specs.Bytes.{streamOf, streamBytes}
-use Rattle.grammar.specs.Environment as Names
+use Rattle.grammar.specs.Environment as Grammar
 use Rattle.grammar.specs.Environment.{streamContext, withContexts, underStreams}
 use Rattle.grammar.specs.Rows.{contextRow, streamRows}
 use Rattle.grammar.specs.Reader.{Read, read, refused, onRead, code}
@@ -41,12 +41,12 @@ use Rattle.reader.proofs.StreamLaws.{stream-read, relation-there}
 -- ---- one stream
 
 -- the context of a stream whose relation is known
-context-known : (d : List ℕ) → Proper d → (f : Bool) (st : Stream) → isSome (relationOf (relations d) (st .relation)) ≡ true →
+context-known : (d : List ℕ) → Proper d → (f : ℕ) (st : Stream) → isSome (relationOf (relations d) (st .relation)) ≡ true →
     contextOf d (contextIn d f st) ≡ streamContext (relations d) f st
 context-known d is-proper f st e = rw (relation-there d is-proper (st .relation) e)
 
 -- a stream that was read, beside the scope as the code has it
-pub record Next (s d : List ℕ) (f : Bool) (sc : Scope) (c : Cursor) (x : Context) (q : Cursor) : Type 0 where
+pub record Next (s d : List ℕ) (f : ℕ) (sc : Scope) (c : Cursor) (x : Context) (q : Cursor) : Type 0 where
   pub st : Stream
   pub is-read : stream (relations d) (scopeOf d sc) s c ≡ read st q
   pub place : q .at ≡ c .at + length (streamBytes st)
@@ -62,7 +62,7 @@ stream-long : (n : Name) (x : ℕ) → 1 ≤ length (streamOf n x)
 stream-long (named n) x = omega arith
 stream-long (numbered i) x = omega arith
 
-pub stream-next : (s d : List ℕ) → Octets s → Proper d → (f : Bool) (sc : Scope) (c : Cursor) (x : Context) (q : Cursor) →
+pub stream-next : (s d : List ℕ) → Octets s → Proper d → (f : ℕ) (sc : Scope) (c : Cursor) (x : Context) (q : Cursor) →
     length (sc .contexts) ≡ 32 → sc .count ≤ c .contexts →
     StreamStep.Is x q ≡ streamStep d f (stream (relations d) (scopeOf d sc) s c) → Next s d f sc c x q
 unfolding streamBytes
@@ -87,23 +87,23 @@ stream-next s d octets is-proper f sc c x q whole fits e =
 
 -- ---- several streams
 
-pub no-streams : (rs : List Relation) (sc : Names.Scope) → sc ≡ underStreams rs sc []
+pub no-streams : (rs : List Relation) (sc : Grammar.Scope) → sc ≡ underStreams rs sc []
 unfolding underStreams
 no-streams rs sc = rw (append-nil (sc .contexts))
 
-under-more : (rs : List Relation) (sc : Names.Scope) (st : Stream) (ss : List Stream) →
+under-more : (rs : List Relation) (sc : Grammar.Scope) (st : Stream) (ss : List Stream) →
     underStreams rs (underStreams rs sc (st ∷ [])) ss ≡ underStreams rs sc (st ∷ ss)
 unfolding underStreams
 under-more rs sc st ss = rw append-assoc
 
-streams-more : (n : ℕ) (rs : List Relation) (sc : Names.Scope) (s : List ℕ) (c : Cursor) {st : Stream} {q : Cursor} → (n ≡ 0 → ⊥) →
+streams-more : (n : ℕ) (rs : List Relation) (sc : Grammar.Scope) (s : List ℕ) (c : Cursor) {st : Stream} {q : Cursor} → (n ≡ 0 → ⊥) →
     stream rs sc s c ≡ read st q →
     streams n rs sc s c ≡ onRead (streams (n - 1) rs (underStreams rs sc (st ∷ [])) s q) (λ ss q. read (st ∷ ss) q)
 unfolding streams
 streams-more zero rs sc s c z e = absurd (z refl)
 streams-more (suc n) rs sc s c z e = let h : suc n - 1 ≡ n = omega arith in rw (h, streams, e)
 
-module _ (s d : List ℕ) (sc : Scope) (c : Cursor) (x : Context) (q : Cursor) (i : Next s d true sc c x q) (below : Scope) (ct ct′ : List ℕ)
+module _ (s d : List ℕ) (sc : Scope) (c : Cursor) (x : Context) (q : Cursor) (i : Next s d blr.for sc c x q) (below : Scope) (ct ct′ : List ℕ)
     (added : Added d sc x (c .contexts) (c .at) ct ct′ below) where
   pub ready-next : ReadyStreams s d sc c → ReadyStreams s d below q
   ready-next h =
@@ -124,7 +124,7 @@ module _ (s d : List ℕ) (sc : Scope) (c : Cursor) (x : Context) (q : Cursor) (
       sets ct (c .contexts * 5) (streamRows (relations d) (i .st ∷ ss) (c .at) 0 0)
   unfolding streamRows
   rows-next ss =
-      let row = contextRow (streamContext (relations d) true (i .st)) (c .at) 0 0 in
+      let row = contextRow (streamContext (relations d) blr.for (i .st)) (c .at) 0 0 in
       let e : q .contexts * 5 ≡ c .contexts * 5 + 5 = omega (arith, i .declared) in
       let f : ct′ ≡ sets ct (c .contexts * 5) row =
       added .filled ∙ ap (λ y. sets ct (c .contexts * 5) (contextRow y (c .at) 0 0)) (i .context-is) in
@@ -226,7 +226,7 @@ module _ (s d : List ℕ) (sc : Scope) (c : Cursor) (levels : ℕ) (ready : Read
         })
 
 -- a reading that was refused leaves everything as it is
-pub opens-nothing : {A : Type 0} (x : Read A) (d : List ℕ) (ct : List ℕ) (row : ℕ) (rows : A → List ℕ) (below : A → Names.Scope)
+pub opens-nothing : {A : Type 0} (x : Read A) (d : List ℕ) (ct : List ℕ) (row : ℕ) (rows : A → List ℕ) (below : A → Grammar.Scope)
     (opened : A → ℕ)
     (sc : Scope) {z : Refusal} {p : ℕ} → x ≡ refused z p →
     Opens x d ct row rows below opened sc ct (record { step = Step.Refused z p; scope = sc })

@@ -1,12 +1,12 @@
 -- Contexts that were opened: their rows get a scope at the end.
 use Prim.Native.Nat.{ℕ, suc, _+_, _-_, _*_}
 use mathlib.Core.Path.{_≡_, refl, ap, _∙_, subst}
-use mathlib.Core.Bool.{true}
 use mathlib.Core.List.{List, [], _∷_, _++_}
 use native.Mathlib.Numerals.{add-two, add-three}
 use native.Mathlib.Omega.{arith}
 use lib.ListN.{length, set}
 use lib.Seq.{sets, set-comm, set-set}
+use Rattle.wire.specs.Codes as blr
 use Rattle.dictionary.specs.Dictionary.{Relation}
 use Rattle.grammar.specs.Tree.{Stream, Heading, loop, modify, handler, receive, send, store, label}
 use Rattle.grammar.specs.Bytes.{streamBytes, headingBytes}
@@ -53,9 +53,9 @@ unfolding closed streamRows
 streams-closed d [] p start end l rest row = refl
 streams-closed d (s ∷ ss) p start end l rest row =
     ap (λ k. closed k (row + 1) (length ss) start end) (close-row l (streamRows d ss (p + length (streamBytes s)) 0 0 ++ rest) (row * 5) _ _ 0 0 _ start end)
-    ∙ subst (λ j. closed (sets (five l (row * 5) (s .context) p start end (relationId (streamContext d true s .relation))) j
+    ∙ subst (λ j. closed (sets (five l (row * 5) (s .context) p start end (relationId (streamContext d blr.for s .relation))) j
     (streamRows d ss (p + length (streamBytes s)) 0 0 ++ rest)) (row + 1) (length ss) start end ≡
-    sets (five l (row * 5) (s .context) p start end (relationId (streamContext d true s .relation))) j
+    sets (five l (row * 5) (s .context) p start end (relationId (streamContext d blr.for s .relation))) j
     (streamRows d ss (p + length (streamBytes s)) start end ++ rest))
     (next-row row) (streams-closed d ss (p + length (streamBytes s)) start end _ rest (row + 1))
 

@@ -1,5 +1,5 @@
 -- What the readers are given stays so along the way.
-use Prim.Native.Nat.{ℕ, suc, _≤_}
+use Prim.Native.Nat.{ℕ, _≤_}
 use mathlib.Core.Path.{_≡_, refl, sym, _∙_, subst}
 use mathlib.Core.List.{List}
 use native.Mathlib.Omega.{arith}
@@ -8,7 +8,7 @@ use Rattle.grammar.specs.declared.Cursor.{Cursor}
 use Rattle.grammar.specs.declared.Fit.{Fit}
 use Rattle.grammar.specs.declared.Step.{Step}
 use Rattle.grammar.specs.declared.Step.the-variants as Step
-use Rattle.grammar.specs.Environment as Names
+use Rattle.grammar.specs.Environment as Grammar
 use Rattle.grammar.specs.Environment.{Environment}
 use mathlib.Core.Bool.{Bool}
 use Rattle.wire.specs.Classes.{directionClass}
@@ -67,7 +67,7 @@ opened-onward w few f = record {
   more = omega (arith, w .declared);
 }
 
-module _ (s : List ℕ) (octets : Octets s) (e : Environment) (sc : Names.Scope) (l : ℕ) where
+module _ (s : List ℕ) (octets : Octets s) (e : Environment) (sc : Grammar.Scope) (l : ℕ) where
   pub value-onward : Onwards s (readValue l e sc s)
   value-onward c v q f h = let i = value-sound s octets e sc l c v q h in opened-onward (i .went) (i .few) f
 
@@ -77,7 +77,7 @@ module _ (s : List ℕ) (octets : Octets s) (e : Environment) (sc : Names.Scope)
 pub direction-onward : (s : List ℕ) → Onwards s (coded directionClass s)
 direction-onward s c k q f h = passed-onward (coded-went direction-due s c h) f
 
-module _ (s : List ℕ) (octets : Octets s) (e : Environment) (sc : Names.Scope) (l : ℕ) where
+module _ (s : List ℕ) (octets : Octets s) (e : Environment) (sc : Grammar.Scope) (l : ℕ) where
   pub keys-onward : (n : ℕ) → Onwards s (keys n (readValue l e sc) s)
   keys-onward n c ks q f h =
       let i = keys-sound l e sc s (readValue l e sc) (value-sound s octets e sc l) n c ks q h in opened-onward (i .went) (i .few) f
@@ -172,8 +172,8 @@ module _ {s d : List ℕ} {sc : Scope} where
       refl-le n = omega arith
 
   -- after a part one level down
-  pub given-descended : (part : Construct) (e : Environment) (n : Names.Scope) (m parent : ℕ) (t t′ : Tables) (from r : Step) {l : ℕ} →
+  pub given-descended : (part : Construct) (e : Environment) (n : Grammar.Scope) (m parent : ℕ) (t t′ : Tables) (from r : Step) {l : ℕ} →
       GivenAfter s d sc from l → Descended part e n m parent s from t t′ r → GivenAfter s d sc r l
-  given-descended Construct.Statement e n m parent t t′ from r g w = given-again g w (statement-onward s (g .octets) e n (suc m))
-  given-descended Construct.Boolean e n m parent t t′ from r g w = given-again g w (boolean-onward s (g .octets) e n (suc m))
-  given-descended Construct.Value e n m parent t t′ from r g w = given-again g w (value-onward s (g .octets) e n (suc m))
+  given-descended Construct.Statement e n m parent t t′ from r g w = given-again g w (statement-onward s (g .octets) e n m)
+  given-descended Construct.Boolean e n m parent t t′ from r g w = given-again g w (boolean-onward s (g .octets) e n m)
+  given-descended Construct.Value e n m parent t t′ from r g w = given-again g w (value-onward s (g .octets) e n m)

@@ -9,7 +9,7 @@ use lib.ListN.{length, replicate, length-replicate}
 use lib.Seq.{sets}
 use borrow.Author.Tests.{le-leb, lt-leb, leb-true, leb-false}
 use Rattle.dictionary.specs.Dictionary.{Relation, Checked, proper, atFault, dictionary}
-use Rattle.dictionary.specs.Answers.{answerOf}
+use Rattle.dictionary.specs.Internal.Answers.{answerOf}
 use Rattle.dictionary.specs.declared.check.DictionaryCheck.the-variants as DictionaryCheck
 use Rattle.grammar.specs.declared.Cursor.{Cursor}
 use Rattle.grammar.specs.declared.Refusal.{Refusal}
@@ -25,7 +25,7 @@ use Rattle.grammar.specs.Rows.{requestStatementRows, parameterRows, requestCont
 use Rattle.grammar.specs.Conditions.{requestConditions}
 use Rattle.grammar.specs.Reader.{Read, read, refused}
 use Rattle.grammar.specs.Reading.{request, start, room, reading, answer, relationsOf, statementTable, parameterTable, contextTable}
-use Rattle.grammar.specs.Steps.{noKind}
+use Rattle.grammar.specs.Internal.Steps.{noKind}
 use Rattle.grammar.specs.Demands.{Octets}
 use Rattle.grammar.specs.Answered.{Answered, readingOf}
 use Rattle.grammar.proofs.StepLaws.{absurd-eq, step-read, step-refused}

@@ -18,7 +18,7 @@ use Rattle.grammar.specs.declared.ByteStep.the-variants as ByteStep
 use Rattle.grammar.specs.Sizes.{countInRange, headingContexts}
 use Rattle.grammar.specs.Reader.{Read, read, withCondition}
 use Rattle.grammar.specs.Statements.{countByte}
-use Rattle.grammar.specs.Steps.{byteStep}
+use Rattle.grammar.specs.Internal.Steps.{byteStep}
 use Rattle.grammar.proofs.StepLaws.{byte-read, step-read}
 use Rattle.grammar.proofs.Went.{Went, inside, both}
 use Rattle.grammar.proofs.SoundRses.{count-went}
@@ -28,10 +28,10 @@ use Rattle.reader.specs.declared.heads.ClauseHead.the-variants as Clause
 use Rattle.wire.specs.declared.codes.StatementCode.{StatementCode}
 use Rattle.dictionary.specs.Dictionary.{Relation}
 use Rattle.grammar.specs.Tree.{Stream, Heading}
-use Rattle.grammar.specs.Environment as Names
+use Rattle.grammar.specs.Environment as Grammar
 use Rattle.grammar.specs.Environment.{Environment}
 use Rattle.grammar.specs.Statements.{rseHead}
-use Rattle.grammar.specs.Steps.{stepOf, noKind}
+use Rattle.grammar.specs.Internal.Steps.{stepOf, noKind}
 use Rattle.grammar.specs.Demands.{Octets}
 use Rattle.grammar.proofs.SoundRses.{head-sound}
 use Rattle.reader.specs.declared.opening.Opened.{Opened}
@@ -99,7 +99,7 @@ module _ {s d : List ℕ} {sc : Scope} {l : ℕ} where
 
 -- below what opened contexts
 module _ {s d : List ℕ} {sc : Scope} {c : Cursor} {l : ℕ} (g : Given s d sc c l) where
-  pub opened-given : {A : Type 0} (x : Read A) {ct ct₁ : List ℕ} {row : ℕ} {rows : A → List ℕ} {below : A → Names.Scope} {opened : A → ℕ} {o : Opened} →
+  pub opened-given : {A : Type 0} (x : Read A) {ct ct₁ : List ℕ} {row : ℕ} {rows : A → List ℕ} {below : A → Grammar.Scope} {opened : A → ℕ} {o : Opened} →
       Opens x d ct row rows below opened sc ct₁ o →
       ((a : A) (q : Cursor) → x ≡ read a q → Onward s c q × (q .contexts ≡ c .contexts + opened a)) → 0 < l →
       GivenAfter s d (o .scope) (o .step) (l - 1)
@@ -137,12 +137,12 @@ module _ {s d : List ℕ} {sc : Scope} {c : Cursor} {l : ℕ} (g : Given s d sc 
     more = omega (arith, w .declared);
   }
 
-  pub head-given : (rs : List Relation) (sc₁ : Names.Scope) {ct ct₁ : List ℕ} {row : ℕ} {rows : List Stream → List ℕ} {below : List Stream → Names.Scope} {o : Opened} →
+  pub head-given : (rs : List Relation) (sc₁ : Grammar.Scope) {ct ct₁ : List ℕ} {row : ℕ} {rows : List Stream → List ℕ} {below : List Stream → Grammar.Scope} {o : Opened} →
       Opens (rseHead rs sc₁ s c) d ct row rows below length sc ct₁ o → 0 < l → GivenAfter s d (o .scope) (o .step) (l - 1)
   head-given rs sc₁ w z = opened-given (rseHead rs sc₁ s c) w (λ ss q y.
       let i = head-sound s (g .octets) rs sc₁ c ss q y in (opened-onward (i .went) (i .few), i .went .declared)) z
 
-  pub heading-given : (e : Environment) (sc₁ : Names.Scope) (p : ℕ) (k : StatementCode) {ct ct₁ : List ℕ} {row : ℕ} {rows : Heading → List ℕ} {below : Heading → Names.Scope}
+  pub heading-given : (e : Environment) (sc₁ : Grammar.Scope) (p : ℕ) (k : StatementCode) {ct ct₁ : List ℕ} {row : ℕ} {rows : Heading → List ℕ} {below : Heading → Grammar.Scope}
       {o : Opened} → Opens (headingReader e sc₁ p k s c) d ct row rows below headingContexts sc ct₁ o → 0 < l → GivenAfter s d (o .scope) (o .step) (l - 1)
   heading-given e sc₁ p k w z = opened-given (headingReader e sc₁ p k s c) w (λ h q y.
       let i = heading-sound s (g .octets) e sc₁ p k c h q y in (opened-onward (i .went) (i .few), i .went .declared)) z
@@ -159,11 +159,11 @@ closes-of g h k = record {
 
 -- the rows of an rse's head, or of a heading, stand after those before
 module _ (s : List ℕ) (octets : Octets s) (c : Cursor) where
-  pub head-more : (rs : List Relation) (sc : Names.Scope) {r : Step} → r ≡ stepOf noKind (rseHead rs sc s c) → (f : Fit) (q : Cursor) → r ≡ Step.Next f q →
+  pub head-more : (rs : List Relation) (sc : Grammar.Scope) {r : Step} → r ≡ stepOf noKind (rseHead rs sc s c) → (f : Fit) (q : Cursor) → r ≡ Step.Next f q →
       c .contexts ≤ q .contexts
   head-more rs sc e f q i = let u = step-read noKind (rseHead rs sc s c) (sym i ∙ e) in omega (arith, head-sound s octets rs sc c (u .0) q (u .1) .went .declared)
 
-  pub heading-more : (e : Environment) (sc : Names.Scope) (p : ℕ) (k : StatementCode) {r : Step} → r ≡ stepOf noKind (headingReader e sc p k s c) →
+  pub heading-more : (e : Environment) (sc : Grammar.Scope) (p : ℕ) (k : StatementCode) {r : Step} → r ≡ stepOf noKind (headingReader e sc p k s c) →
       (f : Fit) (q : Cursor) → r ≡ Step.Next f q → c .contexts ≤ q .contexts
   heading-more e sc p k o f q i =
       let u = step-read noKind (headingReader e sc p k s c) (sym i ∙ o) in omega (arith, heading-sound s octets e sc p k c (u .0) q (u .1) .went .declared)

@@ -28,7 +28,7 @@ use Rattle.grammar.specs.Conditions.{clausesConditions}
 use Rattle.grammar.specs.Reader.{Read, read, refused, onRead, Reader, coded, withCondition}
 use Rattle.grammar.specs.Values.{readValue, readBoolean}
 use Rattle.grammar.specs.Statements.{keys, sort, numberedBoolean, clausesUnder, clauses, countByte}
-use Rattle.grammar.specs.Steps.{stepOf, noKind, byteStep}
+use Rattle.grammar.specs.Internal.Steps.{stepOf, noKind, byteStep}
 use Rattle.grammar.specs.Demands.{Octets}
 use Rattle.grammar.proofs.StepLaws.{absurd-eq, byte-read, byte-refused}
 use Rattle.grammar.proofs.Went.{Passed, undo, same, needed, coded-read, byte-went}

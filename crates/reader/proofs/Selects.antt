@@ -25,36 +25,37 @@ use Rattle.grammar.specs.Tree.{Statement, select, Receives, last, more}
 use Rattle.grammar.specs.Environment.{Environment, Scope}
 use Rattle.grammar.specs.Scope.{declared, updating}
 use Rattle.grammar.specs.Sizes.{statementCount}
-use Rattle.grammar.specs.Rows.{size, receiveRow, statementRows, receivesRows, contextRows, receivesContextRows}
+use Rattle.grammar.specs.Rows.{size, receiveRow, rowsBelow, statementRows, receivesRows, contextRows, receivesContextRows}
 use Rattle.grammar.specs.Conditions.{conditions, receivesConditions}
 use Rattle.grammar.specs.Reader.{Read, read, refused, onRead, Reader, byte, peek, tested, code, countStatement, withStatement}
 use Rattle.grammar.specs.Statements.{manyReceives, receiveUnder, selectUnder, statementUnder, readStatement, readReceive}
-use Rattle.grammar.specs.Steps.{noKind, byteStep}
-use Rattle.grammar.specs.declared.ByteStep.{ByteStep}
-use Rattle.grammar.specs.declared.ByteStep.the-variants as ByteStep
+use Rattle.wire.specs.declared.numbers.MessageNumber.{MessageNumber}
+use Rattle.grammar.specs.Internal.Steps.{noKind, messageStep}
+use Rattle.grammar.specs.declared.MessageStep.{MessageStep}
+use Rattle.grammar.specs.declared.MessageStep.the-variants as MessageStep
 use Rattle.grammar.specs.Demands.{Octets}
-use Rattle.grammar.proofs.StepLaws.{absurd-eq, byte-read, byte-refused}
+use Rattle.grammar.proofs.StepLaws.{absurd-eq, message-read, message-refused}
 use Rattle.scopes.specs.declared.scope.Scope as Scopes
 use Rattle.reader.specs.declared.parts.Selected.{Selected}
 use Rattle.reader.specs.declared.cycle.Construct.the-variants as Construct
 use Rattle.reader.proofs.Ready.{given-at}
-use Rattle.reader.proofs.Values.{level}
 use Rattle.reader.proofs.Messages.{one-selected}
+use Rattle.grammar.proofs.RowCounts.{statement-rows, context-rows}
 use Rattle.grammar.proofs.Went.{Went, inside, taken-read, never, onward, undo, same, needed, tested-read, byte-went, code-went, counted-went}
 use Rattle.grammar.proofs.SoundStatements.{statement-sound}
 use Rattle.reader.specs.declared.heads.Ending.{Ending}
 use Rattle.reader.specs.declared.heads.Ending.the-variants as Ending
-use Rattle.reader.specs.Cycle.{Tables, tables, laid, Wrote, From, places, statementTables, receivesTables, belowRows, belowTables, receiveCoded, joined, stepped, fromStep, endingOf, Given, GivenAfter, Holds, Marks, Ends, Selecting, Receiving, Descended}
-use Rattle.reader.proofs.Codes.{some-level}
+use Rattle.reader.specs.Cycle.{Tables, tables, laid, Wrote, From, places, statementTables, receivesTables, belowTables, receiveCoded, joined, stepped, fromStep, endingOf, Given, GivenAfter, Holds, Marks, Ends, Selecting, Receiving, Descended}
+use Rattle.reader.proofs.Codes.{one-left}
 use Rattle.reader.proofs.Steps.{started, passed-on, from-next, by-read, fill, stop, on-next, stopped}
-use Rattle.reader.proofs.Laid.{Follows, laid-laid, row-over, statement-rows-length, context-rows-length}
+use Rattle.reader.proofs.Laid.{Follows, laid-laid, row-over}
 use Rattle.reader.proofs.Chains.{last-wrote}
 use Rattle.reader.proofs.Statements.{Under, on-done, on-goes, on-stopped}
 
 pub select-under : (s : List ℕ) (e : Environment) (sc : Scope) (l p : ℕ) (c : Cursor) {k : StatementCode} {f : Fit} {t t₁ : Tables} {r : Step} →
     k ≡ Code.Select → c .at ≡ p + 1 →
     From (Step.Next f c) (manyReceives 512 (readReceive l e sc) [] s) noKind (receivesTables e sc (c .statements)) t t₁ r → Under s e sc l p c k t t₁ r
-unfolding statementUnder selectUnder belowRows contextRows conditions
+unfolding statementUnder selectUnder rowsBelow contextRows conditions
 select-under s e sc l p c ke here w = rw ke (last-wrote select (belowTables e sc p c) (from-next w) (λ v. refl) (λ rs q y. rw here))
 
 -- what stands after a receive's message
@@ -63,65 +64,63 @@ receiveRest rest body before m s c = onRead (body s c) (λ t q. onRead (peek s q
     cond {A = Reader Receives} (eqb x blr.end) (λ s q. onRead (byte s q) (λ y q′. read (last m t) q′))
     (λ s q. onRead (rest (before ++ (m ∷ [])) s q) (λ rs q′. read (more m t rs) q′)) s q₁))
 
-module _ (e : Environment) (sc : Scope) (l : ℕ) (before : List ℕ) (s : List ℕ) (c : Cursor) where
-  abbrev Same : ℕ → Type 0
-  Same n = manyReceives n (readReceive (suc l) e sc) before s c ≡
-      onRead (receiveCoded n l e sc before s c) (λ m q. receiveRest (manyReceives (n - 1) (readReceive (suc l) e sc)) (readStatement l e sc) before m s q)
+module _ (e : Environment) (sc : Scope) (before : List ℕ) (s : List ℕ) (c : Cursor) where
+  abbrev Same : ℕ → ℕ → Type 0
+  Same l n = manyReceives n (readReceive l e sc) before s c ≡
+      onRead (receiveCoded n l e sc before s c) (λ m q. receiveRest (manyReceives (n - 1) (readReceive l e sc)) (readStatement (l - 1) e sc) before m s q)
 
-  one : (n : ℕ) → ltb 0 (suc n) ≡ true
-  one n = some-level (suc n) (λ z. absurd (omega (arith, z)))
+  -- a refusal before the message
+  from-refusal : (l n : ℕ) {r : Refusal} {p : ℕ} → receiveCoded (suc n) l e sc before s c ≡ refused r p → readReceive l e sc before s c ≡ refused r p →
+      Same l (suc n)
+  unfolding manyReceives
+  from-refusal l n i j = rw (manyReceives, j, i)
 
-  module _ (n x : ℕ) (q : Cursor) (e₁ : code blr.receive NotDue s c ≡ read x q) where
+  module _ (n l x : ℕ) (q : Cursor) (e₁ : code blr.receive NotDue s c ≡ read x q) where
     abbrev Message : Read ℕ
     Message = tested byte (λ m. declared e m && negation (among m before)) BadMessage s (withStatement q)
 
-    module _ (e₂ : ltb 0 l ≡ true) (e₃ : ltb (q .statements) 512 ≡ true) (e₄ : updating sc ≡ false) where
-      coded-at : receiveCoded (suc n) l e sc before s c ≡ Message
+    module _ (e₂ : ltb (q .statements) 512 ≡ true) (e₃ : updating sc ≡ false) where
+      coded-at : receiveCoded (suc n) (suc l) e sc before s c ≡ Message
       unfolding receiveCoded countStatement
-      coded-at = rw (receiveCoded, one n, e₁, e₂, e₃, e₄)
+      coded-at = rw (receiveCoded, one-left n, e₁, one-left l, e₂, e₃)
 
       receive-at : readReceive (suc l) e sc before s c ≡ onRead Message (λ m q₁. onRead (readStatement l e sc s q₁) (λ t q₂. read (m, t) q₂))
       unfolding readReceive receiveUnder countStatement
-      receive-at = rw (readReceive, e₁, e₂, e₃, receiveUnder, e₄)
+      receive-at = rw (readReceive, e₁, e₂, receiveUnder, e₃)
 
-      from-message : Same (suc n)
+      from-message : Same (suc l) (suc n)
       unfolding manyReceives receiveRest
       from-message = by-read Message
           (λ m q₁ y.
-          let i : receiveCoded (suc n) l e sc before s c ≡ read m q₁ = coded-at ∙ y in
+          let i : receiveCoded (suc n) (suc l) e sc before s c ≡ read m q₁ = coded-at ∙ y in
           by-read (readStatement l e sc s q₁)
           (λ t q₂ y₁.
           let j : readReceive (suc l) e sc before s c ≡ read (m, t) q₂ = receive-at ∙ rw (y, y₁) in
-          rw (manyReceives, j, i, receiveRest, y₁, sub-one (suc n)))
+          rw (manyReceives, j, i, receiveRest, sub-one (suc l), y₁, sub-one (suc n)))
           (λ r p y₁.
           let j : readReceive (suc l) e sc before s c ≡ refused r p = receive-at ∙ rw (y, y₁) in
-          rw (manyReceives, j, i, receiveRest, y₁)))
+          rw (manyReceives, j, i, receiveRest, sub-one (suc l), y₁)))
           (λ r p y.
-          let i : receiveCoded (suc n) l e sc before s c ≡ refused r p = coded-at ∙ y in
+          let i : receiveCoded (suc n) (suc l) e sc before s c ≡ refused r p = coded-at ∙ y in
           let j : readReceive (suc l) e sc before s c ≡ refused r p = receive-at ∙ rw y in
           rw (manyReceives, j, i))
 
-    -- a refusal before the message
-    from-refusal : {r : Refusal} {p : ℕ} → receiveCoded (suc n) l e sc before s c ≡ refused r p → readReceive (suc l) e sc before s c ≡ refused r p → Same (suc n)
-    unfolding manyReceives
-    from-refusal i j = rw (manyReceives, j, i)
-
-    by-tests : (b₂ b₃ b₄ : Bool) → ltb 0 l ≡ b₂ → ltb (q .statements) 512 ≡ b₃ → updating sc ≡ b₄ → Same (suc n)
+    by-tests : (b₂ b₃ : Bool) → ltb (q .statements) 512 ≡ b₂ → updating sc ≡ b₃ → Same (suc l) (suc n)
     unfolding receiveCoded readReceive receiveUnder countStatement
-    by-tests true true false e₂ e₃ e₄ = from-message e₂ e₃ e₄
-    by-tests true true true e₂ e₃ e₄ = from-refusal {r = Misplaced} {p = c .at} (rw (receiveCoded, one n, e₁, e₂, e₃, e₄)) (rw (readReceive, e₁, e₂, e₃, receiveUnder, e₄))
-    by-tests true false b e₂ e₃ e₄ = from-refusal {r = TooGreat} {p = c .at} (rw (receiveCoded, one n, e₁, e₂, e₃)) (rw (readReceive, e₁, e₂, e₃))
-    by-tests false b b′ e₂ e₃ e₄ = from-refusal {r = TooGreat} {p = c .at} (rw (receiveCoded, one n, e₁, e₂)) (rw (readReceive, e₁, e₂))
+    by-tests true false e₂ e₃ = from-message e₂ e₃
+    by-tests true true e₂ e₃ = from-refusal (suc l) n {r = Misplaced} {p = c .at} (rw (receiveCoded, one-left n, e₁, one-left l, e₂, e₃))
+        (rw (readReceive, e₁, e₂, receiveUnder, e₃))
+    by-tests false b e₂ e₃ = from-refusal (suc l) n {r = TooGreat} {p = c .at} (rw (receiveCoded, one-left n, e₁, one-left l, e₂)) (rw (readReceive, e₁, e₂))
 
-  pub receives-coded : (n : ℕ) → Same n
+  pub receives-coded : (l n : ℕ) → Same l n
   unfolding manyReceives receiveCoded readReceive
-  receives-coded zero = refl
-  receives-coded (suc n) = by-read (code blr.receive NotDue s c)
-      (λ x q y. by-tests n x q y (ltb 0 l) (ltb (q .statements) 512) (updating sc) refl refl refl)
-      (λ r p y.
-      let i : receiveCoded (suc n) l e sc before s c ≡ refused r p = rw (receiveCoded, one n, y) in
-      let j : readReceive (suc l) e sc before s c ≡ refused r p = rw (readReceive, y) in
-      rw (manyReceives, j, i))
+  receives-coded l zero = refl
+  receives-coded zero (suc n) = by-read (code blr.receive NotDue s c)
+      (λ x q y. from-refusal zero n {r = TooGreat} {p = c .at} (rw (receiveCoded, one-left n, y)) (rw (readReceive, y)))
+      (λ r p y. from-refusal zero n {r = r} {p = p} (rw (receiveCoded, one-left n, y)) (rw (readReceive, y)))
+  receives-coded (suc l) (suc n) = by-read (code blr.receive NotDue s c)
+      (λ x q y. by-tests n l x q y (ltb (q .statements) 512) (updating sc) refl refl)
+      (λ r p y. from-refusal (suc l) n {r = r} {p = p} (rw (receiveCoded, one-left n, y)) (rw (readReceive, y)))
 
 -- the way to a receive's message
 pub record Received (s : List ℕ) (c : Cursor) (n l m : ℕ) (q : Cursor) : Type 0 where
@@ -158,10 +157,10 @@ module _ (s : List ℕ) (octets : Octets s) (e : Environment) (sc : Scope) (l n 
     (i : receiveCoded n l e sc ms s c ≡ read m q) where
   -- a receive and its statement
   abbrev pub oneReceive : Read Receives
-  oneReceive = onRead (readStatement l e sc s q) (λ t q₁. read (last m t) q₁)
+  oneReceive = onRead (readStatement (l - 1) e sc s q) (λ t q₁. read (last m t) q₁)
 
   pub receive-wrote : {f : Fit} {st ct nd st₁ ct₁ nd₁ st₂ : List ℕ} {a : Step} →
-      From (Step.Next f q) (readStatement l e sc s) noKind (λ d t. statementTables (e .relations) sc t (d .at) (d .statements) (q .statements))
+      From (Step.Next f q) (readStatement (l - 1) e sc s) noKind (λ d t. statementTables (e .relations) sc t (d .at) (d .statements) (q .statements))
       (tables st ct nd) (tables st₁ ct₁ nd₁) a →
       st₂ ≡ stepped a (λ d. sets st₁ ((q .statements - 1) * 4) ((q .at - 2) ∷ 12 ∷ parent ∷ d .at ∷ [])) st₁ →
       Wrote oneReceive noKind c (receivesTables e sc parent c) (tables st ct nd) (tables st₂ ct₁ nd₁) a
@@ -169,9 +168,9 @@ module _ (s : List ℕ) (octets : Octets s) (e : Environment) (sc : Scope) (l n 
   receive-wrote {f} {st} {ct} {nd} {st₁} {ct₁} {nd₁} {st₂} {a} w se =
       let g = receive-went n l e sc ms s c i .went in
       let w₁ = from-next w in
-      by-read (readStatement l e sc s q)
+      by-read (readStatement (l - 1) e sc s q)
       (λ t d y.
-      let o = statement-sound s octets e l sc q t d y .went in
+      let o = statement-sound s octets e (l - 1) sc q t d y .went in
       let ae : a ≡ Step.Next Fit.NoKind d = w₁ .answer ∙ rw y in
       let te : tables st₁ ct₁ nd₁ ≡ laid (tables st ct nd) q (statementTables (e .relations) sc t (q .at) (q .statements) (q .statements)) =
       rw y at (w₁ .filled) in
@@ -192,49 +191,49 @@ module _ (s : List ℕ) (octets : Octets s) (e : Environment) (sc : Scope) (l n 
       rw ae (fill {a = last m t} (rw y) refl (rw (s₂, c₁, n₁, more′, marks, place))))
       (λ r p y. let ae : a ≡ Step.Refused r p = w₁ .answer ∙ rw y in rw ae (stop (rw y)))
 
-  whole : manyReceives n (readReceive (suc l) e sc) ms s c ≡
-      receiveRest (manyReceives (n - 1) (readReceive (suc l) e sc)) (readStatement l e sc) ms m s q
-  whole = receives-coded e sc l ms s c n ∙
-      ap (λ y. onRead y (λ m q. receiveRest (manyReceives (n - 1) (readReceive (suc l) e sc)) (readStatement l e sc) ms m s q)) i
+  whole : manyReceives n (readReceive l e sc) ms s c ≡
+      receiveRest (manyReceives (n - 1) (readReceive l e sc)) (readStatement (l - 1) e sc) ms m s q
+  whole = receives-coded e sc ms s c l n ∙
+      ap (λ y. onRead y (λ m q. receiveRest (manyReceives (n - 1) (readReceive l e sc)) (readStatement (l - 1) e sc) ms m s q)) i
 
   module _ {t t₂ : Tables} {a : Step} (w : Wrote oneReceive noKind c (receivesTables e sc parent c) t t₂ a) {h : Ending}
       (at : h ≡ fromStep a (λ x p. Ending.Refused x p) (λ c. endingOf (peek s c))) where
     abbrev All : Tables → Step → Type 0
-    All t′ r = Wrote (manyReceives n (readReceive (suc l) e sc) ms s c) noKind c (receivesTables e sc parent c) t t′ r
+    All t′ r = Wrote (manyReceives n (readReceive l e sc) ms s c) noKind c (receivesTables e sc parent c) t t′ r
 
     pub receives-done : {d : Cursor} → h ≡ Ending.Done d → All t₂ (Step.Next Fit.NoKind d)
     unfolding receiveRest
-    receives-done {d} j = on-done s a at j (λ f c₁ y d₁ u v x z. on-next w u (λ rs k k₁ te. undo (readStatement l e sc s q) _ k (λ t₃ q₂ e₂ k₃.
+    receives-done {d} j = on-done s a at j (λ f c₁ y d₁ u v x z. on-next w u (λ rs k k₁ te. undo (readStatement (l - 1) e sc s q) _ k (λ t₃ q₂ e₂ k₃.
         let pe : rs ≡ last m t₃ = same k₃ (λ rs q. rs ≡ last m t₃) refl in
         let qe : q₂ ≡ c₁ = cc in
-        let e₃ : readStatement l e sc s q ≡ read t₃ c₁ = e₂ ∙ ap (λ z. read t₃ z) qe in
+        let e₃ : readStatement (l - 1) e sc s q ≡ read t₃ c₁ = e₂ ∙ ap (λ z. read t₃ z) qe in
         fill {a = last m t₃} (whole ∙ rw (receiveRest, e₃, v, x, z)) refl (te ∙ rw pe))))
 
     pub receives-stopped : {r : Refusal} {p : ℕ} {t₃ : Tables} → h ≡ Ending.Refused r p → All t₃ (Step.Refused r p)
     unfolding receiveRest
     receives-stopped j = on-stopped s a at j
-        (λ f c₁ u v. on-next w u (λ rs k k₁ te. undo (readStatement l e sc s q) _ k (λ t₃ q₂ e₂ k₃.
+        (λ f c₁ u v. on-next w u (λ rs k k₁ te. undo (readStatement (l - 1) e sc s q) _ k (λ t₃ q₂ e₂ k₃.
         let qe : q₂ ≡ c₁ = cc in
-        let e₃ : readStatement l e sc s q ≡ read t₃ c₁ = e₂ ∙ ap (λ z. read t₃ z) qe in
+        let e₃ : readStatement (l - 1) e sc s q ≡ read t₃ c₁ = e₂ ∙ ap (λ z. read t₃ z) qe in
         stop (whole ∙ rw (receiveRest, e₃, v)))))
-        (λ u. let k = stopped w u in by-read (readStatement l e sc s q)
+        (λ u. let k = stopped w u in by-read (readStatement (l - 1) e sc s q)
         (λ t₃ q₂ y. let z : _≡_ {A = Read Receives} (refused _ _) (read (last m t₃) q₂) = sym k ∙ rw y in never z)
         (λ r₁ p₁ y. let z : _≡_ {A = Read Receives} (refused r₁ p₁) (refused _ _) = rw y at k in
         stop (whole ∙ rw (receiveRest, y) (cc))))
 
     pub receives-goes : {d : Cursor} {f₁ : Fit} {t₃ : Tables} {r : Step} → h ≡ Ending.Goes d →
-        From (Step.Next f₁ d) (manyReceives (n - 1) (readReceive (suc l) e sc) (ms ++ (m ∷ [])) s) noKind (receivesTables e sc parent) t₂ t₃ r → All t₃ r
+        From (Step.Next f₁ d) (manyReceives (n - 1) (readReceive l e sc) (ms ++ (m ∷ [])) s) noKind (receivesTables e sc parent) t₂ t₃ r → All t₃ r
     unfolding receiveRest receivesRows receivesContextRows receivesConditions
-    receives-goes {d} {f₁} {t₃} {r} j w₁ = on-goes s a at j (λ f y u v x. on-next w u (λ rs k k₁ te. undo (readStatement l e sc s q) _ k (λ t₄ q₂ e₂ k₃.
+    receives-goes {d} {f₁} {t₃} {r} j w₁ = on-goes s a at j (λ f y u v x. on-next w u (λ rs k k₁ te. undo (readStatement (l - 1) e sc s q) _ k (λ t₄ q₂ e₂ k₃.
         let pe : rs ≡ last m t₄ = same k₃ (λ rs q. rs ≡ last m t₄) refl in
         let qe : q₂ ≡ d = cc in
-        let e₃ : readStatement l e sc s q ≡ read t₄ d = e₂ ∙ ap (λ z. read t₄ z) qe in
+        let e₃ : readStatement (l - 1) e sc s q ≡ read t₄ d = e₂ ∙ ap (λ z. read t₄ z) qe in
         let g = receive-went n l e sc ms s c i .went in
-        let o = statement-sound s octets e l sc q t₄ d e₃ .went in
+        let o = statement-sound s octets e (l - 1) sc q t₄ d e₃ .went in
         let there : d .at ≡ c .at + 2 + size t₄ = omega (arith, g .place, o .place) in
         let counts : d .statements ≡ c .statements + 1 + statementCount t₄ = omega (arith, g .counted, o .counted) in
-        let row-length = statement-rows-length t₄ (c .at + 2) (c .statements + 1) (c .statements + 1) in
-        let context-length = context-rows-length (e .relations) sc t₄ (c .at + 2) in
+        let row-length = statement-rows t₄ (c .at + 2) (c .statements + 1) (c .statements + 1) in
+        let context-length = context-rows (e .relations) sc t₄ (c .at + 2) in
         let place-length = length-map (conditions (e .relations) sc t₄ (c .at + 2)) (λ x. x .place) in
         let marked = rw (g .place) at (o .noted) in
         let follows : Follows c (receivesTables e sc parent c (last m t₄)) d = record {
@@ -243,7 +242,7 @@ module _ (s : List ℕ) (octets : Octets s) (e : Environment) (sc : Scope) (l n 
           conditions = omega (arith, g .noted, marked, place-length);
         } in
         let w₂ = from-next w₁ in
-        by-read (manyReceives (n - 1) (readReceive (suc l) e sc) (ms ++ (m ∷ [])) s d)
+        by-read (manyReceives (n - 1) (readReceive l e sc) (ms ++ (m ∷ [])) s d)
         (λ rs₁ d₁ y₄.
         let re : r ≡ Step.Next Fit.NoKind d₁ = w₂ .answer ∙ rw y₄ in
         let ue : t₃ ≡ laid t₂ d (receivesTables e sc parent d rs₁) = rw y₄ at (w₂ .filled) in
@@ -268,22 +267,22 @@ pub record ReceiveGiven (s d : List ℕ) (sc : Scopes.Scope) (levels n l m : ℕ
   pub beyond : 2 ≤ q .at
   pub small : m < 256
 
-module _ (n l : ℕ) (e : Environment) (sc : Scope) (s : List ℕ) {before : Selected} (from : Step) {o : ByteStep}
+module _ (n l : ℕ) (e : Environment) (sc : Scope) (s : List ℕ) {before : Selected} (from : Step) {o : MessageStep}
     (w : Selecting before from (λ ms. receiveCoded n l e sc ms s) o) where
   chosen : (ms : List ℕ) → Holds before ms → (x : Step) → from ≡ x →
-      o ≡ fromStep x (λ x p. ByteStep.Refused x p) (λ c. byteStep (receiveCoded n l e sc ms s c))
-  chosen ms h x y = w .selected ms h ∙ ap (λ z. fromStep z (λ x p. ByteStep.Refused x p) (λ c. byteStep (receiveCoded n l e sc ms s c))) y
+      o ≡ fromStep x (λ x p. MessageStep.Refused x p) (λ c. messageStep (receiveCoded n l e sc ms s c))
+  chosen ms h x y = w .selected ms h ∙ ap (λ z. fromStep z (λ x p. MessageStep.Refused x p) (λ c. messageStep (receiveCoded n l e sc ms s c))) y
 
-  pub on-receive : {m : ℕ} {q : Cursor} {G : Type 0} (ms : List ℕ) → Holds before ms → o ≡ ByteStep.Is m q →
-      ((f : Fit) (c : Cursor) → from ≡ Step.Next f c → receiveCoded n l e sc ms s c ≡ read m q → G) → G
+  pub on-receive : {m : MessageNumber} {q : Cursor} {G : Type 0} (ms : List ℕ) → Holds before ms → o ≡ MessageStep.Is m q →
+      ((f : Fit) (c : Cursor) → from ≡ Step.Next f c → receiveCoded n l e sc ms s c ≡ read (m .0) q → G) → G
   on-receive {m} {q} {G} ms h i g = go from refl
     where
       go : (x : Step) → from ≡ x → G
-      go (Step.Next f c) y = g f c y (byte-read (receiveCoded n l e sc ms s c) (sym i ∙ chosen ms h (Step.Next f c) y))
-      go (Step.Refused r p) y = let z : ByteStep.Refused r p ≡ ByteStep.Is m q = sym (chosen ms h (Step.Refused r p) y) ∙ i in absurd-eq (cc)
+      go (Step.Next f c) y = g f c y (message-read (receiveCoded n l e sc ms s c) (sym i ∙ chosen ms h (Step.Next f c) y))
+      go (Step.Refused r p) y = let z : MessageStep.Refused r p ≡ MessageStep.Is m q = sym (chosen ms h (Step.Refused r p) y) ∙ i in absurd-eq (cc)
 
-  pub receive-given : {d : List ℕ} {scope : Scopes.Scope} {levels m : ℕ} {q : Cursor} → GivenAfter s d scope from levels → Marks before → o ≡ ByteStep.Is m q →
-      ReceiveGiven s d scope levels n l m q
+  pub receive-given : {d : List ℕ} {scope : Scopes.Scope} {levels : ℕ} {m : MessageNumber} {q : Cursor} → GivenAfter s d scope from levels → Marks before →
+      o ≡ MessageStep.Is m q → ReceiveGiven s d scope levels n l (m .0) q
   receive-given {d} {scope} {levels} {m} {q} g k i = on-receive (k .list) (k .marked) i (λ f c y z.
       let v = receive-went n l e sc (k .list) s c z in
       let t = v .went in
@@ -310,68 +309,60 @@ pub ends-given : {s d : List ℕ} {sc : Scopes.Scope} {to : Step} {levels : ℕ}
 ends-given g = record { ends = λ f c i. let u = g .given f c i .ready in omega (arith, u .inside, u .short) }
 
 -- two levels down
-pub statements-two-below : (e : Environment) (sc : Scope) (s : List ℕ) (l : ℕ) → 0 < l - 1 → {from : Step} {t t′ : Tables} {r : Step} (parent : ℕ) →
+pub statements-two-below : (e : Environment) (sc : Scope) (s : List ℕ) (l : ℕ) {from : Step} {t t′ : Tables} {r : Step} (parent : ℕ) →
     Descended Construct.Statement e sc (l - 2) parent s from t t′ r →
-    From from (readStatement (l - 1) e sc s) noKind (λ c t. statementTables (e .relations) sc t (c .at) (c .statements) parent) t t′ r
-statements-two-below e sc s l deep {from} {t} {t′} {r} parent w =
+    From from (readStatement (l - 1 - 1) e sc s) noKind (λ c t. statementTables (e .relations) sc t (c .at) (c .statements) parent) t t′ r
+statements-two-below e sc s l {from} {t} {t′} {r} parent w =
     subst (λ z. From from (readStatement z e sc s) noKind (λ c t. statementTables (e .relations) sc t (c .at) (c .statements) parent) t t′ r)
-    (two l deep) w
+    (two l) w
   where
-    two : (l : ℕ) → 0 < l - 1 → suc (l - 2) ≡ l - 1
-    two l h = omega arith
+    two : (l : ℕ) → l - 2 ≡ l - 1 - 1
+    two l = omega arith
 
--- ---- the receives of a select, with the levels of the code
+-- ---- the receives of a select, with l levels left for each
 
-module _ (s : List ℕ) (octets : Octets s) (e : Environment) (sc : Scope) (levels n parent : ℕ) (deep : 0 < levels) {before : Selected} (from : Step) {o : ByteStep}
-    (w : Selecting before from (λ ms. receiveCoded n (levels - 1) e sc ms s) o) where
+module _ (s : List ℕ) (octets : Octets s) (e : Environment) (sc : Scope) (l n parent : ℕ) {before : Selected} (from : Step) {o : MessageStep}
+    (w : Selecting before from (λ ms. receiveCoded n l e sc ms s) o) where
   abbrev pub Selects : Tables → Tables → Step → Type 0
-  Selects t t′ r = Receiving before from (λ ms. manyReceives n (readReceive levels e sc) ms s) (receivesTables e sc parent) t t′ r
+  Selects t t′ r = Receiving before from (λ ms. manyReceives n (readReceive l e sc) ms s) (receivesTables e sc parent) t t′ r
 
-  at-level : (ms : List ℕ) {t t′ : Tables} {r : Step} →
-      From from (manyReceives n (readReceive (suc (levels - 1)) e sc) ms s) noKind (receivesTables e sc parent) t t′ r →
-      From from (manyReceives n (readReceive levels e sc) ms s) noKind (receivesTables e sc parent) t t′ r
-  at-level ms {t} {t′} {r} k =
-      subst (λ z. From from (manyReceives n (readReceive z e sc) ms s) noKind (receivesTables e sc parent) t t′ r) (level levels deep) k
-
-  pub select-stopped : {r : Refusal} {p : ℕ} {t t′ : Tables} → o ≡ ByteStep.Refused r p → Selects t t′ (Step.Refused r p)
-  select-stopped {r} {p} {t} {t′} i = record { received = λ ms h. at-level ms (go ms h from refl) }
+  pub select-stopped : {r : Refusal} {p : ℕ} {t t′ : Tables} → o ≡ MessageStep.Refused r p → Selects t t′ (Step.Refused r p)
+  select-stopped {r} {p} {t} {t′} i = record { received = λ ms h. go ms h from refl }
     where
       go : (ms : List ℕ) → Holds before ms → (x : Step) → from ≡ x →
-          From from (manyReceives n (readReceive (suc (levels - 1)) e sc) ms s) noKind (receivesTables e sc parent) t t′ (Step.Refused r p)
+          From from (manyReceives n (readReceive l e sc) ms s) noKind (receivesTables e sc parent) t t′ (Step.Refused r p)
       go ms h (Step.Next f c) y =
-          let z = byte-refused (receiveCoded n (levels - 1) e sc ms s c) (sym i ∙ chosen n (levels - 1) e sc s from w ms h (Step.Next f c) y) in
-          started y (stop (receives-coded e sc (levels - 1) ms s c n ∙
-          ap (λ y. onRead y (λ m q. receiveRest (manyReceives (n - 1) (readReceive (suc (levels - 1)) e sc)) (readStatement (levels - 1) e sc) ms m s q)) z))
+          let z = message-refused (receiveCoded n l e sc ms s c) (sym i ∙ chosen n l e sc s from w ms h (Step.Next f c) y) in
+          started y (stop (receives-coded e sc ms s c l n ∙
+          ap (λ y. onRead y (λ m q. receiveRest (manyReceives (n - 1) (readReceive l e sc)) (readStatement (l - 1) e sc) ms m s q)) z))
       go ms h (Step.Refused r₁ p₁) y =
-          let z : ByteStep.Refused r₁ p₁ ≡ ByteStep.Refused r p = sym (chosen n (levels - 1) e sc s from w ms h (Step.Refused r₁ p₁) y) ∙ i in
+          let z : MessageStep.Refused r₁ p₁ ≡ MessageStep.Refused r p = sym (chosen n l e sc s from w ms h (Step.Refused r₁ p₁) y) ∙ i in
           let v : Step.Refused r₁ p₁ ≡ Step.Refused r p = cc in
           passed-on (y ∙ v)
 
-  module _ {m : ℕ} {q : Cursor} (i : o ≡ ByteStep.Is m q) {f₁ : Fit} {st ct nd st₁ ct₁ nd₁ st₂ : List ℕ} {a : Step}
-      (w₁ : From (Step.Next f₁ q) (readStatement (levels - 1) e sc s) noKind
+  module _ {m : MessageNumber} {q : Cursor} (i : o ≡ MessageStep.Is m q) {f₁ : Fit} {st ct nd st₁ ct₁ nd₁ st₂ : List ℕ} {a : Step}
+      (w₁ : From (Step.Next f₁ q) (readStatement (l - 1) e sc s) noKind
       (λ d t. statementTables (e .relations) sc t (d .at) (d .statements) (q .statements)) (tables st ct nd) (tables st₁ ct₁ nd₁) a)
       (se : st₂ ≡ stepped a (λ d. sets st₁ ((q .statements - 1) * 4) ((q .at - 2) ∷ 12 ∷ parent ∷ d .at ∷ [])) st₁) {h : Ending}
       (at : h ≡ fromStep a (λ x p. Ending.Refused x p) (λ c. endingOf (peek s c))) where
     pub select-done : {d : Cursor} → h ≡ Ending.Done d → Selects (tables st ct nd) (tables st₂ ct₁ nd₁) (Step.Next Fit.NoKind d)
     select-done j = record {
-      received = λ ms k. at-level ms (on-receive n (levels - 1) e sc s from w ms k i (λ f c y z.
-          started y (receives-done s octets e sc (levels - 1) n parent ms c z (receive-wrote s octets e sc (levels - 1) n parent ms c z w₁ se) at j)));
+      received = λ ms k. on-receive n l e sc s from w ms k i (λ f c y z.
+          started y (receives-done s octets e sc l n parent ms c z (receive-wrote s octets e sc l n parent ms c z w₁ se) at j));
     }
 
     pub select-cut : {r : Refusal} {p : ℕ} {t₃ : Tables} → h ≡ Ending.Refused r p → Selects (tables st ct nd) t₃ (Step.Refused r p)
     select-cut j = record {
-      received = λ ms k. at-level ms (on-receive n (levels - 1) e sc s from w ms k i (λ f c y z.
-          started y (receives-stopped s octets e sc (levels - 1) n parent ms c z (receive-wrote s octets e sc (levels - 1) n parent ms c z w₁ se) at j)));
+      received = λ ms k. on-receive n l e sc s from w ms k i (λ f c y z.
+          started y (receives-stopped s octets e sc l n parent ms c z (receive-wrote s octets e sc l n parent ms c z w₁ se) at j));
     }
 
-    pub select-goes : {d : Cursor} {f₂ : Fit} {t₃ : Tables} {r : Step} {before′ : Selected} → h ≡ Ending.Goes d → m < 256 →
-        before′ .seen ≡ set (before .seen) m true →
-        Receiving before′ (Step.Next f₂ d) (λ ms. manyReceives (n - 1) (readReceive levels e sc) ms s) (receivesTables e sc parent) (tables st₂ ct₁ nd₁) t₃ r →
+    pub select-goes : {d : Cursor} {f₂ : Fit} {t₃ : Tables} {r : Step} {before′ : Selected} → h ≡ Ending.Goes d → m .0 < 256 →
+        before′ .seen ≡ set (before .seen) (m .0) true →
+        Receiving before′ (Step.Next f₂ d) (λ ms. manyReceives (n - 1) (readReceive l e sc) ms s) (receivesTables e sc parent) (tables st₂ ct₁ nd₁) t₃ r →
         Selects (tables st ct nd) t₃ r
     select-goes {d} {f₂} {t₃} {r} {before′} j small seen k₁ = record {
-      received = λ ms k. at-level ms (on-receive n (levels - 1) e sc s from w ms k i (λ f c y z.
-          let w₂ = k₁ .received (ms ++ (m ∷ [])) (one-selected before before′ ms m k small seen) in
-          let w₃ = subst (λ v. From (Step.Next f₂ d) (manyReceives (n - 1) (readReceive v e sc) (ms ++ (m ∷ [])) s) noKind (receivesTables e sc parent)
-          (tables st₂ ct₁ nd₁) t₃ r) (sym (level levels deep)) w₂ in
-          started y (receives-goes s octets e sc (levels - 1) n parent ms c z (receive-wrote s octets e sc (levels - 1) n parent ms c z w₁ se) at j w₃)));
+      received = λ ms k. on-receive n l e sc s from w ms k i (λ f c y z.
+          let w₂ = k₁ .received (ms ++ (m .0 ∷ [])) (one-selected before before′ ms (m .0) k small seen) in
+          started y (receives-goes s octets e sc l n parent ms c z (receive-wrote s octets e sc l n parent ms c z w₁ se) at j w₂));
     }

@@ -28,18 +28,18 @@ use Rattle.grammar.specs.Environment.{Environment, Scope}
 use Rattle.grammar.specs.Scope.{ofFor}
 use Rattle.grammar.specs.Kinds.{kindOf, referenceKind, oneKind}
 use Rattle.grammar.specs.Sizes.{statementCount}
-use Rattle.grammar.specs.Rows.{statementRows, statementsRows, valueRows, booleanRows, contextRows, contextsRows}
+use Rattle.grammar.specs.Rows.{rowsBelow, statementRows, statementsRows, valueRows, booleanRows, contextRows, contextsRows}
 use Rattle.grammar.specs.Conditions.{conditions, statementsConditions}
 use Rattle.grammar.specs.Reader.{Read, read, refused, onRead, Reader, on, need, byte, peek, tested, code, coded, countStatement, withCondition}
 use Rattle.grammar.specs.Values.{contextByte, readValue, readBoolean, readTarget}
 use Rattle.grammar.specs.Statements.{numberedBoolean, many, assignmentUnder, eraseUnder, leaveUnder, beginUnder, forUnder, ifUnder, statementUnder, readStatement}
-use Rattle.grammar.specs.Steps.{kindIn, stepOf, noKind}
+use Rattle.grammar.specs.Internal.Steps.{kindIn, stepOf, noKind}
 use Rattle.grammar.specs.Demands.{Octets}
 use Rattle.grammar.proofs.StepLaws.{absurd-eq, step-read, taken-cut, peek-here, peek-past}
 use Rattle.grammar.proofs.Went.{inside, never, undo, same, needed, peek-read}
 use Rattle.grammar.proofs.SoundRses.{numbered-sound}
 use Rattle.grammar.proofs.SoundValues.{boolean-sound}
-use Rattle.grammar.proofs.RowCounts.{boolean-rows}
+use Rattle.grammar.proofs.RowCounts.{statement-rows, context-rows, boolean-rows}
 use Rattle.grammar.proofs.SoundStatements.{statement-sound}
 use Rattle.references.specs.Promises.{referenceFit}
 use Rattle.scopes.proofs.Scopes.{kind-fit}
@@ -50,11 +50,12 @@ use Rattle.reader.specs.declared.heads.Ending.{Ending}
 use Rattle.reader.specs.declared.heads.Ending.the-variants as Ending
 use Rattle.reader.specs.declared.cycle.Construct as PartOf
 use Rattle.reader.specs.declared.cycle.Construct.the-variants as Construct
-use Rattle.reader.specs.Cycle.{Tables, tables, nothing, joined, laid, Wrote, From, Descended, onStep, fromStep, testStep, noRows, valueFit, valueTables, leveled, statementCoded, statementHead, endingOf, innerAt, places, statementTables, statementsTables, belowRows, belowTables, stepped, Given, GivenAfter, Ends}
+use Rattle.reader.specs.Cycle.{Tables, tables, nothing, joined, laid, Wrote, From, Descended, onStep, fromStep, testStep, noRows, valueFit, valueTables, leveled, statementCoded, statementHead, endingOf, innerAt, places, statementTables, statementsTables, belowTables, stepped, Given, GivenAfter, Ends}
 use Rattle.reader.proofs.Steps.{passed-on, started, from-next, stop, fill, kept, likewise, by-read, on-next, stopped}
+use Rattle.reader.proofs.Codes.{one-left}
 use Rattle.reader.proofs.Chains.{from-equal, rows-as, then-wrote, last-wrote, numbered-wrote}
-use Rattle.reader.proofs.Laid.{Follows, laid-laid, row-over, rows-split, statement-rows-length, context-rows-length}
-use Rattle.reader.proofs.Values.{Valued, Judged, value-follows, two-wrote, level, test-step}
+use Rattle.reader.proofs.Laid.{Follows, laid-laid, row-over}
+use Rattle.reader.proofs.Values.{Valued, Judged, value-follows, two-wrote, test-step}
 use Rattle.reader.proofs.Ready.{fine-of, statement-onward}
 use Rattle.reader.proofs.Inside.{statement-is, statement-not, statement-read}
 
@@ -65,8 +66,8 @@ module _ (s : List ℕ) (octets : Octets s) (e : Environment) (sc : Scope) (l : 
   statement-follows c parent t q h =
       let w = statement-sound s octets e l sc c t q h .went in
       record {
-        statements = omega (arith, w .counted, statement-rows-length t (c .at) (c .statements) parent);
-        contexts = omega (arith, w .declared, context-rows-length (e .relations) sc t (c .at));
+        statements = omega (arith, w .counted, statement-rows t (c .at) (c .statements) parent);
+        contexts = omega (arith, w .declared, context-rows (e .relations) sc t (c .at));
         conditions = w .noted ∙ ap (λ z. c .conditions + z) (sym (length-map (conditions (e .relations) sc t (c .at)) (λ x. x .place)));
       }
 
@@ -201,13 +202,6 @@ module _ (s : List ℕ) (octets : Octets s) (e : Environment) (sc : Scope) (l : 
   pub goes-given : {d : List ℕ} {scope : Scopes.Scope} {levels : ℕ} {q : Cursor} → GivenAfter s d scope from levels → h ≡ Ending.Goes q → Given s d scope q levels
   goes-given {d} {scope} {levels} {q} g i = on-goes s from at i (λ f y u v w. g .given f q u)
 
-pub statements-below : (e : Environment) (sc : Scope) (s : List ℕ) (l : ℕ) → 0 < l → {from : Step} {t t′ : Tables} {r : Step} (parent : ℕ) →
-    Descended Construct.Statement e sc (l - 1) parent s from t t′ r →
-    From from (readStatement l e sc s) noKind (λ c t. statementTables (e .relations) sc t (c .at) (c .statements) parent) t t′ r
-statements-below e sc s l deep {from} {t} {t′} {r} parent w =
-    subst (λ z. From from (readStatement z e sc s) noKind (λ c t. statementTables (e .relations) sc t (c .at) (c .statements) parent) t t′ r)
-    (level l deep) w
-
 -- ---- a statement with its own row
 
 some-heading : (h : Heading) → 0 < length (headingBytes h)
@@ -240,45 +234,46 @@ head-byte s (b ∷ bs) rest p h z e =
     sym j
 
 module _ (s : List ℕ) (octets : Octets s) (e : Environment) (sc : Scope) (l : ℕ) where
-  statement-leveled : (c : Cursor) → readStatement (suc l) e sc s c ≡
-      onRead (statementCoded l s c) (λ k q. statementUnder (innerAt l e) e sc (c .at) k s q)
+  statement-leveled : (c : Cursor) → readStatement l e sc s c ≡
+      onRead (statementCoded l s c) (λ k q. statementUnder (innerAt (l - 1) e) e sc (c .at) k s q)
   unfolding readStatement statementCoded leveled countStatement
-  statement-leveled c = go (coded statementClass s c) (ltb 0 l) refl refl
+  statement-leveled c = go l (coded statementClass s c) refl
     where
-      few : (k : StatementCode) (q : Cursor) (b : Bool) → coded statementClass s c ≡ read k q → ltb 0 l ≡ true → ltb (q .statements) 512 ≡ b →
-          readStatement (suc l) e sc s c ≡ onRead (statementCoded l s c) (λ k q. statementUnder (innerAt l e) e sc (c .at) k s q)
-      few k q true h i j = rw (readStatement, statementCoded, leveled, h, i, j)
-      few k q false h i j = rw (readStatement, statementCoded, leveled, h, i, j)
+      few : (l : ℕ) (k : StatementCode) (q : Cursor) (b : Bool) → coded statementClass s c ≡ read k q → ltb (q .statements) 512 ≡ b →
+          readStatement (suc l) e sc s c ≡ onRead (statementCoded (suc l) s c) (λ k q. statementUnder (innerAt (suc l - 1) e) e sc (c .at) k s q)
+      few l k q true h j = rw (readStatement, statementCoded, leveled, h, one-left l, j, sub-one (suc l))
+      few l k q false h j = rw (readStatement, statementCoded, leveled, h, one-left l, j)
 
-      go : (y : Read StatementCode) (b : Bool) → coded statementClass s c ≡ y → ltb 0 l ≡ b → readStatement (suc l) e sc s c ≡
-          onRead (statementCoded l s c) (λ k q. statementUnder (innerAt l e) e sc (c .at) k s q)
-      go (read k q) true h i = few k q (ltb (q .statements) 512) h i refl
-      go (read k q) false h i = rw (readStatement, statementCoded, leveled, h, i)
-      go (refused n p) b h i = rw (readStatement, statementCoded, leveled, h)
+      go : (l : ℕ) (y : Read StatementCode) → coded statementClass s c ≡ y → readStatement l e sc s c ≡
+          onRead (statementCoded l s c) (λ k q. statementUnder (innerAt (l - 1) e) e sc (c .at) k s q)
+      go zero (read k q) h = rw (readStatement, statementCoded, leveled, h)
+      go zero (refused n p) h = rw (readStatement, statementCoded, leveled, h)
+      go (suc l) (read k q) h = few l k q (ltb (q .statements) 512) h refl
+      go (suc l) (refused n p) h = rw (readStatement, statementCoded, leveled, h)
 
   module _ {from : Step} {f : Fit} {c : Cursor} (at : from ≡ Step.Next f c) {h : StatementHead} (u : h ≡ statementHead (statementCoded l s c)) (parent : ℕ) where
     abbrev rows : Cursor → Statement → Tables
     rows c t = statementTables (e .relations) sc t (c .at) (c .statements) parent
 
     pub statement-stopped : {n : Refusal} {p : ℕ} {t t′ : Tables} → h ≡ StatementHead.Refused n p →
-        From from (readStatement (suc l) e sc s) noKind rows t t′ (Step.Refused n p)
+        From from (readStatement l e sc s) noKind rows t t′ (Step.Refused n p)
     statement-stopped v = started at (stop (statement-leveled c ∙
-        ap (λ y. onRead y (λ k q. statementUnder (innerAt l e) e sc (c .at) k s q)) (statement-not (statementCoded l s c) (sym u ∙ v))))
+        ap (λ y. onRead y (λ k q. statementUnder (innerAt (l - 1) e) e sc (c .at) k s q)) (statement-not (statementCoded l s c) (sym u ∙ v))))
 
     pub statement-descended : {k : StatementCode} {q : Cursor} {st ct nd st₁ ct₁ nd₁ st₂ : List ℕ} {code : ℕ} {r : Step} → h ≡ StatementHead.Is k q →
-        Wrote (statementUnder (innerAt l e) e sc (c .at) k s q) noKind q (belowTables e sc (c .at) q) (tables st ct nd) (tables st₁ ct₁ nd₁) r →
+        Wrote (statementUnder (innerAt (l - 1) e) e sc (c .at) k s q) noKind q (belowTables e sc (c .at) q) (tables st ct nd) (tables st₁ ct₁ nd₁) r →
         code ≡ byteAt s (c .at) →
         st₂ ≡ stepped r (λ d. sets st₁ (c .statements * 4) (c .at ∷ code ∷ parent ∷ d .at ∷ [])) st₁ → c .at ≤ length s →
-        From from (readStatement (suc l) e sc s) noKind rows (tables st ct nd) (tables st₂ ct₁ nd₁) r
+        From from (readStatement l e sc s) noKind rows (tables st ct nd) (tables st₂ ct₁ nd₁) r
     statement-descended {k} {q} {st} {ct} {nd} {st₁} {ct₁} {nd₁} {st₂} {code} {r} v w ce se inside′ =
         let ie = statement-is (statementCoded l s c) (sym u ∙ v) in
         let en = statement-read s c l ie in
-        let whole : readStatement (suc l) e sc s c ≡ statementUnder (innerAt l e) e sc (c .at) k s q =
-        statement-leveled c ∙ ap (λ y. onRead y (λ k q. statementUnder (innerAt l e) e sc (c .at) k s q)) ie in
-        started at (by-read (statementUnder (innerAt l e) e sc (c .at) k s q)
+        let whole : readStatement l e sc s c ≡ statementUnder (innerAt (l - 1) e) e sc (c .at) k s q =
+        statement-leveled c ∙ ap (λ y. onRead y (λ k q. statementUnder (innerAt (l - 1) e) e sc (c .at) k s q)) ie in
+        started at (by-read (statementUnder (innerAt (l - 1) e) e sc (c .at) k s q)
         (λ t d y.
-        let full : readStatement (suc l) e sc s c ≡ read t d = whole ∙ y in
-        let o = statement-sound s octets e (suc l) sc c t d full .went in
+        let full : readStatement l e sc s c ≡ read t d = whole ∙ y in
+        let o = statement-sound s octets e l sc c t d full .went in
         let re : r ≡ Step.Next Fit.NoKind d = w .answer ∙ rw y in
         let te : tables st₁ ct₁ nd₁ ≡ laid (tables st ct nd) q (belowTables e sc (c .at) q t) = rw y at (w .filled) in
         let long : 0 < length (statementBytes t) = some-bytes t in
@@ -288,13 +283,13 @@ module _ (s : List ℕ) (octets : Octets s) (e : Environment) (sc : Scope) (l : 
         let counts : q .statements ≡ c .statements + 1 = en .went .counted in
         let more : q .contexts ≡ c .contexts = omega (arith, en .went .declared) in
         let marks : q .conditions ≡ c .conditions = omega (arith, en .went .noted) in
-        let s₁ : st₁ ≡ sets st (q .statements * 4) (belowRows t (c .at) (q .statements)) = ap (λ (z : Tables). z .statements) te in
+        let s₁ : st₁ ≡ sets st (q .statements * 4) (rowsBelow t (c .at) (q .statements)) = ap (λ (z : Tables). z .statements) te in
         let c₁ : ct₁ ≡ sets ct (q .contexts * 5) (contextRows (e .relations) sc t (c .at)) = ap (λ (z : Tables). z .contexts) te in
         let n₁ : nd₁ ≡ sets nd (q .conditions) (places (conditions (e .relations) sc t (c .at))) = ap (λ (z : Tables). z .conditions) te in
         let s₂ : st₂ ≡ sets st (c .statements * 4) (statementRows t (c .at) (c .statements) parent) =
         se ∙ rw re (ap (λ z. sets z (c .statements * 4) (c .at ∷ code ∷ parent ∷ d .at ∷ [])) s₁
-        ∙ row-over st (belowRows t (c .at) (q .statements)) (c .statements * 4) (q .statements * 4) (c .at) code parent (d .at) (omega arith)
-        ∙ rw (rows-split t (c .at) (c .statements) parent, first, o .place, counts)) in
+        ∙ row-over st (rowsBelow t (c .at) (q .statements)) (c .statements * 4) (q .statements * 4) (c .at) code parent (d .at) (omega arith)
+        ∙ rw (first, o .place, counts)) in
         rw re (fill full refl (rw (s₂, c₁, n₁, more, marks))))
         (λ n p y.
         let re : r ≡ Step.Refused n p = w .answer ∙ rw y in
@@ -302,15 +297,15 @@ module _ (s : List ℕ) (octets : Octets s) (e : Environment) (sc : Scope) (l : 
 
     pub statement-ends : {d : List ℕ} {scope : Scopes.Scope} {levels : ℕ} {k : StatementCode} {q : Cursor} {t t′ : Tables} {r : Step} →
         Given s d scope c levels → h ≡ StatementHead.Is k q →
-        Wrote (statementUnder (innerAt l e) e sc (c .at) k s q) noKind q (belowTables e sc (c .at) q) t t′ r → Ends r
+        Wrote (statementUnder (innerAt (l - 1) e) e sc (c .at) k s q) noKind q (belowTables e sc (c .at) q) t t′ r → Ends r
     statement-ends {d} {scope} {levels} {k} {q} {t} {t′} {r} g v w =
         let ie = statement-is (statementCoded l s c) (sym u ∙ v) in
-        let whole : readStatement (suc l) e sc s c ≡ statementUnder (innerAt l e) e sc (c .at) k s q =
-        statement-leveled c ∙ ap (λ y. onRead y (λ k q. statementUnder (innerAt l e) e sc (c .at) k s q)) ie in
+        let whole : readStatement l e sc s c ≡ statementUnder (innerAt (l - 1) e) e sc (c .at) k s q =
+        statement-leveled c ∙ ap (λ y. onRead y (λ k q. statementUnder (innerAt (l - 1) e) e sc (c .at) k s q)) ie in
         record {
           ends = λ f₁ q₁ i.
-              let y = step-read noKind (statementUnder (innerAt l e) e sc (c .at) k s q) (sym i ∙ w .answer) in
-              let o = statement-onward s octets e sc (suc l) c (y .0) q₁ (fine-of g) (whole ∙ y .1) in
+              let y = step-read noKind (statementUnder (innerAt (l - 1) e) e sc (c .at) k s q) (sym i ∙ w .answer) in
+              let o = statement-onward s octets e sc l c (y .0) q₁ (fine-of g) (whole ∙ y .1) in
               omega (arith, o .fine .inside, g .ready .short);
         }
 
@@ -327,19 +322,19 @@ Under s e sc l p c k t t′ r = Wrote (statementUnder (innerAt l e) e sc p k s c
 
 module _ (s : List ℕ) (e : Environment) (sc : Scope) (l p : ℕ) (c : Cursor) {k : StatementCode} where
   pub erase-under : {t : Tables} {r : Step} → k ≡ Code.Erase → r ≡ stepOf noKind (eraseUnder sc p s c) → Under s e sc l p c k t t r
-  unfolding statementUnder eraseUnder belowRows contextRows conditions
+  unfolding statementUnder eraseUnder rowsBelow contextRows conditions
   erase-under ke h = rw ke (rows-as (λ a q y. undo (contextByte sc s c) _ y (λ x q₁ e₁ w. needed (ofFor sc x) _ _ _ _ _ w (λ z v.
       same v (λ a q. nothing ≡ belowTables e sc p c a) refl))) (kept h))
 
   pub leave-under : {t : Tables} {r : Step} → k ≡ Code.Leave → r ≡ stepOf noKind (leaveUnder sc p s c) → Under s e sc l p c k t t r
-  unfolding statementUnder leaveUnder belowRows contextRows conditions
+  unfolding statementUnder leaveUnder rowsBelow contextRows conditions
   leave-under ke h = rw ke (rows-as (λ a q y. undo (byte s c) _ y (λ x q₁ e₁ w. needed (among x (sc .labels)) _ _ _ _ _ w (λ z v.
       same v (λ a q. nothing ≡ belowTables e sc p c a) refl))) (kept h))
 
   pub assign-under : Octets s → c .at ≡ p + 1 → {f : Fit} {t t₁ : Tables} {v g r : Step} → k ≡ Code.Assignment → Valued e sc l s (Step.Next f c) t t₁ v →
       g ≡ onStep v (λ f c. stepOf (referenceFit e sc) (readTarget e sc p s c)) →
       r ≡ onStep v (λ x d. onStep g (λ y q. testStep (oneKind (kindIn x) (kindIn y)) p q)) → Under s e sc l p c k t t₁ r
-  unfolding statementUnder assignmentUnder belowRows contextRows conditions
+  unfolding statementUnder assignmentUnder rowsBelow contextRows conditions
   assign-under octets here {v} {g} ke w ge h = rw ke (two-wrote p s noKind (belowTables e sc p c) (readValue l e sc s) (valueFit e sc)
       (λ c v. valueTables e sc (c .at) v) w (value-follows s octets e sc l c) (readTarget e sc p s) (referenceFit e sc) noRows (from-equal v ge)
       (λ v t. oneKind (kindOf e sc v) (referenceKind e sc t)) assignment
@@ -350,7 +345,7 @@ module _ (s : List ℕ) (e : Environment) (sc : Scope) (l p : ℕ) (c : Cursor) 
 
   pub begin-under : {f : Fit} {t t₁ : Tables} {r : Step} → k ≡ Code.Begin → c .at ≡ p + 1 →
       From (Step.Next f c) (many 512 (readStatement l e sc) s) noKind (statementsTables e sc (c .statements)) t t₁ r → Under s e sc l p c k t t₁ r
-  unfolding statementUnder beginUnder belowRows contextRows conditions
+  unfolding statementUnder beginUnder rowsBelow contextRows conditions
   begin-under ke here w = rw ke (last-wrote begin (belowTables e sc p c) (from-next w) (λ v. refl) (λ ts q y. rw here))
 
   pub for-under : {t t₁ : Tables} {r : Step} → k ≡ Code.For → Wrote (forUnder (innerAt l e) e sc s c) noKind c (belowTables e sc p c) t t₁ r → Under s e sc l p c k t t₁ r
@@ -375,7 +370,7 @@ module _ (s : List ℕ) (octets : Octets s) (e : Environment) (sc : Scope) (l p 
       nd₁ ≡ set nd (c .conditions) (c .at) → Judged e sc l s (Step.Next f q) (tables st ct nd₁) t₁ b →
       From b (readStatement l e sc s) noKind (λ d t. statementTables (e .relations) sc t (d .at) (d .statements) (c .statements)) t₁ t₂ a →
       Wrote (ifHead s e sc l c) noKind c headTables (tables st ct nd) t₂ a
-  unfolding ifHead belowRows contextRows conditions
+  unfolding ifHead rowsBelow contextRows conditions
   if-head qe ne w w₁ = then-wrote (λ b t. (b, t)) headTables (numbered-wrote (readBoolean l e sc) (λ p b. booleanRows (e .relations) sc b p) s c qe ne w) w₁ (λ b. refl)
       (λ v u z.
       let o = numbered-sound l e sc s (readBoolean l e sc) (boolean-sound s octets e sc l) c v u z .went in
@@ -419,7 +414,7 @@ module _ (s : List ℕ) (octets : Octets s) (e : Environment) (sc : Scope) (l p 
     pub if-goes : {q : Cursor} {f₁ : Fit} {t₅ : Tables} {r : Step} → h ≡ Ending.Goes q →
         From (Step.Next f₁ q) (readStatement l e sc s) noKind (λ d t. statementTables (e .relations) sc t (d .at) (d .statements) (c .statements)) t₂ t₅ r →
         Wrote (ifUnder (innerAt l e) sc s c) noKind c (belowTables e sc p c) t t₅ r
-    unfolding ifHead ifUnder belowRows contextRows conditions
+    unfolding ifHead ifUnder rowsBelow contextRows conditions
     if-goes {q} {f₁} {t₅} {r} i w₁ = on-goes s a at i (λ f y u v x. on-next w u (λ bt k k₁ te.
         undo (numberedBoolean (readBoolean l e sc) s c) _ k (λ b q₁ e₁ k₂. undo (readStatement l e sc s q₁) _ k₂ (λ t₃ q₂ e₂ k₃.
         let qe : q₂ ≡ q = cc in
@@ -430,8 +425,8 @@ module _ (s : List ℕ) (octets : Octets s) (e : Environment) (sc : Scope) (l p 
         let there : q₁ .at ≡ p + 1 + length (booleanBytes b) = omega (arith, o .place) in
         let beyond : q .at ≡ p + 1 + length (booleanBytes b) + length (statementBytes t₃) = omega (arith, m .place) in
         let rows₁ : q .statements ≡ c .statements + statementCount t₃ = omega (arith, o .counted, m .counted) in
-        let head-length = statement-rows-length t₃ (p + 1 + length (booleanBytes b)) (c .statements) (c .statements) in
-        let context-length = context-rows-length (e .relations) sc t₃ (p + 1 + length (booleanBytes b)) in
+        let head-length = statement-rows t₃ (p + 1 + length (booleanBytes b)) (c .statements) (c .statements) in
+        let context-length = context-rows (e .relations) sc t₃ (p + 1 + length (booleanBytes b)) in
         let boolean-length = boolean-rows (e .relations) sc b (p + 1) in
         let both-length = length-append (booleanRows (e .relations) sc b (p + 1)) (contextRows (e .relations) sc t₃ (p + 1 + length (booleanBytes b))) in
         let place-length = length-map (conditions (e .relations) sc t₃ (p + 1 + length (booleanBytes b))) (λ x. x .place) in

@@ -7,7 +7,7 @@ use Rattle.grammar.specs.declared.Fit.{Fit}
 use Rattle.grammar.specs.declared.Step.{Step}
 use Rattle.grammar.specs.declared.Step.the-variants as Step
 use Rattle.grammar.specs.Reader.{Read, read, refused}
-use Rattle.grammar.specs.Steps.{stepOf}
+use Rattle.grammar.specs.Internal.Steps.{stepOf}
 use Rattle.grammar.proofs.StepLaws.{absurd-eq, step-read, step-refused}
 use Rattle.reader.specs.Promises.{after}
 use Rattle.reader.specs.Cycle.{Tables, tables, nothing, laid, Wrote, From}

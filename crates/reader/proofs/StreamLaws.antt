@@ -12,15 +12,15 @@ use Rattle.wire.specs.Classes.{Class}
 use Rattle.wire.specs.declared.codes.StreamCode.{StreamCode}
 use Rattle.dictionary.specs.Dictionary.{Relation, nameAt}
 use Rattle.dictionary.specs.Naming.{Name, named, numbered, relationOf}
-use Rattle.dictionary.specs.Walk.{relationPlace, relationAt}
-use Rattle.dictionary.specs.Answers.{placeAnswer}
+use Rattle.dictionary.specs.Internal.Walk.{relationPlace, relationAt}
+use Rattle.dictionary.specs.Internal.Answers.{placeAnswer}
 use Rattle.dictionary.proofs.Bounds as Bounds
 use Rattle.dictionary.proofs.Relations as Relations
 use Rattle.grammar.specs.declared.Cursor.{Cursor}
 use Rattle.grammar.specs.declared.Refusal.{Refusal}
 use Rattle.grammar.specs.declared.Refusal.the-variants.{LeftOut, NotDue, Unknown}
 use Rattle.grammar.specs.Tree.{Stream}
-use Rattle.grammar.specs.Environment as Names
+use Rattle.grammar.specs.Environment as Grammar
 use Rattle.grammar.specs.Reader.{Read, read, refused, onRead, Reader, need, byte, word, name, tested, coded}
 use Rattle.grammar.specs.Values.{byName, byNumber}
 use Rattle.grammar.specs.Statements.{naming}
@@ -57,12 +57,12 @@ module _ (d : List ℕ) where
   relation-refused (read a c) e = absurd-eq (cc)
   relation-refused (refused r p) e = cc
 
-  pub stream-read : (f : Bool) (x : Read Stream) {z : Context} {q : Cursor} → StreamStep.Is z q ≡ streamStep d f x →
+  pub stream-read : (f : ℕ) (x : Read Stream) {z : Context} {q : Cursor} → StreamStep.Is z q ≡ streamStep d f x →
       (st : Stream) × (x ≡ read st q) × (z ≡ contextIn d f st)
   stream-read f (read a c) e = (a, cc, cc)
   stream-read f (refused r p) e = absurd-eq (cc)
 
-  pub stream-refused : (f : Bool) (x : Read Stream) {r : Refusal} {p : ℕ} → StreamStep.Refused r p ≡ streamStep d f x → x ≡ refused r p
+  pub stream-refused : (f : ℕ) (x : Read Stream) {r : Refusal} {p : ℕ} → StreamStep.Refused r p ≡ streamStep d f x → x ≡ refused r p
   stream-refused f (read a c) e = absurd-eq (cc)
   stream-refused f (refused r p) e = cc
 
@@ -159,9 +159,9 @@ entry-below d n = by (relationPlace d n) refl
 
 -- ---- a stream after its code
 
-pub under-read : (d : List ℕ) (f : Bool) (rs : List Relation) (sc : Names.Scope) (k : StreamCode) (s : List ℕ) (c : Cursor)
+pub under-read : (d : List ℕ) (f : ℕ) (rs : List Relation) (sc : Grammar.Scope) (k : StreamCode) (s : List ℕ) (c : Cursor)
     {n : Name} {q : Cursor} {z x : ℕ} {q′ : Cursor} →
     relationNamed rs (naming k) s c ≡ read n q → z ≡ entryOf d n → freshByte sc s q ≡ read x q′ →
-    StreamStep.Is (record { relation = z; number = record { 0 = x }; «from_for» = f }) q′ ≡ streamStep d f (streamUnder rs sc k s c)
+    StreamStep.Is (record { relation = z; number = record { 0 = x }; opener = f }) q′ ≡ streamStep d f (streamUnder rs sc k s c)
 unfolding streamUnder
 under-read d f rs sc k s c e z g = rw (streamUnder, e, g, z)

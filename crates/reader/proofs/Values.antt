@@ -1,9 +1,10 @@
 -- Values and booleans: the answer under each code from those of its operands.
-use Prim.Native.Nat.{ℕ, suc, _+_, _-_, _<_}
+use Prim.Native.Nat.{ℕ, zero, suc, _+_, _-_}
 use mathlib.Core.Path.{_≡_, refl, sym, ap, _∙_, subst}
 use mathlib.Core.Bool.{Bool, true, false}
 use mathlib.Core.List.{List, _++_, append-assoc}
 use mathlib.Core.Option.{Option, none, some}
+use native.Mathlib.Numerals.{sub-one}
 use native.Mathlib.Omega.{arith}
 use lib.Dec.{ltb}
 use lib.ListN.{length}
@@ -34,7 +35,7 @@ use Rattle.grammar.specs.Environment.{Environment, Scope}
 use Rattle.grammar.specs.Kinds.{kindOf, arithmeticKind, negatedKind, oneKind, bothText, allOneKind}
 use Rattle.grammar.specs.Reader.{Read, read, refused, onRead, need, coded}
 use Rattle.grammar.specs.Values.{readLiteral, readReference, valueUnder, readValue, booleanUnder, readBoolean}
-use Rattle.grammar.specs.Steps.{fitOf, kindIn, stepOf, noKind}
+use Rattle.grammar.specs.Internal.Steps.{fitOf, kindIn, stepOf, noKind}
 use Rattle.grammar.proofs.StepLaws.{absurd-eq}
 use Rattle.grammar.specs.Demands.{Octets}
 use Rattle.grammar.proofs.Went.{undo, same, needed, coded-read, byte-went}
@@ -52,6 +53,7 @@ use Rattle.reader.specs.Operands.{operandPart, operandCount, booleanAnsw
 use Rattle.reader.specs.Promises.{after}
 use Rattle.reader.specs.Cycle.{Tables, joined, laid, Wrote, From, Descended, onStep, kindStep, testStep, valueFit, valueTables, booleanTables, operandsAt, leveled, valueHead, booleanHead}
 use Rattle.reader.proofs.Steps.{started, from-next, stop, likewise, by-read}
+use Rattle.reader.proofs.Codes.{one-left}
 use Rattle.reader.proofs.Laid.{Follows, laid-laid}
 use Rattle.reader.proofs.Chains.{Counts, wrote-moved}
 
@@ -174,26 +176,14 @@ through (Step.Refused n p) b w = w .passes n p refl
 pub fitted-kind : (x : Option Kind) (f : Fit) (p : ℕ) (c : Cursor) {r : Step} → r ≡ kindStep (kindIn f) p c → f ≡ fitOf x → r ≡ kindStep x p c
 fitted-kind x f p c h e = h ∙ rw (e, kind-fit x)
 
--- ---- under each code, with the operands one level down
+-- ---- under each code, with l levels left for the operands
 
-pub level : (l : ℕ) → 0 < l → suc (l - 1) ≡ l
-level l h = omega arith
-
--- what a value or a boolean one level down promises
+-- what a value or a boolean with l levels left promises
 abbrev pub Valued : Environment → Scope → ℕ → List ℕ → Step → Tables → Tables → Step → Type 0
 Valued e sc l s from = From from (readValue l e sc s) (valueFit e sc) (λ c v. valueTables e sc (c .at) v)
 
 abbrev pub Judged : Environment → Scope → ℕ → List ℕ → Step → Tables → Tables → Step → Type 0
 Judged e sc l s from = From from (readBoolean l e sc s) noKind (λ c b. booleanTables e sc (c .at) b)
-
-module _ (e : Environment) (sc : Scope) (s : List ℕ) (l : ℕ) (deep : 0 < l) where
-  pub values-below : {from : Step} {t t′ : Tables} {r : Step} (parent : ℕ) → Descended Construct.Value e sc (l - 1) parent s from t t′ r →
-      Valued e sc l s from t t′ r
-  values-below {from} {t} {t′} {r} parent w = subst (λ z. Valued e sc z s from t t′ r) (level l deep) w
-
-  pub booleans-below : {from : Step} {t t′ : Tables} {r : Step} (parent : ℕ) → Descended Construct.Boolean e sc (l - 1) parent s from t t′ r →
-      Judged e sc l s from t t′ r
-  booleans-below {from} {t} {t′} {r} parent w = subst (λ z. Judged e sc z s from t t′ r) (level l deep) w
 
 -- the rows of a value or a boolean, and those after it
 module _ (s : List ℕ) (octets : Octets s) (e : Environment) (sc : Scope) (l : ℕ) (c : Cursor) where
@@ -365,32 +355,32 @@ module _ (part : Construct) (e : Environment) (sc : Scope) (l : ℕ) (s : List �
     pub double : n ≡ 2 → Two x y
     pub triple : n ≡ 3 → Three x y z
 
-module _ (s : List ℕ) (octets : Octets s) (e : Environment) (sc : Scope) (l p : ℕ) (c : Cursor) (here : c .at ≡ p + 1) (deep : 0 < l) where
+module _ (s : List ℕ) (octets : Octets s) (e : Environment) (sc : Scope) (l p : ℕ) (c : Cursor) (here : c .at ≡ p + 1) where
   pub boolean-kept : (k : BooleanCode) {n : ℕ} {part : Construct} (x y z : Step) {t t′ : Tables} {r : Step} → n ≡ operandCount k → part ≡ operandPart k →
-      Operated part e sc (l - 1) s c t t′ n x y z → r ≡ booleanAnswer k x y z p →
+      Operated part e sc l s c t t′ n x y z → r ≡ booleanAnswer k x y z p →
       Wrote (booleanUnder (operandsAt l e) e sc p k s c) noKind c (booleanTables e sc p) t t′ r
-  boolean-kept k {n} {part} x y z {t} {t′} {r} i j w h = go k (subst (λ m. Operated m e sc (l - 1) s c t t′ (operandCount k) x y z) j
-      (subst (λ m. Operated part e sc (l - 1) s c t t′ m x y z) i w)) h
+  boolean-kept k {n} {part} x y z {t} {t′} {r} i j w h = go k (subst (λ m. Operated m e sc l s c t t′ (operandCount k) x y z) j
+      (subst (λ m. Operated part e sc l s c t t′ m x y z) i w)) h
     where
-      go : (k : BooleanCode) → Operated (operandPart k) e sc (l - 1) s c t t′ (operandCount k) x y z → r ≡ booleanAnswer k x y z p →
+      go : (k : BooleanCode) → Operated (operandPart k) e sc l s c t t′ (operandCount k) x y z → r ≡ booleanAnswer k x y z p →
           Wrote (booleanUnder (operandsAt l e) e sc p k s c) noKind c (booleanTables e sc p) t t′ r
       go (Compare o) w h =
           let d = w .double refl in
-          compare-kept s octets e sc l p c here (values-below e sc s l deep 0 (d .one)) (values-below e sc s l deep 0 (d .two)) refl h
+          compare-kept s octets e sc l p c here (d .one) (d .two) refl h
       go (Search o) w h =
           let d = w .double refl in
-          search-kept s octets e sc l p c here (values-below e sc s l deep 0 (d .one)) (values-below e sc s l deep 0 (d .two)) refl h
+          search-kept s octets e sc l p c here (d .one) (d .two) refl h
       go Between w h =
           let d = w .triple refl in
-          between-kept s octets e sc l p c here (values-below e sc s l deep 0 (d .one)) (values-below e sc s l deep 0 (d .two)) refl
-          (values-below e sc s l deep 0 (d .three)) h
+          between-kept s octets e sc l p c here (d .one) (d .two) refl
+          (d .three) h
       go (Connect o) w h =
           let d = w .double refl in
-          rw h (connect-kept s octets e sc l p c here (booleans-below e sc s l deep 0 (d .one)) refl (booleans-below e sc s l deep 0 (d .two)))
-      go Not w h = rw h (not-kept s octets e sc l p c here (booleans-below e sc s l deep 0 (w .single refl)) refl)
-      go Missing w h = missing-kept s octets e sc l p c here (values-below e sc s l deep 0 (w .single refl)) refl h
+          rw h (connect-kept s octets e sc l p c here (d .one) refl (d .two))
+      go Not w h = rw h (not-kept s octets e sc l p c here (w .single refl) refl)
+      go Missing w h = missing-kept s octets e sc l p c here (w .single refl) refl h
 
--- ---- one level down
+-- ---- with the code
 
 pub value-is : (x : Read ValueCode) {k : ValueCode} {q : Cursor} → valueHead x ≡ ValueHead.Is k q → x ≡ read k q
 value-is (read k q) e = cc
@@ -420,50 +410,52 @@ leveled-counts class l s c {k} {q} h = undo (coded class s c) _ h (λ a q₁ e w
     })))
 
 module _ (e : Environment) (sc : Scope) (l : ℕ) (s : List ℕ) where
-  value-leveled : (c : Cursor) → readValue (suc l) e sc s c ≡
-      onRead (leveled valueClass l s c) (λ k q. valueUnder (operandsAt l e) e sc (c .at) k s q)
+  value-leveled : (c : Cursor) → readValue l e sc s c ≡
+      onRead (leveled valueClass l s c) (λ k q. valueUnder (operandsAt (l - 1) e) e sc (c .at) k s q)
   unfolding readValue leveled
-  value-leveled c = go (coded valueClass s c) (ltb 0 l) refl refl
+  value-leveled c = go l (coded valueClass s c) refl
     where
-      go : (y : Read ValueCode) (b : Bool) → coded valueClass s c ≡ y → ltb 0 l ≡ b → readValue (suc l) e sc s c ≡
-          onRead (leveled valueClass l s c) (λ k q. valueUnder (operandsAt l e) e sc (c .at) k s q)
-      go (read k q) true h i = rw (readValue, leveled, h, i)
-      go (read k q) false h i = rw (readValue, leveled, h, i)
-      go (refused n p) b h i = rw (readValue, leveled, h)
+      go : (l : ℕ) (y : Read ValueCode) → coded valueClass s c ≡ y → readValue l e sc s c ≡
+          onRead (leveled valueClass l s c) (λ k q. valueUnder (operandsAt (l - 1) e) e sc (c .at) k s q)
+      go zero (read k q) h = rw (readValue, leveled, h)
+      go zero (refused n p) h = rw (readValue, leveled, h)
+      go (suc l) (read k q) h = rw (readValue, leveled, h, one-left l, sub-one (suc l))
+      go (suc l) (refused n p) h = rw (readValue, leveled, h)
 
-  boolean-leveled : (c : Cursor) → readBoolean (suc l) e sc s c ≡
-      onRead (leveled booleanClass l s c) (λ k q. booleanUnder (operandsAt l e) e sc (c .at) k s q)
+  boolean-leveled : (c : Cursor) → readBoolean l e sc s c ≡
+      onRead (leveled booleanClass l s c) (λ k q. booleanUnder (operandsAt (l - 1) e) e sc (c .at) k s q)
   unfolding readBoolean leveled
-  boolean-leveled c = go (coded booleanClass s c) (ltb 0 l) refl refl
+  boolean-leveled c = go l (coded booleanClass s c) refl
     where
-      go : (y : Read BooleanCode) (b : Bool) → coded booleanClass s c ≡ y → ltb 0 l ≡ b → readBoolean (suc l) e sc s c ≡
-          onRead (leveled booleanClass l s c) (λ k q. booleanUnder (operandsAt l e) e sc (c .at) k s q)
-      go (read k q) true h i = rw (readBoolean, leveled, h, i)
-      go (read k q) false h i = rw (readBoolean, leveled, h, i)
-      go (refused n p) b h i = rw (readBoolean, leveled, h)
+      go : (l : ℕ) (y : Read BooleanCode) → coded booleanClass s c ≡ y → readBoolean l e sc s c ≡
+          onRead (leveled booleanClass l s c) (λ k q. booleanUnder (operandsAt (l - 1) e) e sc (c .at) k s q)
+      go zero (read k q) h = rw (readBoolean, leveled, h)
+      go zero (refused n p) h = rw (readBoolean, leveled, h)
+      go (suc l) (read k q) h = rw (readBoolean, leveled, h, one-left l, sub-one (suc l))
+      go (suc l) (refused n p) h = rw (readBoolean, leveled, h)
 
   module _ {from : Step} {f : Fit} {c : Cursor} (at : from ≡ Step.Next f c) {t t′ : Tables} where
     pub value-descended : {h : ValueHead} {k : ValueCode} {q : Cursor} {r : Step} → h ≡ valueHead (leveled valueClass l s c) → h ≡ ValueHead.Is k q →
-        Wrote (valueUnder (operandsAt l e) e sc (c .at) k s q) (valueFit e sc) q (valueTables e sc (c .at)) t t′ r →
-        Valued e sc (suc l) s from t t′ r
+        Wrote (valueUnder (operandsAt (l - 1) e) e sc (c .at) k s q) (valueFit e sc) q (valueTables e sc (c .at)) t t′ r →
+        Valued e sc l s from t t′ r
     value-descended u v w =
-        let x : readValue (suc l) e sc s c ≡ valueUnder (operandsAt l e) e sc (c .at) _ s _ =
-        value-leveled c ∙ ap (λ y. onRead y (λ k q. valueUnder (operandsAt l e) e sc (c .at) k s q)) (value-is (leveled valueClass l s c) (sym u ∙ v)) in
+        let x : readValue l e sc s c ≡ valueUnder (operandsAt (l - 1) e) e sc (c .at) _ s _ =
+        value-leveled c ∙ ap (λ y. onRead y (λ k q. valueUnder (operandsAt (l - 1) e) e sc (c .at) k s q)) (value-is (leveled valueClass l s c) (sym u ∙ v)) in
         started at (likewise x (wrote-moved (leveled-counts valueClass l s c (value-is (leveled valueClass l s c) (sym u ∙ v))) w))
 
     pub value-refused : {h : ValueHead} {n : Refusal} {p : ℕ} → h ≡ valueHead (leveled valueClass l s c) → h ≡ ValueHead.Refused n p →
-        Valued e sc (suc l) s from t t′ (Step.Refused n p)
+        Valued e sc l s from t t′ (Step.Refused n p)
     value-refused u v = started at (stop (value-leveled c ∙ rw (value-not (leveled valueClass l s c) (sym u ∙ v))))
 
     pub boolean-descended : {h : BooleanHead} {k : BooleanCode} {q : Cursor} {r : Step} → h ≡ booleanHead (leveled booleanClass l s c) →
-        h ≡ BooleanHead.Is k q → Wrote (booleanUnder (operandsAt l e) e sc (c .at) k s q) noKind q (booleanTables e sc (c .at)) t t′ r →
-        Judged e sc (suc l) s from t t′ r
+        h ≡ BooleanHead.Is k q → Wrote (booleanUnder (operandsAt (l - 1) e) e sc (c .at) k s q) noKind q (booleanTables e sc (c .at)) t t′ r →
+        Judged e sc l s from t t′ r
     boolean-descended u v w =
-        let x : readBoolean (suc l) e sc s c ≡ booleanUnder (operandsAt l e) e sc (c .at) _ s _ =
-        boolean-leveled c ∙ ap (λ y. onRead y (λ k q. booleanUnder (operandsAt l e) e sc (c .at) k s q))
+        let x : readBoolean l e sc s c ≡ booleanUnder (operandsAt (l - 1) e) e sc (c .at) _ s _ =
+        boolean-leveled c ∙ ap (λ y. onRead y (λ k q. booleanUnder (operandsAt (l - 1) e) e sc (c .at) k s q))
         (boolean-is (leveled booleanClass l s c) (sym u ∙ v)) in
         started at (likewise x (wrote-moved (leveled-counts booleanClass l s c (boolean-is (leveled booleanClass l s c) (sym u ∙ v))) w))
 
     pub boolean-refused : {h : BooleanHead} {n : Refusal} {p : ℕ} → h ≡ booleanHead (leveled booleanClass l s c) → h ≡ BooleanHead.Refused n p →
-        Judged e sc (suc l) s from t t′ (Step.Refused n p)
+        Judged e sc l s from t t′ (Step.Refused n p)
     boolean-refused u v = started at (stop (boolean-leveled c ∙ rw (boolean-not (leveled booleanClass l s c) (sym u ∙ v))))

@@ -18,7 +18,7 @@ use Rattle.grammar.specs.declared.Step.the-variants as Step
 use Rattle.grammar.specs.Tree as Tree
 use Rattle.grammar.specs.Tree.{Request, Statements}
 use Rattle.grammar.specs.Bytes.{messagesBytes, statementsBytes}
-use Rattle.grammar.specs.Environment as Names
+use Rattle.grammar.specs.Environment as Grammar
 use Rattle.grammar.specs.Environment.{Environment}
 use Rattle.grammar.specs.Sizes.{parameterCount, statementsCount, contextsCount}
 use Rattle.grammar.specs.Rows.{statementsStart, outerEnd, statementsRows, requestStatementRows, parameterRows, contextsRows, requestContextRows}
@@ -28,7 +28,7 @@ use Rattle.grammar.specs.Reader.{Read, read, refused, Reader, onRead, code, cou
 use Rattle.grammar.specs.Messages.{messages}
 use Rattle.grammar.specs.Statements.{many}
 use Rattle.grammar.specs.Reading.{outerStatements, nothingMore, request, start}
-use Rattle.grammar.specs.Steps.{stepOf, noKind}
+use Rattle.grammar.specs.Internal.Steps.{stepOf, noKind}
 use Rattle.grammar.specs.Demands.{Octets}
 use Rattle.grammar.proofs.StepLaws.{absurd-eq, step-read}
 use Rattle.grammar.proofs.Went.{Went, inside, undo, code-went, counted-went, onward}
@@ -47,7 +47,7 @@ use Rattle.reader.specs.Cycle.{Tables, tables, laid, Wrote, From, Given,
 use Rattle.reader.proofs.Laid.{row-over}
 use Rattle.reader.specs.Request.{Requested, requestTables, over, headOf, bodyOf, endOf, Beside, Begun, Outermost}
 
-pub outermost-is : (d : List ℕ) (sc : Scope) → Outermost sc → scopeOf d sc ≡ Names.outermost
+pub outermost-is : (d : List ℕ) (sc : Scope) → Outermost sc → scopeOf d sc ≡ Grammar.outermost
 unfolding scopeOf
 outermost-is d sc o = rw (o .none, o .no-update, o .no-sends, o .no-labels)
 
@@ -108,8 +108,8 @@ module _ (s d pt : List ℕ) (c : Cursor) (begun : Begun s d pt c) where
     -- the tables with the rows of the statements and of the outer begin
     rows-whole : (t : Tables) →
         tables (sets (sets (t .statements) (c₁ .statements * 4) (statementsRows ss (c₁ .at) (c₁ .statements) 1)) 0 (1 ∷ blr.begin ∷ 0 ∷ c₂ .at ∷ []))
-        (sets (t .contexts) (c₁ .contexts * 5) (contextsRows (relations d) Names.outermost ss (c₁ .at)))
-        (sets (t .conditions) (c₁ .conditions) (places (statementsConditions (relations d) Names.outermost ss (c₁ .at))))
+        (sets (t .contexts) (c₁ .contexts * 5) (contextsRows (relations d) Grammar.outermost ss (c₁ .at)))
+        (sets (t .conditions) (c₁ .conditions) (places (statementsConditions (relations d) Grammar.outermost ss (c₁ .at))))
         ≡ over t (requestTables d (record { messages = ms; statements = ss }))
     unfolding requestStatementRows requestContextRows requestConditions
     rows-whole t =
@@ -122,7 +122,7 @@ module _ (s d pt : List ℕ) (c : Cursor) (begun : Begun s d pt c) where
   -- ---- the whole
 
   module _ (x : Declaration) (pt₁ : List ℕ) (h : Declares (messages 16 [] s c) pt pt₁ x) (sc : Scope) (o : Outermost sc) (t t₁ : Tables) (r : Step)
-      (m : From (x .step) (many 512 (innerAt 32 (environmentOf d pt₁ (x .messages)) .statement (scopeOf d sc)) s) noKind
+      (m : From (x .step) (many 512 (innerAt 31 (environmentOf d pt₁ (x .messages)) .statement (scopeOf d sc)) s) noKind
       (statementsTables (environmentOf d pt₁ (x .messages)) (scopeOf d sc) 1) t t₁ r)
       (st₂ : List ℕ) (g : st₂ ≡ stepped r (λ q. sets (t₁ .statements) 0 (1 ∷ blr.begin ∷ 0 ∷ q .at ∷ [])) (t₁ .statements))
       (r₂ : Step) (k : r₂ ≡ onStep r (λ f q. stepOf noKind (endOf s q))) where
@@ -135,7 +135,7 @@ module _ (s d pt : List ℕ) (c : Cursor) (begun : Begun s d pt c) where
     -- the statements, with their messages known
     module _ (ms : List Tree.Message) (c₁ : Cursor) (e : messages 16 [] s c ≡ read ms c₁) where
       wrote : Wrote (outerStatements (relations d) ms s c₁) noKind c₁
-          (λ ss. statementsTables (record { relations = relations d; messages = ms }) Names.outermost 1 c₁ ss) t t₁ r
+          (λ ss. statementsTables (record { relations = relations d; messages = ms }) Grammar.outermost 1 c₁ ss) t t₁ r
       unfolding outerStatements
       wrote =
           rw (around ms c₁ e x pt₁ h, outermost-is d sc o) at (m .goes Fit.NoKind c₁ (rw e at (h .answer)))
@@ -162,7 +162,7 @@ module _ (s d pt : List ℕ) (c : Cursor) (begun : Begun s d pt c) where
           u : r ≡ Step.Next Fit.NoKind c₂
           u = rw f at (wrote .answer)
 
-          v : t₁ ≡ laid t c₁ (statementsTables (record { relations = relations d; messages = ms }) Names.outermost 1 c₁ ss)
+          v : t₁ ≡ laid t c₁ (statementsTables (record { relations = relations d; messages = ms }) Grammar.outermost 1 c₁ ss)
           v = rw f at (wrote .filled)
 
           w : st₂ ≡ sets (t₁ .statements) 0 (1 ∷ blr.begin ∷ 0 ∷ c₂ .at ∷ [])

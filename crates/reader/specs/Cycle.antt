@@ -7,6 +7,8 @@ use mathlib.Core.Option.{Option, none, some}
 use lib.Dec.{eqb, ltb}
 use lib.ListN.{length, getD, set}
 use lib.Seq.{sets}
+use Rattle.wire.specs.Limits.{maxRequestBytes, maxStatements, maxContexts, statementRowNumbers, contextRowNumbers}
+use Rattle.wire.specs.Internal.Columns.{contextStart, contextEnd}
 use Rattle.wire.specs.Codes as blr
 use Rattle.wire.specs.Lists.{among}
 use Rattle.wire.specs.Classes.{Class, valueClass, booleanClass, statementClass, clauseClass}
@@ -22,23 +24,23 @@ use Rattle.grammar.specs.declared.Refusal.{Refusal}
 use Rattle.grammar.specs.declared.Refusal.the-variants.{NotDue, TooGreat, BadMessage, Unfit, Misplaced}
 use Rattle.grammar.specs.declared.Step.{Step}
 use Rattle.grammar.specs.declared.Step.the-variants as Step
-use Rattle.grammar.specs.declared.ByteStep.{ByteStep}
-use Rattle.grammar.specs.declared.ByteStep.the-variants as ByteStep
+use Rattle.grammar.specs.declared.MessageStep.{MessageStep}
+use Rattle.grammar.specs.declared.MessageStep.the-variants as MessageStep
 use Rattle.grammar.specs.declared.Fit.{Fit}
 use Rattle.grammar.specs.declared.Fit.the-variants as Fit
 use Rattle.grammar.specs.Tree.{Value, Boolean, Keys, Clauses, rse, Statement, assignment, begin, erase, for, headed, leave, if, ifElse, select, Statements, Receives}
-use Rattle.grammar.specs.Environment as Names
+use Rattle.grammar.specs.Environment as Grammar
 use Rattle.grammar.specs.Environment.{Environment}
 use Rattle.grammar.specs.Kinds.{kindOf}
 use Rattle.grammar.specs.Bytes.{rseBytes, headingBytes, booleanBytes}
 use Rattle.grammar.specs.Scope.{declared, updating}
 use Rattle.grammar.specs.Sizes.{statementCount}
-use Rattle.grammar.specs.Rows.{size, statementRows, statementsRows, receivesRows, valueRows, booleanRows, keysRows, clausesRows, contextRows, contextsRows, receivesContextRows}
+use Rattle.grammar.specs.Rows.{size, rowsBelow, statementRows, statementsRows, receivesRows, valueRows, booleanRows, keysRows, clausesRows, contextRows, contextsRows, receivesContextRows}
 use Rattle.grammar.specs.Conditions.{Condition, clausesConditions, conditions, statementsConditions, receivesConditions}
 use Rattle.grammar.specs.Reader.{Read, read, refused, Reader, _>>=_, _>>_, return, need, place, on, withStatement, byte, tested, code, coded, countStatement}
 use Rattle.grammar.specs.Values.{Operands, operands, readValue, readBoolean}
 use Rattle.grammar.specs.Statements.{Inner, inner, readStatement, readReceive}
-use Rattle.grammar.specs.Steps.{fitOf, stepOf, noKind, byteStep}
+use Rattle.grammar.specs.Internal.Steps.{fitOf, stepOf, noKind, messageStep}
 use Rattle.grammar.specs.Demands.{Octets}
 use Rattle.scopes.specs.declared.scope.Scope.{Scope}
 use Rattle.reader.specs.declared.heads.ValueHead.{ValueHead}
@@ -58,7 +60,7 @@ use Rattle.reader.specs.Promises.{after, relations, Ready}
 
 -- ---- codes, and a level below them
 
--- a code of a class, with l levels left below it
+-- a code of a class, with l levels left for it and what stands in it
 unfoldable pub leveled : {A : Type 0} → (ℕ → Class A) → ℕ → Reader A
 leveled class l = do
   p ← place
@@ -89,7 +91,7 @@ statementHead (refused r p) = StatementHead.Refused r p
 -- the head of a statement whose code was read
 abbrev pub enteredHead : StatementCode → ℕ → Cursor → ℕ → StatementHead
 enteredHead k p c l =
-    cond (ltb 0 l) (cond (ltb (c .statements) 512) (StatementHead.Is k (withStatement c)) (StatementHead.Refused TooGreat p))
+    cond (ltb 0 l) (cond (ltb (c .statements) maxStatements) (StatementHead.Is k (withStatement c)) (StatementHead.Refused TooGreat p))
     (StatementHead.Refused TooGreat p)
 
 -- ---- steps one after another: a refusal passes through
@@ -137,8 +139,8 @@ abbrev pub endingOf : Read ℕ → Ending
 endingOf (read x c) = cond (eqb x blr.end) (Ending.Done (on c 1)) (Ending.Goes c)
 endingOf (refused r p) = Ending.Refused r p
 
--- a receive of a select up to its message, so many at most, with l levels left below it
-unfoldable pub receiveCoded : ℕ → ℕ → Environment → Names.Scope → List ℕ → Reader ℕ
+-- a receive of a select up to its message, so many at most, with l levels left for it and what stands in it
+unfoldable pub receiveCoded : ℕ → ℕ → Environment → Grammar.Scope → List ℕ → Reader ℕ
 receiveCoded n l e sc before = do
   p ← place
   need (ltb 0 n) TooGreat p
@@ -149,7 +151,7 @@ receiveCoded n l e sc before = do
   tested byte (λ m. declared e m && negation (among m before)) BadMessage
 
 -- after the code of the receive at p
-unfoldable pub receiveTests : ℕ → Environment → Names.Scope → List ℕ → ℕ → Reader ℕ
+unfoldable pub receiveTests : ℕ → Environment → Grammar.Scope → List ℕ → ℕ → Reader ℕ
 receiveTests l e sc before p = do
   need (ltb 0 l) TooGreat p
   countStatement p
@@ -189,7 +191,7 @@ joined x y = tables (x .statements ++ y .statements) (x .contexts ++ y .contexts
 -- the tables with rows from a cursor on
 abbrev pub laid : Tables → Cursor → Tables → Tables
 laid t c rows =
-    tables (sets (t .statements) (c .statements * 4) (rows .statements)) (sets (t .contexts) (c .contexts * 5) (rows .contexts))
+    tables (sets (t .statements) (c .statements * statementRowNumbers) (rows .statements)) (sets (t .contexts) (c .contexts * contextRowNumbers) (rows .contexts))
     (sets (t .conditions) (c .conditions) (rows .conditions))
 
 -- a reading that wrote rows
@@ -222,7 +224,7 @@ pub record Inside (s d : List ℕ) (sc : Scope) (at : ℕ) (c : Cursor) (levels 
 
 -- ---- parts
 
-abbrev pub valueFit : Environment → Names.Scope → Value → Fit
+abbrev pub valueFit : Environment → Grammar.Scope → Value → Fit
 valueFit e sc v = fitOf (kindOf e sc v)
 
 abbrev pub noRows : {A : Type 0} → Cursor → A → Tables
@@ -231,62 +233,49 @@ noRows c a = nothing
 abbrev pub places : List Condition → List ℕ
 places cs = map (λ x. x .place) cs
 
-abbrev pub statementTables : List Relation → Names.Scope → Statement → ℕ → ℕ → ℕ → Tables
+abbrev pub statementTables : List Relation → Grammar.Scope → Statement → ℕ → ℕ → ℕ → Tables
 statementTables rs sc t p n parent = tables (statementRows t p n parent) (contextRows rs sc t p) (places (conditions rs sc t p))
 
 -- the rows of a value, a boolean and sort values at p: those of the contexts declared in them
-abbrev pub valueTables : Environment → Names.Scope → ℕ → Value → Tables
+abbrev pub valueTables : Environment → Grammar.Scope → ℕ → Value → Tables
 valueTables e sc p v = tables [] (valueRows (e .relations) sc v p) []
 
-abbrev pub booleanTables : Environment → Names.Scope → ℕ → Boolean → Tables
+abbrev pub booleanTables : Environment → Grammar.Scope → ℕ → Boolean → Tables
 booleanTables e sc p b = tables [] (booleanRows (e .relations) sc b p) []
 
-abbrev pub keysTables : Environment → Names.Scope → ℕ → Keys → Tables
+abbrev pub keysTables : Environment → Grammar.Scope → ℕ → Keys → Tables
 keysTables e sc p ks = tables [] (keysRows (e .relations) sc ks p) []
 
--- one level down, with l levels below that
-abbrev pub Descended : Construct → Environment → Names.Scope → ℕ → ℕ → List ℕ → Step → Tables → Tables → Step → Type 0
-Descended Construct.Value e sc l parent s from = From from (readValue (suc l) e sc s) (valueFit e sc) (λ c v. valueTables e sc (c .at) v)
-Descended Construct.Boolean e sc l parent s from = From from (readBoolean (suc l) e sc s) noKind (λ c b. booleanTables e sc (c .at) b)
+-- a construct with l levels left for it and what stands in it
+abbrev pub Descended : Construct → Environment → Grammar.Scope → ℕ → ℕ → List ℕ → Step → Tables → Tables → Step → Type 0
+Descended Construct.Value e sc l parent s from = From from (readValue l e sc s) (valueFit e sc) (λ c v. valueTables e sc (c .at) v)
+Descended Construct.Boolean e sc l parent s from = From from (readBoolean l e sc s) noKind (λ c b. booleanTables e sc (c .at) b)
 Descended Construct.Statement e sc l parent s from =
-    From from (readStatement (suc l) e sc s) noKind (λ c t. statementTables (e .relations) sc t (c .at) (c .statements) parent)
+    From from (readStatement l e sc s) noKind (λ c t. statementTables (e .relations) sc t (c .at) (c .statements) parent)
 
--- the readers one level down
+-- the readers with l levels left
 abbrev pub operandsAt : ℕ → Environment → Operands
 operandsAt l e = operands (λ x. readBoolean l e x) (λ x. readValue l e x)
 
 abbrev pub innerAt : ℕ → Environment → Inner
 innerAt l e = inner (λ x. readStatement l e x) (λ x before. readReceive l e x before) l e
 
--- the rows below that of a statement at p; the first of them has row n
-unfoldable pub belowRows : Statement → ℕ → ℕ → List ℕ
-belowRows (assignment v t) p n = []
-belowRows (begin ss) p n = statementsRows ss (p + 1) n n
-belowRows (erase c) p n = []
-belowRows (for r s) p n = statementRows s (p + 1 + length (rseBytes r)) n n
-belowRows (headed h s) p n = statementRows s (p + length (headingBytes h)) n n
-belowRows (leave m) p n = []
-belowRows (if b s) p n = statementRows s (p + 1 + length (booleanBytes b)) n n
-belowRows (ifElse b s t) p n =
-    statementRows s (p + 1 + length (booleanBytes b)) n n ++
-    statementRows t (p + 1 + length (booleanBytes b) + size s) (n + statementCount s) n
-belowRows (select rs) p n = receivesRows rs (p + 1) n n
-
-abbrev pub belowTables : Environment → Names.Scope → ℕ → Cursor → Statement → Tables
+-- what stands inside a statement at p, whose row is written
+abbrev pub belowTables : Environment → Grammar.Scope → ℕ → Cursor → Statement → Tables
 belowTables e sc p c t =
-    tables (belowRows t p (c .statements)) (contextRows (e .relations) sc t p) (places (conditions (e .relations) sc t p))
+    tables (rowsBelow t p (c .statements)) (contextRows (e .relations) sc t p) (places (conditions (e .relations) sc t p))
 
-abbrev pub statementsTables : Environment → Names.Scope → ℕ → Cursor → Statements → Tables
+abbrev pub statementsTables : Environment → Grammar.Scope → ℕ → Cursor → Statements → Tables
 statementsTables e sc parent c ts =
     tables (statementsRows ts (c .at) (c .statements) parent) (contextsRows (e .relations) sc ts (c .at))
     (places (statementsConditions (e .relations) sc ts (c .at)))
 
-abbrev pub receivesTables : Environment → Names.Scope → ℕ → Cursor → Receives → Tables
+abbrev pub receivesTables : Environment → Grammar.Scope → ℕ → Cursor → Receives → Tables
 receivesTables e sc parent c rs =
     tables (receivesRows rs (c .at) (c .statements) parent) (receivesContextRows (e .relations) sc rs (c .at))
     (places (receivesConditions (e .relations) sc rs (c .at)))
 
-abbrev pub clausesTables : Environment → Names.Scope → Cursor → Clauses → Tables
+abbrev pub clausesTables : Environment → Grammar.Scope → Cursor → Clauses → Tables
 clausesTables e sc c cs = tables [] (clausesRows (e .relations) sc cs (c .at)) (places (clausesConditions sc cs (c .at)))
 
 -- ---- what the leaves write
@@ -299,20 +288,21 @@ stepped (Step.Refused r p) g l = l
 -- the scope of n contexts from a row on
 unfoldable pub closed : List ℕ → ℕ → ℕ → ℕ → ℕ → List ℕ
 closed ct row zero start end = ct
-closed ct row (suc n) start end = closed (set (set ct (row * 5 + 2) start) (row * 5 + 3) end) (row + 1) n start end
+closed ct row (suc n) start end =
+    closed (set (set ct (row * contextRowNumbers + contextStart) start) (row * contextRowNumbers + contextEnd) end) (row + 1) n start end
 
 -- a step whose place a table can hold
 pub record Ends (to : Step) : Type 0 where
-  pub ends : (f : Fit) (c : Cursor) → to ≡ Step.Next f c → c .at ≤ 65535
+  pub ends : (f : Fit) (c : Cursor) → to ≡ Step.Next f c → c .at ≤ maxRequestBytes
 
 -- the receives of a select, beside the messages of those before
 pub record Receiving (before : Selected) (from : Step) (reader : List ℕ → Cursor → Read Receives) (rows : Cursor → Receives → Tables)
     (t t′ : Tables) (r : Step) : Type 0 where
   pub received : (ms : List ℕ) → Holds before ms → From from (reader ms) noKind rows t t′ r
 
--- a byte after a step, beside the messages of those before
-pub record Selecting (before : Selected) (from : Step) (reader : List ℕ → Cursor → Read ℕ) (r : ByteStep) : Type 0 where
-  pub selected : (ms : List ℕ) → Holds before ms → r ≡ fromStep from (λ x p. ByteStep.Refused x p) (λ c. byteStep (reader ms c))
+-- a message after a step, beside the messages of those before
+pub record Selecting (before : Selected) (from : Step) (reader : List ℕ → Cursor → Read ℕ) (r : MessageStep) : Type 0 where
+  pub selected : (ms : List ℕ) → Holds before ms → r ≡ fromStep from (λ x p. MessageStep.Refused x p) (λ c. messageStep (reader ms c))
 
 -- the scopes of the contexts from a row on that were opened up to a step, closed at another
 abbrev pub closedAfter : List ℕ → ℕ → Step → Step → List ℕ
@@ -323,8 +313,8 @@ closedAfter ct row (Step.Refused r p) to = ct
 -- steps whose places and rows a table can hold
 pub record Closes (row : ℕ) (from to : Step) : Type 0 where
   pub closes : (f : Fit) (c : Cursor) (g : Fit) (d : Cursor) → from ≡ Step.Next f c → to ≡ Step.Next g d →
-      (row ≤ c .contexts) × ((c .contexts ≤ 32) × ((c .at ≤ 65535) × (d .at ≤ 65535)))
+      (row ≤ c .contexts) × ((c .contexts ≤ maxContexts) × ((c .at ≤ maxRequestBytes) × (d .at ≤ maxRequestBytes)))
 
--- a byte beside the messages of those before
-pub record SelectedAt (before : Selected) (reader : List ℕ → Read ℕ) (r : ByteStep) : Type 0 where
-  pub selected : (ms : List ℕ) → Holds before ms → r ≡ byteStep (reader ms)
+-- a message beside the messages of those before
+pub record SelectedAt (before : Selected) (reader : List ℕ → Read ℕ) (r : MessageStep) : Type 0 where
+  pub selected : (ms : List ℕ) → Holds before ms → r ≡ messageStep (reader ms)

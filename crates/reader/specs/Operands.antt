@@ -6,7 +6,7 @@ use Rattle.grammar.specs.declared.Step.{Step}
 use Rattle.grammar.specs.declared.Step.the-variants as Step
 use Rattle.grammar.specs.declared.Fit.the-variants as Fit
 use Rattle.grammar.specs.Kinds.{oneKind, bothText, allOneKind}
-use Rattle.grammar.specs.Steps.{kindIn}
+use Rattle.grammar.specs.Internal.Steps.{kindIn}
 use Rattle.reader.specs.declared.cycle.Construct.{Construct}
 use Rattle.reader.specs.declared.cycle.Construct.the-variants as Construct
 use Rattle.reader.specs.Cycle.{onStep, testStep}

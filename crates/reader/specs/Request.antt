@@ -13,11 +13,12 @@ use Rattle.grammar.specs.Sizes.{parameterCount}
 use Rattle.grammar.specs.Rows.{requestStatementRows, parameterRows, requestContextRows}
 use Rattle.grammar.specs.Conditions.{requestConditions}
 use Rattle.wire.specs.Codes as blr
+use Rattle.wire.specs.Limits.{maxRequestBytes, maxMessages, parameterTableNumbers}
 use Rattle.grammar.specs.declared.Refusal.the-variants.{TablesTooShort, RequestTooLong, BadDictionary, BadVersion, NotDue}
 use Rattle.grammar.specs.Reader.{Read, read, refused, Reader, _>>=_, _>>_, return, place, code, countStatement}
 use Rattle.grammar.specs.Reading.{answer, room, nothingMore, outerStatements}
 use Rattle.grammar.specs.Messages.{messages}
-use Rattle.grammar.specs.Steps.{stepOf, noKind}
+use Rattle.grammar.specs.Internal.Steps.{stepOf, noKind}
 use Rattle.grammar.specs.declared.ReadAnswer.{ReadAnswer}
 use Rattle.grammar.specs.Demands.{Octets}
 use Rattle.grammar.specs.Answered.{Answered}
@@ -71,7 +72,7 @@ endOf = do
 -- messages, statements and the end
 unfoldable pub bodyOf : List Relation → Reader Request
 bodyOf d = do
-  ms ← messages 16 []
+  ms ← messages maxMessages []
   ss ← outerStatements d ms
   endOf
   return (record { messages = ms; statements = ss })
@@ -79,10 +80,10 @@ bodyOf d = do
 -- ---- what is given
 
 pub record Beside (s d pt : List ℕ) : Type 0 where
-  pub short : length s ≤ 65535
+  pub short : length s ≤ maxRequestBytes
   pub is-proper : dictionary d ≡ proper (relations d)
   pub octets : Octets s
-  pub room : 1536 ≤ length pt
+  pub room : parameterTableNumbers ≤ length pt
 
 -- the cursor after the head
 pub record Begun (s d pt : List ℕ) (c : Cursor) : Type 0 where
@@ -97,8 +98,8 @@ pub record Begun (s d pt : List ℕ) (c : Cursor) : Type 0 where
 pub record Outermost (sc : Scope) : Type 0 where
   pub none : sc .count ≡ 0
   pub no-update : sc .updating ≡ false
-  pub no-sends : sc .sends .0 .count ≡ 0
-  pub no-labels : sc .labels .0 .count ≡ 0
+  pub no-sends : sc .sends .count ≡ 0
+  pub no-labels : sc .labels .count ≡ 0
 
 -- ---- what comes before the request's first byte
 
@@ -109,7 +110,7 @@ besideAnswer (atFault p) = Before.Stop BadDictionary p
 
 unfoldable pub beforeOf : List ℕ → List ℕ → ℕ → ℕ → ℕ → Before
 beforeOf s d n m k =
-    cond (room n m k) (cond (leb (length s) 65535) (besideAnswer (dictionary d)) (Before.Stop RequestTooLong 0))
+    cond (room n m k) (cond (leb (length s) maxRequestBytes) (besideAnswer (dictionary d)) (Before.Stop RequestTooLong 0))
     (Before.Stop TablesTooShort 0)
 
 -- what a reading after that is given: tables of zeros

@@ -6,25 +6,26 @@ use mathlib.Core.List.{List}
 use mathlib.Core.Option.{Option, none, some}
 use lib.ListN.{length}
 use lib.Seq.{sets}
+use Rattle.wire.specs.Limits.{maxRequestBytes, contextRowNumbers}
 use Rattle.wire.specs.Lists.{isSome}
 use Rattle.wire.specs.declared.codes.StreamCode.{StreamCode}
 use Rattle.dictionary.specs.Dictionary.{Relation, proper, dictionary}
 use Rattle.dictionary.specs.Naming.{Name, relationOf}
-use Rattle.dictionary.specs.Walk.{relationPlace}
+use Rattle.dictionary.specs.Internal.Walk.{relationPlace}
 use Rattle.dictionary.specs.declared.lookup.Place.{Place}
 use Rattle.dictionary.specs.declared.lookup.Place.the-variants as Place
 use Rattle.grammar.specs.declared.Cursor.{Cursor}
 use Rattle.grammar.specs.declared.Refusal.the-variants.{Unknown, BadContext}
 use Rattle.grammar.specs.declared.Step.{Step}
-use Rattle.grammar.specs.declared.ByteStep.{ByteStep}
+use Rattle.grammar.specs.declared.ContextStep.{ContextStep}
 use Rattle.grammar.specs.Tree.{Stream}
-use Rattle.grammar.specs.Environment as Names
+use Rattle.grammar.specs.Environment as Grammar
 use Rattle.grammar.specs.Environment.{underStreams}
 use Rattle.grammar.specs.Rows.{contextRow, streamRows}
 use Rattle.grammar.specs.Scope.{inScope}
 use Rattle.grammar.specs.Reader.{Read, read, refused, Reader, _>>=_, return, byte, tested, opened}
 use Rattle.grammar.specs.Statements.{naming}
-use Rattle.grammar.specs.Steps.{stepOf, noKind, byteStep}
+use Rattle.grammar.specs.Internal.Steps.{stepOf, noKind, contextStep}
 use Rattle.scopes.specs.declared.scope.Context.{Context}
 use Rattle.scopes.specs.declared.scope.Scope.{Scope}
 use Rattle.scopes.specs.Scopes.{withContext, contextOf, scopeOf}
@@ -38,7 +39,7 @@ use Rattle.reader.specs.declared.streams.StreamStep.{StreamStep}
 use Rattle.reader.specs.declared.streams.StreamStep.the-variants as StreamStep
 
 -- a context that is not in scope
-unfoldable pub freshByte : Names.Scope → Reader ℕ
+unfoldable pub freshByte : Grammar.Scope → Reader ℕ
 freshByte sc = tested byte (λ x. not (inScope sc x)) BadContext
 
 -- a dictionary that was checked
@@ -49,9 +50,9 @@ Proper d = dictionary d ≡ proper (relations d)
 abbrev pub Counted : ℕ → Cursor → Step → Type 0
 Counted at c r = (s : List ℕ) → r ≡ stepOf noKind (opened at s c)
 
--- a context byte that is not in scope, beside any dictionary
-abbrev pub Fresh : Scope → List ℕ → Cursor → ByteStep → Type 0
-Fresh sc s c r = (d : List ℕ) → r ≡ byteStep (freshByte (scopeOf d sc) s c)
+-- the number of a context that is not in scope, beside any dictionary
+abbrev pub Fresh : Scope → List ℕ → Cursor → ContextStep → Type 0
+Fresh sc s c r = (d : List ℕ) → r ≡ contextStep (freshByte (scopeOf d sc) s c)
 
 abbrev pub codeStep : Read StreamCode → CodeStep
 codeStep (read k c) = CodeStep.Is k c
@@ -81,16 +82,16 @@ relationNamed rs names = tested names (λ n. isSome (relationOf rs n)) Unknown
 
 -- ---- streams
 
--- the context of a stream, as the code has it
-abbrev pub contextIn : List ℕ → Bool → Stream → Context
-contextIn d f st = record { relation = entryOf d (st .relation); number = record { 0 = st .context }; «from_for» = f }
+-- the context of a stream, as the code has it, which the statement of a code opens
+abbrev pub contextIn : List ℕ → ℕ → Stream → Context
+contextIn d opener st = record { relation = entryOf d (st .relation); number = record { 0 = st .context }; opener = opener }
 
-abbrev pub streamStep : List ℕ → Bool → Read Stream → StreamStep
-streamStep d f (read st c) = StreamStep.Is (contextIn d f st) c
-streamStep d f (refused r p) = StreamStep.Refused r p
+abbrev pub streamStep : List ℕ → ℕ → Read Stream → StreamStep
+streamStep d opener (read st c) = StreamStep.Is (contextIn d opener st) c
+streamStep d opener (refused r p) = StreamStep.Refused r p
 
 -- a stream after its code
-unfoldable pub streamUnder : List Relation → Names.Scope → StreamCode → Reader Stream
+unfoldable pub streamUnder : List Relation → Grammar.Scope → StreamCode → Reader Stream
 streamUnder rs sc k = do
   n ← relationNamed rs (naming k)
   x ← freshByte sc
@@ -101,11 +102,11 @@ streamUnder rs sc k = do
 -- a context's row, and the scope with it
 pub record Added (d : List ℕ) (sc : Scope) (x : Context) (row place : ℕ) (ct ct′ : List ℕ) (r : Scope) : Type 0 where
   pub scope-is : r ≡ withContext sc x
-  pub filled : ct′ ≡ sets ct (row * 5) (contextRow (contextOf d x) place 0 0)
+  pub filled : ct′ ≡ sets ct (row * contextRowNumbers) (contextRow (contextOf d x) place 0 0)
 
 -- what the reader of streams is given
 pub record ReadyStreams (s d : List ℕ) (sc : Scope) (c : Cursor) : Type 0 where
-  pub short : length s ≤ 65535
+  pub short : length s ≤ maxRequestBytes
   pub is-proper : Proper d
   pub inside : c .at ≤ length s
   pub scope-fits : sc .count ≤ c .contexts
@@ -113,7 +114,7 @@ pub record ReadyStreams (s d : List ℕ) (sc : Scope) (c : Cursor) : Type 0 wher
 -- streams that were read: their rows, and the scope with their contexts
 pub record OpensStreams (x : Read (List Stream)) (d : List ℕ) (sc : Scope) (c : Cursor) (ct ct′ : List ℕ) (r : Opened) : Type 0 where
   pub answer : r .step ≡ stepOf noKind x
-  pub contexts-filled : ct′ ≡ after (λ ss. sets ct (c .contexts * 5) (streamRows (relations d) ss (c .at) 0 0)) ct′ x
+  pub contexts-filled : ct′ ≡ after (λ ss. sets ct (c .contexts * contextRowNumbers) (streamRows (relations d) ss (c .at) 0 0)) ct′ x
   pub scope-below : scopeOf d (r .scope) ≡ after (λ ss. underStreams (relations d) (scopeOf d sc) ss) (scopeOf d (r .scope)) x
   pub count-below : r .scope .count ≡ after (λ ss. sc .count + length ss) (r .scope .count) x
   pub sends-same : r .scope .sends ≡ sc .sends

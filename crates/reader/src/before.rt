@@ -4,15 +4,19 @@ ghost use Rattle.reader.specs.Request.{beforeOf};
 use dictionary::check::DictionaryCheck;
 use dictionary::check::check;
 use grammar::Refusal;
+use wire::limits::CONTEXT_TABLE;
+use wire::limits::MAX_REQUEST_BYTES;
+use wire::limits::PARAMETER_TABLE;
+use wire::limits::STATEMENT_TABLE;
 
 // Reading goes on, or stops with a refusal at a place.
-pub enum Before {
+pub(crate) enum Before {
     Go,
     Stop(Refusal, usize),
 }
 
 // Of three tables that hold so many numbers.
-pub fn judge(
+pub(crate) fn judge(
     request: &[u8],
     dictionary: &[u8],
     statements: usize,
@@ -21,16 +25,16 @@ pub fn judge(
 ) -> Before
     ensures { λ r. ⌜ r ≡ beforeOf (now (request .entry)) (now (dictionary .entry)) statements parameters contexts ⌝ }
 {
-    if statements < 2048 {
+    if statements < STATEMENT_TABLE {
         return Before::Stop(Refusal::TablesTooShort, 0);
     }
-    if parameters < 1536 {
+    if parameters < PARAMETER_TABLE {
         return Before::Stop(Refusal::TablesTooShort, 0);
     }
-    if contexts < 160 {
+    if contexts < CONTEXT_TABLE {
         return Before::Stop(Refusal::TablesTooShort, 0);
     }
-    if 65535 < request.len() {
+    if MAX_REQUEST_BYTES < request.len() {
         return Before::Stop(Refusal::RequestTooLong, 0);
     }
     match check(dictionary) {

@@ -3,7 +3,7 @@ ghost use mathlib.Core.Path.{_≡_};
 ghost use Rattle.grammar.specs.declared.Fit.the-variants.{NoKind};
 ghost use Rattle.grammar.specs.declared.Step.the-variants.{Next};
 ghost use Rattle.grammar.specs.Kinds.{arithmeticKind, negatedKind, oneKind, bothText, allOneKind};
-ghost use Rattle.grammar.specs.Steps.{kindIn};
+ghost use Rattle.grammar.specs.Internal.Steps.{kindIn};
 ghost use Rattle.reader.specs.Cycle.{onStep, kindStep, testStep};
 use grammar::Cursor;
 use grammar::Fit;
@@ -40,7 +40,7 @@ fn tested(holds: bool, at: usize, c: Cursor) -> Step
 }
 
 // What was read, without its kind.
-pub fn plain(a: Step) -> Step
+pub(crate) fn plain(a: Step) -> Step
     ensures { λ r. ⌜ r ≡ onStep a (λ x c. Next NoKind c) ⌝ }
 {
     match a {
@@ -49,7 +49,7 @@ pub fn plain(a: Step) -> Step
     }
 }
 
-pub fn arithmetic(o: Operator, a: Step, b: Step, at: usize) -> Step
+pub(crate) fn arithmetic(o: Operator, a: Step, b: Step, at: usize) -> Step
     ensures { λ r. ⌜ r ≡ onStep a (λ x d. onStep b (λ y c. kindStep (arithmeticKind o (kindIn x) (kindIn y)) at c)) ⌝ }
 {
     match a {
@@ -61,7 +61,7 @@ pub fn arithmetic(o: Operator, a: Step, b: Step, at: usize) -> Step
     }
 }
 
-pub fn negation(a: Step, at: usize) -> Step
+pub(crate) fn negation(a: Step, at: usize) -> Step
     ensures { λ r. ⌜ r ≡ onStep a (λ x c. kindStep (negatedKind (kindIn x)) at c) ⌝ }
 {
     match a {
@@ -71,7 +71,7 @@ pub fn negation(a: Step, at: usize) -> Step
 }
 
 // Two of one kind: a comparison, or an assignment.
-pub fn alike(a: Step, b: Step, at: usize) -> Step
+pub(crate) fn alike(a: Step, b: Step, at: usize) -> Step
     ensures { λ r. ⌜ r ≡ onStep a (λ x d. onStep b (λ y c. testStep (oneKind (kindIn x) (kindIn y)) at c)) ⌝ }
 {
     match a {
@@ -83,7 +83,7 @@ pub fn alike(a: Step, b: Step, at: usize) -> Step
     }
 }
 
-pub fn texts(a: Step, b: Step, at: usize) -> Step
+pub(crate) fn texts(a: Step, b: Step, at: usize) -> Step
     ensures { λ r. ⌜ r ≡ onStep a (λ x d. onStep b (λ y c. testStep (bothText (kindIn x) (kindIn y)) at c)) ⌝ }
 {
     match a {
@@ -95,7 +95,7 @@ pub fn texts(a: Step, b: Step, at: usize) -> Step
     }
 }
 
-pub fn all_alike(a: Step, b: Step, d: Step, at: usize) -> Step
+pub(crate) fn all_alike(a: Step, b: Step, d: Step, at: usize) -> Step
     ensures { λ r. ⌜ r ≡ onStep a (λ x p. onStep b (λ y q. onStep d (λ z c. testStep (allOneKind (kindIn x) (kindIn y) (kindIn z)) at c))) ⌝ }
 {
     match a {

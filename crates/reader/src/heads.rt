@@ -2,7 +2,7 @@
 ghost use mathlib.Core.Path.{_≡_};
 ghost use Rattle.wire.specs.Classes.{valueClass, booleanClass, directionClass};
 ghost use Rattle.grammar.specs.Reader.{coded, peek};
-ghost use Rattle.grammar.specs.Steps.{stepOf, noKind};
+ghost use Rattle.grammar.specs.Internal.Steps.{stepOf, noKind};
 ghost use Rattle.reader.specs.declared.heads.ClauseHead.the-variants as ClauseHeads;
 ghost use Rattle.reader.specs.declared.heads.Ending.the-variants as Endings;
 ghost use Rattle.reader.specs.Cycle.{leveled, statementCoded, valueHead, booleanHead, statementHead, onStep, fromStep, clauseHead, clauseCoded, clauseDue, endingOf, enteredHead};
@@ -22,41 +22,43 @@ use grammar::Fit;
 use grammar::Refusal;
 use grammar::Step;
 use steps::next_byte;
+use wire::blr::END;
 use wire::codes::BooleanCode;
 use wire::codes::ClauseCode;
 use wire::codes::StatementCode;
 use wire::codes::ValueCode;
+use wire::limits::MAX_STATEMENTS;
 
 // The code of a value, and the cursor after it.
-pub enum ValueHead {
+pub(crate) enum ValueHead {
     Is(ValueCode, Cursor),
     Refused(Refusal, usize),
 }
 
-pub enum BooleanHead {
+pub(crate) enum BooleanHead {
     Is(BooleanCode, Cursor),
     Refused(Refusal, usize),
 }
 
-pub enum StatementHead {
+pub(crate) enum StatementHead {
     Is(StatementCode, Cursor),
     Refused(Refusal, usize),
 }
 
-pub enum ClauseHead {
+pub(crate) enum ClauseHead {
     Is(ClauseCode, Cursor),
     Refused(Refusal, usize),
 }
 
 // An end, with the cursor after it, or another code, which stays.
-pub enum Ending {
+pub(crate) enum Ending {
     Done(Cursor),
     Goes(Cursor),
     Refused(Refusal, usize),
 }
 
-// The code of a value that is due, with so many levels left below it.
-pub fn value_at(request: &[u8], c: Cursor, levels: usize) -> ValueHead
+// The code of a value that is due, with so many levels left for the value.
+pub(crate) fn value_at(request: &[u8], c: Cursor, levels: usize) -> ValueHead
     ensures { λ r. ⌜ r ≡ valueHead (leveled valueClass levels (now (request .entry)) c) ⌝ }
 {
     match next_byte(request, c) {
@@ -73,7 +75,7 @@ pub fn value_at(request: &[u8], c: Cursor, levels: usize) -> ValueHead
     }
 }
 
-pub fn boolean_at(request: &[u8], c: Cursor, levels: usize) -> BooleanHead
+pub(crate) fn boolean_at(request: &[u8], c: Cursor, levels: usize) -> BooleanHead
     ensures { λ r. ⌜ r ≡ booleanHead (leveled booleanClass levels (now (request .entry)) c) ⌝ }
 {
     match next_byte(request, c) {
@@ -91,7 +93,7 @@ pub fn boolean_at(request: &[u8], c: Cursor, levels: usize) -> BooleanHead
 }
 
 // The code of a statement, which is counted.
-pub fn statement_at(request: &[u8], c: Cursor, levels: usize) -> StatementHead
+pub(crate) fn statement_at(request: &[u8], c: Cursor, levels: usize) -> StatementHead
     ensures { λ r. ⌜ r ≡ statementHead (statementCoded levels (now (request .entry)) c) ⌝ }
 {
     match next_byte(request, c) {
@@ -111,7 +113,7 @@ fn entered(k: StatementCode, at: usize, c: Cursor, levels: usize) -> StatementHe
     if levels == 0 {
         return StatementHead::Refused(Refusal::TooGreat, at);
     }
-    if 512 <= c.statements {
+    if MAX_STATEMENTS <= c.statements {
         return StatementHead::Refused(Refusal::TooGreat, at);
     }
     let mut first = c;
@@ -120,7 +122,7 @@ fn entered(k: StatementCode, at: usize, c: Cursor, levels: usize) -> StatementHe
 }
 
 // The direction of a sort's value.
-pub fn direction_after(request: &[u8], from: Step) -> Step
+pub(crate) fn direction_after(request: &[u8], from: Step) -> Step
     ensures { λ r. ⌜ r ≡ onStep from (λ f c. stepOf noKind (coded directionClass (now (request .entry)) c)) ⌝ }
 {
     match from {
@@ -167,7 +169,13 @@ fn clause_at(request: &[u8], c: Cursor, most: usize, such: bool, sorted: bool) -
 }
 
 // The code of a clause, so many at most.
-pub fn clause_after(request: &[u8], from: Step, most: usize, such: bool, sorted: bool) -> ClauseHead
+pub(crate) fn clause_after(
+    request: &[u8],
+    from: Step,
+    most: usize,
+    such: bool,
+    sorted: bool,
+) -> ClauseHead
     ensures { λ r. ⌜ r ≡ fromStep from (λ x p. ClauseHeads.Refused x p) (λ c. clauseHead (clauseCoded most such sorted (now (request .entry)) c)) ⌝ }
 {
     match from {
@@ -177,12 +185,12 @@ pub fn clause_after(request: &[u8], from: Step, most: usize, such: bool, sorted:
 }
 
 // An end, or more.
-pub fn ending_after(request: &[u8], from: Step) -> Ending
+pub(crate) fn ending_after(request: &[u8], from: Step) -> Ending
     ensures { λ r. ⌜ r ≡ fromStep from (λ x p. Endings.Refused x p) (λ c. endingOf (peek (now (request .entry)) c)) ⌝ }
 {
     match from {
         Step::Next(_, c) => match next_byte(request, c) {
-            ByteStep::Is(x, first) => if x == 255 {
+            ByteStep::Is(x, first) => if x == END {
                 Ending::Done(first)
             } else {
                 Ending::Goes(c)

@@ -19,7 +19,8 @@ use before::judge;
 use grammar::ReadAnswer;
 use grammar::Step;
 use request::read_whole;
-use tables::clear;
+use wire::limits::MAX_STATEMENTS;
+use wire::table::clear;
 
 // A request that nothing before its first byte refuses; the tables hold zeros.
 fn read_beside(
@@ -31,7 +32,9 @@ fn read_beside(
     conditions: &mut [u32],
 ) -> ReadAnswer
     requires { ⌜ Cleared (now request) (now dictionary) (now statements) (now parameters) (now contexts) (now conditions) ⌝ }
-    ensures { λ r. ⌜ AnsweredNoting (now (request .entry)) (now (dictionary .entry)) (now (statements .entry)) (now (parameters .entry)) (now (contexts .entry)) (now (conditions .entry)) (now (statements .exit)) (now (parameters .exit)) (now (contexts .exit)) (now (conditions .exit)) r ⌝ }
+    ensures { λ r. ⌜ AnsweredNoting (now (request .entry)) (now (dictionary .entry)) (now (statements .entry)) (now (parameters .entry))
+        (now (contexts .entry)) (now (conditions .entry)) (now (statements .exit)) (now (parameters .exit)) (now (contexts .exit))
+        (now (conditions .exit)) r ⌝ }
 {
     let whole = read_whole(
         request,
@@ -63,7 +66,9 @@ pub fn read_noting(
     contexts: &mut [u32],
     conditions: &mut [u32],
 ) -> ReadAnswer
-    ensures { λ r. ⌜ AnsweredNoting (now (request .entry)) (now (dictionary .entry)) (now (statements .entry)) (now (parameters .entry)) (now (contexts .entry)) (now (conditions .entry)) (now (statements .exit)) (now (parameters .exit)) (now (contexts .exit)) (now (conditions .exit)) r ⌝ }
+    ensures { λ r. ⌜ AnsweredNoting (now (request .entry)) (now (dictionary .entry)) (now (statements .entry)) (now (parameters .entry))
+        (now (contexts .entry)) (now (conditions .entry)) (now (statements .exit)) (now (parameters .exit)) (now (contexts .exit))
+        (now (conditions .exit)) r ⌝ }
 {
     clear(statements);
     clear(parameters);
@@ -96,9 +101,10 @@ pub fn read(
     parameters: &mut [u32],
     contexts: &mut [u32],
 ) -> ReadAnswer
-    ensures { λ r. ⌜ Answered (now (request .entry)) (now (dictionary .entry)) (now (statements .entry)) (now (parameters .entry)) (now (contexts .entry)) (now (statements .exit)) (now (parameters .exit)) (now (contexts .exit)) r ⌝ }
+    ensures { λ r. ⌜ Answered (now (request .entry)) (now (dictionary .entry)) (now (statements .entry)) (now (parameters .entry))
+        (now (contexts .entry)) (now (statements .exit)) (now (parameters .exit)) (now (contexts .exit)) r ⌝ }
 {
-    let mut places = [0u32; 512];
+    let mut places = [0u32; MAX_STATEMENTS];
     read_noting(
         request,
         dictionary,

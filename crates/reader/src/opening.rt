@@ -1,8 +1,8 @@
 // What opens contexts: streams, the head of an rse, and headings. Each context's row is written at once; its scope follows at its end.
 ghost use mathlib.Core.Path.{_≡_};
-ghost use Prim.Native.Nat.{_*_, _≤_};
-ghost use lib.ListN.{length};
-ghost use Rattle.dictionary.specs.Walk.{relationAt};
+ghost use Prim.Native.Nat.{_<_, _≤_};
+ghost use Rattle.wire.specs.Limits.{maxRequestBytes, maxDepth, maxContexts};
+ghost use Rattle.dictionary.specs.Internal.Walk.{relationAt};
 ghost use Rattle.grammar.specs.Statements.{streams, rseHead, modifyHeading, storeHeading};
 ghost use Rattle.references.specs.Promises.{environmentOf};
 ghost use Rattle.scopes.specs.Scopes.{scopeOf};
@@ -15,8 +15,11 @@ use crate::streams::open_context;
 use crate::streams::read_stream;
 use crate::tables::put_context;
 use grammar::ByteStep;
+use grammar::ContextStep;
 use grammar::Cursor;
 use grammar::Fit;
+use grammar::LabelStep;
+use grammar::MessageStep;
 use grammar::Refusal;
 use grammar::Step;
 use messages::declared::FoundMessage;
@@ -26,7 +29,13 @@ use scopes::scope::Found;
 use scopes::scope::Scope;
 use steps::count_byte;
 use steps::due_code;
-use steps::next_byte;
+use steps::next_context;
+use steps::next_label;
+use steps::next_message;
+use wire::blr::FOR;
+use wire::blr::MODIFY;
+use wire::blr::RSE;
+use wire::blr::STORE;
 use wire::bytes::word_at;
 use wire::codes::StatementCode;
 use wire::numbers::ContextNumber;
@@ -34,7 +43,7 @@ use wire::numbers::LabelNumber;
 use wire::numbers::MessageNumber;
 
 // How reading went, and the scope below what was read.
-pub struct Opened {
+pub(crate) struct Opened {
     pub step: Step,
     pub scope: Scope,
 }
@@ -59,14 +68,14 @@ fn add_context(
     row: usize,
     place: usize,
 ) -> Scope
-    requires { ⌜ (row ≤ 32) × (place ≤ 65535) ⌝ }
+    requires { ⌜ (row ≤ maxContexts) × (place ≤ maxRequestBytes) ⌝ }
     ensures { λ r. ⌜ Added (now (dictionary .entry)) scope x row place (now (contexts .entry)) (now (contexts .exit)) r ⌝ }
 {
     let relation = x.relation as usize;
     put_context(
         contexts,
         row,
-        x.number.0,
+        x.number,
         place,
         relation_id(dictionary, relation),
     );
@@ -93,7 +102,7 @@ fn read_streams(
             scope: scope,
         };
     }
-    match read_stream(request, dictionary, scope, true, c) {
+    match read_stream(request, dictionary, scope, FOR, c) {
         StreamStep::Is(x, next) => {
             let below = add_context(dictionary, contexts, scope, x, c.contexts, c.at);
             read_streams(request, dictionary, contexts, below, n - 1, next)
@@ -106,7 +115,7 @@ fn read_streams(
 }
 
 // The head of an rse: its code, the count and the streams.
-pub fn read_head(
+pub(crate) fn read_head(
     request: &[u8],
     dictionary: &[u8],
     contexts: &mut [u32],
@@ -118,7 +127,7 @@ pub fn read_head(
     ensures { λ r. ⌜ OpensHead (rseHead (relations (now (dictionary .entry))) (scopeOf (now (dictionary .entry)) scope)
         (now (request .entry)) c) (now (dictionary .entry)) scope c (now (contexts .entry)) (now (contexts .exit)) r ⌝ }
 {
-    match due_code(request, c, 67, Refusal::NotDue) {
+    match due_code(request, c, RSE, Refusal::NotDue) {
         Step::Next(_, first) => match count_byte(request, first) {
             ByteStep::Is(n, next) => read_streams(
                 request,
@@ -140,14 +149,14 @@ pub fn read_head(
     }
 }
 
-// A context byte that names a context from a for, for the statement whose code stands at a place.
+// A context from a for, by its number, for the statement whose code stands at a place.
 fn for_context(request: &[u8], scope: Scope, at: usize, c: Cursor) -> StreamStep
     ensures { λ r. ⌜ FromFor scope at (now (request .entry)) c r ⌝ }
 {
-    match next_byte(request, c) {
-        ByteStep::Is(n, next) => match scope.find(ContextNumber(n)) {
+    match next_context(request, c) {
+        ContextStep::Is(n, next) => match scope.find(n) {
             Found::Is(x) => {
-                if x.from_for {
+                if x.opener == FOR {
                     StreamStep::Is(x, next)
                 } else {
                     StreamStep::Refused(Refusal::Misplaced, at)
@@ -155,7 +164,7 @@ fn for_context(request: &[u8], scope: Scope, at: usize, c: Cursor) -> StreamStep
             }
             Found::Nothing => StreamStep::Refused(Refusal::BadContext, c.at),
         },
-        ByteStep::Refused(r, p) => StreamStep::Refused(r, p),
+        ContextStep::Refused(r, p) => StreamStep::Refused(r, p),
     }
 }
 
@@ -166,15 +175,15 @@ fn modify_context(request: &[u8], scope: Scope, at: usize, c: Cursor) -> StreamS
     match open_context(c, at) {
         Step::Next(_, first) => match for_context(request, scope, at, first) {
             StreamStep::Is(x, second) => match fresh_context(request, scope, second) {
-                ByteStep::Is(n, last) => StreamStep::Is(
+                ContextStep::Is(n, last) => StreamStep::Is(
                     Context {
                         relation: x.relation,
-                        number: ContextNumber(n),
-                        from_for: false,
+                        number: n,
+                        opener: MODIFY,
                     },
                     last,
                 ),
-                ByteStep::Refused(r, p) => StreamStep::Refused(r, p),
+                ContextStep::Refused(r, p) => StreamStep::Refused(r, p),
             },
             StreamStep::Refused(r, p) => StreamStep::Refused(r, p),
         },
@@ -231,7 +240,7 @@ fn read_store(
     ensures { λ r. ⌜ OpensHeading (storeHeading (relations (now (dictionary .entry))) (scopeOf (now (dictionary .entry)) scope)
         (now (request .entry)) c) (now (dictionary .entry)) at scope c (now (contexts .entry)) (now (contexts .exit)) r ⌝ }
 {
-    match read_stream(request, dictionary, scope, false, c) {
+    match read_stream(request, dictionary, scope, STORE, c) {
         StreamStep::Is(x, next) => {
             let below = add_context(dictionary, contexts, scope, x, c.contexts, at + 1);
             Opened {
@@ -253,18 +262,18 @@ fn exchanged_message(
     scope: Scope,
     at: usize,
     c: Cursor,
-) -> ByteStep
+) -> MessageStep
     ensures { λ r. ⌜ Exchanges messages scope at (now (request .entry)) c r ⌝ }
 {
     if scope.updating {
-        return ByteStep::Refused(Refusal::Misplaced, at);
+        return MessageStep::Refused(Refusal::Misplaced, at);
     }
-    match next_byte(request, c) {
-        ByteStep::Is(m, next) => match messages.find(MessageNumber(m)) {
-            FoundMessage::Is(_) => ByteStep::Is(m, next),
-            FoundMessage::Nothing => ByteStep::Refused(Refusal::BadMessage, c.at),
+    match next_message(request, c) {
+        MessageStep::Is(m, next) => match messages.find(m) {
+            FoundMessage::Is(_) => MessageStep::Is(m, next),
+            FoundMessage::Nothing => MessageStep::Refused(Refusal::BadMessage, c.at),
         },
-        ByteStep::Refused(r, p) => ByteStep::Refused(r, p),
+        MessageStep::Refused(r, p) => MessageStep::Refused(r, p),
     }
 }
 
@@ -272,11 +281,11 @@ fn read_receive(request: &[u8], messages: Messages, scope: Scope, at: usize, c: 
     ensures { λ r. ⌜ Receives messages scope at (now (request .entry)) c r ⌝ }
 {
     match exchanged_message(request, messages, scope, at, c) {
-        ByteStep::Is(_, next) => Opened {
+        MessageStep::Is(_, next) => Opened {
             step: Step::Next(Fit::NoKind, next),
             scope: scope,
         },
-        ByteStep::Refused(r, p) => Opened {
+        MessageStep::Refused(r, p) => Opened {
             step: Step::Refused(r, p),
             scope: scope,
         },
@@ -285,7 +294,7 @@ fn read_receive(request: &[u8], messages: Messages, scope: Scope, at: usize, c: 
 
 // The scope of the substatement of a send.
 fn sending(scope: Scope, m: MessageNumber) -> Scope
-    ensures { λ r. ⌜ r ≡ withSend scope (m .0) ⌝ }
+    ensures { λ r. ⌜ r ≡ withSend scope m ⌝ }
 {
     let mut next = scope;
     next.sends = scope.sends.with(m);
@@ -293,15 +302,15 @@ fn sending(scope: Scope, m: MessageNumber) -> Scope
 }
 
 fn read_send(request: &[u8], messages: Messages, scope: Scope, at: usize, c: Cursor) -> Opened
-    requires { ⌜ scope .sends .0 .count ≤ 31 ⌝ }
+    requires { ⌜ scope .sends .count < maxDepth ⌝ }
     ensures { λ r. ⌜ Sends messages scope at (now (request .entry)) c r ⌝ }
 {
     match exchanged_message(request, messages, scope, at, c) {
-        ByteStep::Is(m, next) => Opened {
+        MessageStep::Is(m, next) => Opened {
             step: Step::Next(Fit::NoKind, next),
-            scope: sending(scope, MessageNumber(m)),
+            scope: sending(scope, m),
         },
-        ByteStep::Refused(r, p) => Opened {
+        MessageStep::Refused(r, p) => Opened {
             step: Step::Refused(r, p),
             scope: scope,
         },
@@ -310,7 +319,7 @@ fn read_send(request: &[u8], messages: Messages, scope: Scope, at: usize, c: Cur
 
 // The scope of the substatement of a label.
 fn labelled(scope: Scope, n: LabelNumber) -> Scope
-    ensures { λ r. ⌜ r ≡ withLabel scope (n .0) ⌝ }
+    ensures { λ r. ⌜ r ≡ withLabel scope n ⌝ }
 {
     let mut next = scope;
     next.labels = scope.labels.with(n);
@@ -318,15 +327,15 @@ fn labelled(scope: Scope, n: LabelNumber) -> Scope
 }
 
 fn read_label(request: &[u8], scope: Scope, at: usize, c: Cursor) -> Opened
-    requires { ⌜ scope .labels .0 .count ≤ 31 ⌝ }
+    requires { ⌜ scope .labels .count < maxDepth ⌝ }
     ensures { λ r. ⌜ Labels scope at (now (request .entry)) c r ⌝ }
 {
-    match next_byte(request, c) {
-        ByteStep::Is(n, next) => Opened {
+    match next_label(request, c) {
+        LabelStep::Is(n, next) => Opened {
             step: Step::Next(Fit::NoKind, next),
-            scope: labelled(scope, LabelNumber(n)),
+            scope: labelled(scope, n),
         },
-        ByteStep::Refused(r, p) => Opened {
+        LabelStep::Refused(r, p) => Opened {
             step: Step::Refused(r, p),
             scope: scope,
         },
@@ -334,7 +343,7 @@ fn read_label(request: &[u8], scope: Scope, at: usize, c: Cursor) -> Opened
 }
 
 // The heading of a statement, whose code stands at a place.
-pub fn read_heading(
+pub(crate) fn read_heading(
     request: &[u8],
     dictionary: &[u8],
     parameters: &[u32],

@@ -9,7 +9,7 @@ use crate::fits::texts;
 use grammar::Step;
 use wire::codes::BooleanCode;
 
-pub fn operand_part(k: BooleanCode) -> Construct
+pub(crate) fn operand_part(k: BooleanCode) -> Construct
     ensures { λ r. ⌜ r ≡ operandPart k ⌝ }
 {
     match k {
@@ -22,7 +22,7 @@ pub fn operand_part(k: BooleanCode) -> Construct
     }
 }
 
-pub fn operand_count(k: BooleanCode) -> usize
+pub(crate) fn operand_count(k: BooleanCode) -> usize
     ensures { λ r. ⌜ r ≡ operandCount k ⌝ }
 {
     match k {
@@ -37,7 +37,13 @@ pub fn operand_count(k: BooleanCode) -> usize
 
 // The answer of a boolean at a place from those of its operands; past the last of them the last stands again. Of two booleans it is that of the
 // second, which a refusal of the first passes through.
-pub fn boolean_answer(k: BooleanCode, first: Step, second: Step, third: Step, at: usize) -> Step
+pub(crate) fn boolean_answer(
+    k: BooleanCode,
+    first: Step,
+    second: Step,
+    third: Step,
+    at: usize,
+) -> Step
     ensures { λ r. ⌜ r ≡ booleanAnswer k first second third at ⌝ }
 {
     match k {

@@ -2,9 +2,10 @@
 ghost use mathlib.Core.Path.{_≡_};
 ghost use mathlib.Core.List.{List, [], _∷_};
 ghost use lib.Seq.{sets};
+ghost use Rattle.wire.specs.Codes as blr;
 ghost use Rattle.grammar.specs.Reader.{countStatement as countStatementAt};
 ghost use Rattle.grammar.specs.Reading.{request as requestOf, start};
-ghost use Rattle.grammar.specs.Steps.{stepOf, noKind};
+ghost use Rattle.grammar.specs.Internal.Steps.{stepOf, noKind};
 ghost use Rattle.reader.specs.Promises.{relations};
 ghost use Rattle.reader.specs.Cycle.{tables, onStep, stepped, Ends};
 ghost use Rattle.reader.specs.Request.{Requested, Begun, Beside, Outermost, headOf, bodyOf, endOf};
@@ -17,14 +18,21 @@ use grammar::Step;
 use messages::reading::read_messages;
 use scopes::scope::Context;
 use scopes::scope::Labels;
-use scopes::scope::Numbers;
 use scopes::scope::Scope;
 use scopes::scope::Sends;
 use steps::due_code;
+use wire::blr::BEGIN;
+use wire::blr::EOC;
+use wire::blr::VERSION4;
+use wire::limits::MAX_CONTEXTS;
+use wire::limits::MAX_DEPTH;
+use wire::limits::MAX_STATEMENTS;
 use wire::numbers::ContextNumber;
+use wire::numbers::LabelNumber;
+use wire::numbers::MessageNumber;
 
 // How reading went, and the rows of parameters.
-pub struct Whole {
+pub(crate) struct Whole {
     pub step: Step,
     pub parameters: usize,
 }
@@ -36,19 +44,21 @@ fn outermost() -> Scope
     let none = Context {
         relation: 0,
         number: ContextNumber(0),
-        from_for: false,
-    };
-    let no_numbers = Numbers {
-        bytes: [0; 32],
-        count: 0,
+        opener: 0,
     };
     Scope {
-        contexts: [none; 32],
+        contexts: [none; MAX_CONTEXTS],
         count: 0,
         updating: false,
         target: ContextNumber(0),
-        sends: Sends(no_numbers),
-        labels: Labels(no_numbers),
+        sends: Sends {
+            messages: [MessageNumber(0); MAX_DEPTH],
+            count: 0,
+        },
+        labels: Labels {
+            labels: [LabelNumber(0); MAX_DEPTH],
+            count: 0,
+        },
     }
 }
 
@@ -56,7 +66,7 @@ fn outermost() -> Scope
 fn count_statement(at: usize, c: Cursor) -> Step
     ensures { λ r. ⌜ r ≡ stepOf noKind (countStatementAt at [] c) ⌝ }
 {
-    if c.statements < 512 {
+    if c.statements < MAX_STATEMENTS {
         let mut next = c;
         next.statements = c.statements + 1;
         return Step::Next(Fit::NoKind, next);
@@ -74,8 +84,8 @@ fn head(request: &[u8]) -> Step
         contexts: 0,
         conditions: 0,
     };
-    match due_code(request, first, 4, Refusal::BadVersion) {
-        Step::Next(_, c) => match due_code(request, c, 2, Refusal::NotDue) {
+    match due_code(request, first, VERSION4, Refusal::BadVersion) {
+        Step::Next(_, c) => match due_code(request, c, BEGIN, Refusal::NotDue) {
             Step::Next(_, d) => count_statement(c.at, d),
             Step::Refused(r, p) => Step::Refused(r, p),
         },
@@ -88,7 +98,7 @@ fn end(request: &[u8], from: Step) -> Step
     ensures { λ r. ⌜ r ≡ onStep from (λ f c. stepOf noKind (endOf (now (request .entry)) c)) ⌝ }
 {
     match from {
-        Step::Next(_, c) => match due_code(request, c, 76, Refusal::NotDue) {
+        Step::Next(_, c) => match due_code(request, c, EOC, Refusal::NotDue) {
             Step::Next(f, d) => if d.at == request.len() {
                 Step::Next(f, d)
             } else {
@@ -103,10 +113,11 @@ fn end(request: &[u8], from: Step) -> Step
 // The row of the outer begin.
 fn outer_row(statements: &mut [u32], body: Step)
     requires { ⌜ Ends body ⌝ }
-    ensures { λ _. ⌜ now (statements .exit) ≡ stepped body (λ c. sets (now (statements .entry)) 0 (1 ∷ 2 ∷ 0 ∷ c .at ∷ [])) (now (statements .entry)) ⌝ }
+    ensures { λ _. ⌜ now (statements .exit) ≡ stepped body (λ c. sets (now (statements .entry)) 0 (1 ∷ blr.begin ∷ 0 ∷ c .at ∷ []))
+        (now (statements .entry)) ⌝ }
 {
     if let Step::Next(_, c) = body {
-        put_statement(statements, 0, 1, 2, 0, c.at);
+        put_statement(statements, 0, 1, BEGIN, 0, c.at);
     }
 }
 
@@ -121,7 +132,9 @@ fn body(
     c: Cursor,
 ) -> Whole
     requires { ⌜ Begun (now request) (now dictionary) (now parameters) c ⌝ }
-    ensures { λ r. ⌜ Requested (bodyOf (relations (now (dictionary .entry))) (now (request .entry)) c) (now (dictionary .entry)) (now (parameters .entry)) (now (parameters .exit)) (tables (now (statements .entry)) (now (contexts .entry)) (now (conditions .entry))) (tables (now (statements .exit)) (now (contexts .exit)) (now (conditions .exit))) r ⌝ }
+    ensures { λ r. ⌜ Requested (bodyOf (relations (now (dictionary .entry))) (now (request .entry)) c) (now (dictionary .entry))
+        (now (parameters .entry)) (now (parameters .exit)) (tables (now (statements .entry)) (now (contexts .entry)) (now (conditions .entry)))
+        (tables (now (statements .exit)) (now (contexts .exit)) (now (conditions .exit))) r ⌝ }
 {
     let declared = read_messages(request, parameters, c);
     let step = declared.step;
@@ -137,8 +150,8 @@ fn body(
         messages,
         outermost(),
         step,
-        32,
-        512,
+        MAX_DEPTH,
+        MAX_STATEMENTS,
         1,
     );
     outer_row(statements, ended);
@@ -149,7 +162,7 @@ fn body(
 }
 
 // A request, with its rows in the tables.
-pub fn read_whole(
+pub(crate) fn read_whole(
     request: &[u8],
     dictionary: &[u8],
     statements: &mut [u32],
@@ -158,7 +171,9 @@ pub fn read_whole(
     conditions: &mut [u32],
 ) -> Whole
     requires { ⌜ Beside (now request) (now dictionary) (now parameters) ⌝ }
-    ensures { λ r. ⌜ Requested (requestOf (relations (now (dictionary .entry))) (now (request .entry)) start) (now (dictionary .entry)) (now (parameters .entry)) (now (parameters .exit)) (tables (now (statements .entry)) (now (contexts .entry)) (now (conditions .entry))) (tables (now (statements .exit)) (now (contexts .exit)) (now (conditions .exit))) r ⌝ }
+    ensures { λ r. ⌜ Requested (requestOf (relations (now (dictionary .entry))) (now (request .entry)) start) (now (dictionary .entry))
+        (now (parameters .entry)) (now (parameters .exit)) (tables (now (statements .entry)) (now (contexts .entry)) (now (conditions .entry)))
+        (tables (now (statements .exit)) (now (contexts .exit)) (now (conditions .exit))) r ⌝ }
 {
     match head(request) {
         Step::Next(_, c) => body(

@@ -15,6 +15,7 @@ use dictionary::lookup::relation_named;
 use dictionary::lookup::relation_numbered;
 use dictionary::names::name_at;
 use grammar::ByteStep;
+use grammar::ContextStep;
 use grammar::Cursor;
 use grammar::Fit;
 use grammar::Refusal;
@@ -24,25 +25,26 @@ use scopes::scope::Context;
 use scopes::scope::Found;
 use scopes::scope::Scope;
 use steps::next_byte;
+use steps::next_context;
 use steps::next_word;
 use steps::skip_name;
 use wire::codes::StreamCode;
-use wire::numbers::ContextNumber;
+use wire::limits::MAX_CONTEXTS;
 
 // The code of a stream that was read.
-pub enum CodeStep {
+pub(crate) enum CodeStep {
     Is(StreamCode, Cursor),
     Refused(Refusal, usize),
 }
 
 // A relation that was read: the place of its entry in the dictionary.
-pub enum RelationStep {
+pub(crate) enum RelationStep {
     Is(usize, Cursor),
     Refused(Refusal, usize),
 }
 
 // A context that was declared.
-pub enum StreamStep {
+pub(crate) enum StreamStep {
     Is(Context, Cursor),
     Refused(Refusal, usize),
 }
@@ -62,10 +64,10 @@ fn stream_code(request: &[u8], c: Cursor) -> CodeStep
 }
 
 // "32 context declarations": one more, whose code stands at a place.
-pub fn open_context(c: Cursor, at: usize) -> Step
+pub(crate) fn open_context(c: Cursor, at: usize) -> Step
     ensures { λ r. ⌜ Counted at c r ⌝ }
 {
-    if c.contexts < 32 {
+    if c.contexts < MAX_CONTEXTS {
         let mut next = c;
         next.contexts = c.contexts + 1;
         Step::Next(Fit::NoKind, next)
@@ -122,16 +124,16 @@ fn read_relation(request: &[u8], dictionary: &[u8], k: StreamCode, c: Cursor) ->
     }
 }
 
-// A context byte that is not in scope.
-pub fn fresh_context(request: &[u8], scope: Scope, c: Cursor) -> ByteStep
+// The number of a context that is not in scope.
+pub(crate) fn fresh_context(request: &[u8], scope: Scope, c: Cursor) -> ContextStep
     ensures { λ r. ⌜ Fresh scope (now (request .entry)) c r ⌝ }
 {
-    match next_byte(request, c) {
-        ByteStep::Is(n, next) => match scope.find(ContextNumber(n)) {
-            Found::Is(_) => ByteStep::Refused(Refusal::BadContext, c.at),
-            Found::Nothing => ByteStep::Is(n, next),
+    match next_context(request, c) {
+        ContextStep::Is(n, next) => match scope.find(n) {
+            Found::Is(_) => ContextStep::Refused(Refusal::BadContext, c.at),
+            Found::Nothing => ContextStep::Is(n, next),
         },
-        ByteStep::Refused(r, p) => ByteStep::Refused(r, p),
+        ContextStep::Refused(r, p) => ContextStep::Refused(r, p),
     }
 }
 
@@ -140,48 +142,48 @@ fn stream_under(
     request: &[u8],
     dictionary: &[u8],
     scope: Scope,
-    from_for: bool,
+    opener: u8,
     k: StreamCode,
     c: Cursor,
 ) -> StreamStep
     requires { ⌜ Proper (now dictionary) ⌝ }
-    ensures { λ r. ⌜ r ≡ streamStep (now (dictionary .entry)) «from_for»
+    ensures { λ r. ⌜ r ≡ streamStep (now (dictionary .entry)) opener
         (streamUnder (relations (now (dictionary .entry))) (scopeOf (now (dictionary .entry)) scope) k (now (request .entry)) c) ⌝ }
 {
     match read_relation(request, dictionary, k, c) {
         RelationStep::Is(q, next) => match fresh_context(request, scope, next) {
-            ByteStep::Is(n, last) => {
+            ContextStep::Is(n, last) => {
                 let relation = q as u16;
                 StreamStep::Is(
                     Context {
                         relation: relation,
-                        number: ContextNumber(n),
-                        from_for: from_for,
+                        number: n,
+                        opener: opener,
                     },
                     last,
                 )
             }
-            ByteStep::Refused(r, p) => StreamStep::Refused(r, p),
+            ContextStep::Refused(r, p) => StreamStep::Refused(r, p),
         },
         RelationStep::Refused(r, p) => StreamStep::Refused(r, p),
     }
 }
 
 // A stream, of an rse or of a store.
-pub fn read_stream(
+pub(crate) fn read_stream(
     request: &[u8],
     dictionary: &[u8],
     scope: Scope,
-    from_for: bool,
+    opener: u8,
     c: Cursor,
 ) -> StreamStep
     requires { ⌜ Proper (now dictionary) ⌝ }
-    ensures { λ r. ⌜ r ≡ streamStep (now (dictionary .entry)) «from_for»
+    ensures { λ r. ⌜ r ≡ streamStep (now (dictionary .entry)) opener
         (stream (relations (now (dictionary .entry))) (scopeOf (now (dictionary .entry)) scope) (now (request .entry)) c) ⌝ }
 {
     match stream_code(request, c) {
         CodeStep::Is(k, first) => match open_context(first, c.at) {
-            Step::Next(_, next) => stream_under(request, dictionary, scope, from_for, k, next),
+            Step::Next(_, next) => stream_under(request, dictionary, scope, opener, k, next),
             Step::Refused(r, p) => StreamStep::Refused(r, p),
         },
         CodeStep::Refused(r, p) => StreamStep::Refused(r, p),

@@ -1,21 +1,26 @@
-// The tables that a caller lends.
+// The rows of the tables that a caller lends.
 ghost use mathlib.Core.Path.{_≡_};
 ghost use mathlib.Core.List.{[], _∷_};
-ghost use Prim.Native.Nat.{_+_, _*_, _≤_};
-ghost use lib.ListN.{length, set, replicate};
+ghost use Prim.Native.Nat.{_*_, _≤_};
+ghost use lib.ListN.{set};
 ghost use lib.Seq.{sets};
-
-// Sets one number of a table; past its end nothing.
-pub fn put(table: &mut [u32], at: usize, x: u32)
-    ensures { λ _. ⌜ now (table .exit) ≡ set (now (table .entry)) at x ⌝ }
-{
-    if at < table.len() {
-        table[at] = x;
-    }
-}
+ghost use Rattle.wire.specs.Limits.{maxRequestBytes, maxStatements, maxContexts, statementRowNumbers, contextRowNumbers};
+use wire::limits::CONTEXT_ROW;
+use wire::limits::STATEMENT_ROW;
+use wire::numbers::ContextNumber;
+use wire::rows::CONTEXT_END;
+use wire::rows::CONTEXT_NUMBER;
+use wire::rows::CONTEXT_PLACE;
+use wire::rows::CONTEXT_RELATION;
+use wire::rows::CONTEXT_START;
+use wire::rows::STATEMENT_CODE;
+use wire::rows::STATEMENT_END;
+use wire::rows::STATEMENT_PARENT;
+use wire::rows::STATEMENT_PLACE;
+use wire::table::put;
 
 // The row of a statement.
-pub fn put_statement(
+pub(crate) fn put_statement(
     table: &mut [u32],
     row: usize,
     place: usize,
@@ -23,44 +28,39 @@ pub fn put_statement(
     parent: usize,
     end: usize,
 )
-    requires { ⌜ (row ≤ 512) × ((place ≤ 65535) × ((parent ≤ 512) × (end ≤ 65535))) ⌝ }
-    ensures { λ _. ⌜ now (table .exit) ≡ sets (now (table .entry)) (row * 4) (place ∷ code ∷ parent ∷ end ∷ []) ⌝ }
+    requires { ⌜ (row ≤ maxStatements) × ((place ≤ maxRequestBytes) × ((parent ≤ maxStatements) × (end ≤ maxRequestBytes))) ⌝ }
+    ensures { λ _. ⌜ now (table .exit) ≡ sets (now (table .entry)) (row * statementRowNumbers) (place ∷ code ∷ parent ∷ end ∷ []) ⌝ }
 {
-    let at = row * 4;
-    put(table, at, place as u32);
-    put(table, at + 1, code as u32);
-    put(table, at + 2, parent as u32);
-    put(table, at + 3, end as u32);
+    let at = row * STATEMENT_ROW;
+    put(table, at + STATEMENT_PLACE, place as u32);
+    put(table, at + STATEMENT_CODE, code as u32);
+    put(table, at + STATEMENT_PARENT, parent as u32);
+    put(table, at + STATEMENT_END, end as u32);
 }
 
 // The row of a context whose scope is not yet known.
-pub fn put_context(table: &mut [u32], row: usize, number: u8, place: usize, relation: u32)
-    requires { ⌜ (row ≤ 32) × (place ≤ 65535) ⌝ }
-    ensures { λ _. ⌜ now (table .exit) ≡ sets (now (table .entry)) (row * 5) (number ∷ place ∷ 0 ∷ 0 ∷ relation ∷ []) ⌝ }
+pub(crate) fn put_context(
+    table: &mut [u32],
+    row: usize,
+    number: ContextNumber,
+    place: usize,
+    relation: u32,
+)
+    requires { ⌜ (row ≤ maxContexts) × (place ≤ maxRequestBytes) ⌝ }
+    ensures { λ _. ⌜ now (table .exit) ≡ sets (now (table .entry)) (row * contextRowNumbers) (number .0 ∷ place ∷ 0 ∷ 0 ∷ relation ∷ []) ⌝ }
 {
-    let at = row * 5;
-    put(table, at, number as u32);
-    put(table, at + 1, place as u32);
-    put(table, at + 2, 0);
-    put(table, at + 3, 0);
-    put(table, at + 4, relation);
+    let at = row * CONTEXT_ROW;
+    put(table, at + CONTEXT_NUMBER, number.0 as u32);
+    put(table, at + CONTEXT_PLACE, place as u32);
+    put(table, at + CONTEXT_START, 0);
+    put(table, at + CONTEXT_END, 0);
+    put(table, at + CONTEXT_RELATION, relation);
 }
 
 // The place of a condition.
-pub fn put_condition(table: &mut [u32], number: usize, place: usize)
-    requires { ⌜ place ≤ 65535 ⌝ }
+pub(crate) fn put_condition(table: &mut [u32], number: usize, place: usize)
+    requires { ⌜ place ≤ maxRequestBytes ⌝ }
     ensures { λ _. ⌜ now (table .exit) ≡ set (now (table .entry)) number place ⌝ }
 {
     put(table, number, place as u32);
-}
-
-// Sets every number of a table to zero.
-pub fn clear(table: &mut [u32])
-    ensures { λ _. ⌜ now (table .exit) ≡ replicate (length (now (table .entry))) 0 ⌝ }
-{
-    let mut i: usize = 0;
-    while i < table.len() {
-        table[i] = 0;
-        i += 1;
-    }
 }

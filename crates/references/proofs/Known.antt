@@ -12,13 +12,13 @@ use Rattle.wire.specs.Lists.{isSome, _andThen_}
 use Rattle.wire.specs.Words.{byteAt}
 use Rattle.dictionary.specs.Dictionary.{Relation, nameAt}
 use Rattle.dictionary.specs.Naming.{Name, named, numbered, fieldOf, formatOf}
-use Rattle.dictionary.specs.Walk.{relationAt, fieldsOf, entryField}
+use Rattle.dictionary.specs.Internal.Walk.{relationAt, fieldsOf, entryField}
 use Rattle.dictionary.specs.declared.lookup.Place.{Place}
 use Rattle.dictionary.specs.declared.lookup.Place.the-variants as Place
 use Rattle.dictionary.specs.declared.field.Index.{Index}
 use Rattle.dictionary.specs.declared.field.Index.the-variants as Index
-use Rattle.dictionary.specs.Answers.{placeAnswer}
-use Rattle.dictionary.specs.FieldAnswers.{indexAnswer}
+use Rattle.dictionary.specs.Internal.Answers.{placeAnswer}
+use Rattle.dictionary.specs.Internal.FieldAnswers.{indexAnswer}
 use Rattle.grammar.specs.Kind.{Kind}
 use Rattle.grammar.specs.Kind as Kind
 use Rattle.grammar.specs.declared.Refusal.{Refusal}
@@ -30,7 +30,7 @@ use Rattle.grammar.specs.declared.Step.the-variants as Step
 use Rattle.grammar.specs.Kinds.{formatKind}
 use Rattle.grammar.specs.Reader.{read, refused, Reader, onRead, on, need, bytes, name, tested}
 use Rattle.grammar.specs.Values.{byName}
-use Rattle.grammar.specs.Steps.{fitOf, stepOf, noKind}
+use Rattle.grammar.specs.Internal.Steps.{fitOf, stepOf, noKind}
 use Rattle.grammar.proofs.StepLaws.{absurd-eq, taken-whole, taken-cut}
 use Rattle.references.proofs.Literals.{whole}
 use Rattle.references.specs.Promises.{idKind, nameKind, knownStep, fieldIn}

@@ -21,7 +21,7 @@ use Rattle.grammar.specs.Kinds.{literalKind}
 use Rattle.grammar.specs.Reader.{read, refused, on, taken, bytes}
 use Rattle.grammar.specs.Messages.{scaleByte, sizeWord}
 use Rattle.grammar.specs.Values.{numberOf, literalUnder}
-use Rattle.grammar.specs.Steps.{stepOf, noKind}
+use Rattle.grammar.specs.Internal.Steps.{stepOf, noKind}
 use Rattle.grammar.proofs.StepLaws.{absurd-eq, taken-whole, taken-cut, step-read, step-refused}
 use Rattle.references.specs.Promises.{literalFit}
 

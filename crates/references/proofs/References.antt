@@ -26,7 +26,7 @@ use Rattle.grammar.specs.Kinds.{formatKind, flagged, referenceKind}
 use Rattle.grammar.specs.Reader.{Read, read, refused, Reader, _>>=_, _>>_, return, onRead, need, byte, word, tested}
 use Rattle.grammar.specs.Values.{contextByte, messageByte, parameterWord, byName, byNumber}
 use Rattle.grammar.specs.Values.{fieldName, fieldAllowed, parameterAllowed, readField, readReference}
-use Rattle.grammar.specs.Steps.{fitOf, stepOf}
+use Rattle.grammar.specs.Internal.Steps.{fitOf, stepOf}
 use Rattle.grammar.proofs.StepLaws.{absurd-eq, step-read, step-refused}
 use Rattle.grammar.proofs.Went.{tested-read}
 use Rattle.messages.specs.declared.declared.Message.{Message}

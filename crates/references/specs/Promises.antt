@@ -25,7 +25,7 @@ use Rattle.grammar.specs.Kinds.{formatKind, literalKind, referenceKind}
 use Rattle.grammar.specs.Reader.{Read, Reader, word, tested}
 use Rattle.grammar.specs.Reading.{relationsOf}
 use Rattle.grammar.specs.Values.{readReference}
-use Rattle.grammar.specs.Steps.{fitOf, stepOf}
+use Rattle.grammar.specs.Internal.Steps.{fitOf, stepOf}
 use Rattle.messages.specs.declared.declared.Message.{Message}
 use Rattle.messages.specs.declared.declared.Messages.{Messages}
 use Rattle.messages.specs.Entries.{messagesOf, parameterKind}

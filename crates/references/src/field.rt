@@ -2,10 +2,10 @@
 ghost use Prim.Native.Nat.{ℕ};
 ghost use mathlib.Core.Path.{_≡_};
 ghost use Rattle.dictionary.specs.Naming.{named};
-ghost use Rattle.dictionary.specs.Walk.{relationAt};
+ghost use Rattle.dictionary.specs.Internal.Walk.{relationAt};
 ghost use Rattle.grammar.specs.Environment.{Environment};
 ghost use Rattle.grammar.specs.Values.{byName, byNumber};
-ghost use Rattle.grammar.specs.Steps.{fitOf};
+ghost use Rattle.grammar.specs.Internal.Steps.{fitOf};
 ghost use Rattle.scopes.specs.Scopes.{scopeOf};
 ghost use Rattle.references.specs.Promises.{idKind, nameKind, knownStep, fieldIn, fieldCode, referenceStep};
 use crate::role::field_allowed;
@@ -16,7 +16,7 @@ use dictionary::field::field_entry;
 use dictionary::field::field_named;
 use dictionary::lookup::Place;
 use dictionary::names::name_at;
-use grammar::ByteStep;
+use grammar::ContextStep;
 use grammar::Cursor;
 use grammar::Fit;
 use grammar::Refusal;
@@ -26,10 +26,9 @@ use grammar::WordStep;
 use scopes::kinds::type_fit;
 use scopes::scope::Found;
 use scopes::scope::Scope;
-use steps::next_byte;
+use steps::next_context;
 use steps::next_word;
 use steps::skip_name;
-use wire::numbers::ContextNumber;
 
 // The kind of the field of an id, or that there is none.
 fn id_fit(dictionary: &[u8], relation: usize, id: usize) -> Fit
@@ -56,7 +55,7 @@ fn name_fit(dictionary: &[u8], relation: usize, name: &[u8]) -> Fit
 }
 
 // A kind that was looked up for what stands at a place, and the cursor after it.
-pub fn known(refusal: Refusal, fit: Fit, at: usize, after: Cursor) -> Step
+pub(crate) fn known(refusal: Refusal, fit: Fit, at: usize, after: Cursor) -> Step
     ensures { λ r. ⌜ r ≡ knownStep refusal fit at after ⌝ }
 {
     match fit {
@@ -98,7 +97,7 @@ fn read_numbered(request: &[u8], dictionary: &[u8], relation: usize, c: Cursor) 
 }
 
 // A field after its code: its context, then its name or its id. It is the same beside any messages.
-pub fn read_field(
+pub(crate) fn read_field(
     request: &[u8],
     dictionary: &[u8],
     scope: Scope,
@@ -109,13 +108,13 @@ pub fn read_field(
     ensures { λ r. ⌜ ((e : Environment) (p : ℕ) → r ≡ referenceStep e (scopeOf (now (dictionary .entry)) scope) role p
         (fieldCode «by_name») (now (request .entry)) c) ⌝ }
 {
-    let ByteStep::Is(n, first) = next_byte(request, c) else {
+    let ContextStep::Is(n, first) = next_context(request, c) else {
         return Step::Refused(Refusal::EndsEarly, request.len());
     };
-    let Found::Is(x) = scope.find(ContextNumber(n)) else {
+    let Found::Is(x) = scope.find(n) else {
         return Step::Refused(Refusal::BadContext, c.at);
     };
-    if !field_allowed(dictionary, scope, role, ContextNumber(n)) {
+    if !field_allowed(dictionary, scope, role, n) {
         return Step::Refused(Refusal::Misplaced, target_place(role));
     }
     let relation = x.relation as usize;

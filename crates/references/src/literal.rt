@@ -1,12 +1,12 @@
 // Literals.
 ghost use mathlib.Core.Path.{_≡_};
-ghost use Rattle.dictionary.specs.Format.{widthBytes};
 ghost use Rattle.wire.specs.declared.codes.LiteralType.the-variants.{NumberLiteral, TextLiteral};
 ghost use Rattle.grammar.specs.Values.{literalUnder, readLiteral};
-ghost use Rattle.grammar.specs.Steps.{stepOf};
+ghost use Rattle.grammar.specs.Internal.Steps.{stepOf};
 ghost use Rattle.references.specs.Promises.{literalFit};
 use classes::LiteralClass;
 use classes::literal_class;
+use dictionary::format::width_bytes;
 use grammar::ByteStep;
 use grammar::Cursor;
 use grammar::Fit;
@@ -21,20 +21,11 @@ use steps::skip;
 use wire::codes::LiteralType;
 use wire::codes::Width;
 
-fn width_of(w: Width) -> usize
-    ensures { λ r. ⌜ r ≡ widthBytes w ⌝ }
-{
-    match w {
-        Width::Short => 2,
-        Width::Long => 4,
-    }
-}
-
 fn number_literal(request: &[u8], w: Width, c: Cursor) -> Step
     ensures { λ r. ⌜ r ≡ stepOf literalFit (literalUnder (NumberLiteral w) (now (request .entry)) c) ⌝ }
 {
     match scale_byte(request, c) {
-        ByteStep::Is(scale, first) => match skip(request, first, width_of(w)) {
+        ByteStep::Is(scale, first) => match skip(request, first, width_bytes(w)) {
             Step::Next(_, after) => Step::Next(Fit::Number(scale_of(scale)), after),
             Step::Refused(r, p) => Step::Refused(r, p),
         },

@@ -7,9 +7,9 @@ ghost use Rattle.references.specs.Promises.{parameterIn, flagIn, paramet
 use crate::field::known;
 use crate::role::parameter_allowed;
 use crate::role::target_place;
-use grammar::ByteStep;
 use grammar::Cursor;
 use grammar::Fit;
+use grammar::MessageStep;
 use grammar::Refusal;
 use grammar::Role;
 use grammar::Step;
@@ -19,9 +19,8 @@ use messages::declared::Message;
 use messages::declared::Messages;
 use messages::declared::parameter_fit;
 use scopes::scope::Scope;
-use steps::next_byte;
+use steps::next_message;
 use steps::next_word;
-use wire::numbers::MessageNumber;
 
 // The word of a parameter of a message.
 fn read_word(request: &[u8], parameters: &[u32], x: Message, c: Cursor) -> Step
@@ -55,7 +54,7 @@ fn read_flag(request: &[u8], parameters: &[u32], x: Message, fit: Fit, at: usize
 
 // A parameter after its code, which stands at a place: its message, its word, and a flag word if it has one. It is the same beside any
 // dictionary.
-pub fn read_parameter(
+pub(crate) fn read_parameter(
     request: &[u8],
     parameters: &[u32],
     messages: Messages,
@@ -68,13 +67,13 @@ pub fn read_parameter(
     ensures { λ r. ⌜ ((d : List ℕ) → r ≡ referenceStep (environmentOf d (now (parameters .entry)) messages) (scopeOf d scope) role at
         (parameterCode flagged) (now (request .entry)) c) ⌝ }
 {
-    let ByteStep::Is(m, first) = next_byte(request, c) else {
+    let MessageStep::Is(m, first) = next_message(request, c) else {
         return Step::Refused(Refusal::EndsEarly, request.len());
     };
-    let FoundMessage::Is(x) = messages.find(MessageNumber(m)) else {
+    let FoundMessage::Is(x) = messages.find(m) else {
         return Step::Refused(Refusal::BadMessage, c.at);
     };
-    if !parameter_allowed(scope, role, MessageNumber(m)) {
+    if !parameter_allowed(scope, role, m) {
         return Step::Refused(Refusal::Misplaced, target_place(role));
     }
     match read_word(request, parameters, x, first) {

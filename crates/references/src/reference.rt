@@ -1,6 +1,6 @@
 // References: what a value or a target names.
 ghost use mathlib.Core.Path.{_≡_};
-ghost use Rattle.grammar.specs.Steps.{stepOf};
+ghost use Rattle.grammar.specs.Internal.Steps.{stepOf};
 ghost use Rattle.grammar.specs.Values.{readTarget};
 ghost use Rattle.scopes.specs.Scopes.{scopeOf};
 ghost use Rattle.references.specs.Promises.{environmentOf, referenceFit, referenceStep};

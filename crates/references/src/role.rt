@@ -10,7 +10,7 @@ use wire::numbers::ContextNumber;
 use wire::numbers::MessageNumber;
 
 // The place of the assignment; a value has none.
-pub fn target_place(role: Role) -> usize
+pub(crate) fn target_place(role: Role) -> usize
     ensures { λ r. ⌜ r ≡ placeOf role ⌝ }
 {
     match role {
@@ -20,7 +20,7 @@ pub fn target_place(role: Role) -> usize
 }
 
 // A field target names the context of the nearest store or modify around.
-pub fn field_allowed(dictionary: &[u8], scope: Scope, role: Role, n: ContextNumber) -> bool
+pub(crate) fn field_allowed(dictionary: &[u8], scope: Scope, role: Role, n: ContextNumber) -> bool
     ensures { λ r. ⌜ r ≡ fieldAllows role (scopeOf (now (dictionary .entry)) scope) (n .0) ⌝ }
 {
     match role {
@@ -34,7 +34,7 @@ pub fn field_allowed(dictionary: &[u8], scope: Scope, role: Role, n: ContextNumb
 }
 
 // A parameter target stands inside a send of its message.
-pub fn parameter_allowed(scope: Scope, role: Role, m: MessageNumber) -> bool
+pub(crate) fn parameter_allowed(scope: Scope, role: Role, m: MessageNumber) -> bool
     ensures { λ r. ⌜ ((d : List ℕ) → r ≡ parameterAllows role (scopeOf d scope) (m .0)) ⌝ }
 {
     let sends = scope.sends;

@@ -4,7 +4,7 @@ use mathlib.Core.Bool.{_&&_}
 use lib.Dec.{eqb, ltb}
 use Rattle.grammar.specs.declared.Fit.{Fit}
 use Rattle.grammar.specs.declared.Fit.the-variants as Fit
-use Rattle.grammar.specs.Steps.{kindIn}
+use Rattle.grammar.specs.Internal.Steps.{kindIn}
 use Rattle.grammar.specs.Kinds.{oneKind}
 use Rattle.scopes.specs.Scopes.{rankOf}
 

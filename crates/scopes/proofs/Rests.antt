@@ -1,8 +1,8 @@
 -- The elements of an array below a count, from an index on.
 use Prim.Native.Nat.{ℕ, suc, _+_, _-_, _≤_, _<_}
 use mathlib.Core.Path.{_≡_}
-use mathlib.Core.Bool.{true, false}
-use mathlib.Core.List.{List, [], _∷_}
+use mathlib.Core.Bool.{Bool, true, false}
+use mathlib.Core.List.{List, [], _∷_, map}
 use native.Mathlib.Omega.{arith}
 use native.Mathlib.Nat.{sub-zero}
 use native.Mathlib.Numerals.{add-one}
@@ -32,20 +32,24 @@ module _ {A : Type 0} (l : List A) (n i : ℕ) where
 pub rest-start : {A : Type 0} (l : List A) (n : ℕ) → take n l ≡ rest l n 0
 rest-start l n = rw (sub-zero n)
 
--- ---- a search for a number
+-- ---- a search for a number among those of the elements
 
-pub no-number : (m : ℕ) {l : List ℕ} → l ≡ [] → false ≡ among m l
-unfolding among anyOf
-no-number m e = rw e
+module _ {A : Type 0} (f : A → ℕ) (m : ℕ) where
+  abbrev pub amongOf : List A → Bool
+  amongOf l = among m (map f l)
 
-module _ (m : ℕ) (l : List ℕ) (n i : ℕ) (h : i < length l) (k : i < n) where
-  pub number-here : getD l i 0 ≡ m → true ≡ among m (rest l n i)
+  pub no-number : {l : List A} → l ≡ [] → false ≡ amongOf l
   unfolding among anyOf
-  number-here e = rw (rest-next l n i 0 h k, eq-eqb (getD l i 0) m e)
+  no-number e = rw e
 
-  pub number-next : (getD l i 0 ≡ m → ⊥) → among m (rest l n i) ≡ among m (rest l n (i + 1))
-  unfolding among anyOf
-  number-next e = rw (rest-next l n i 0 h k, ne-eqb (getD l i 0) m e)
+  module _ (l : List A) (n i : ℕ) (h : i < length l) (k : i < n) (d : A) where
+    pub number-here : f (getD l i d) ≡ m → true ≡ amongOf (rest l n i)
+    unfolding among anyOf
+    number-here e = rw (rest-next l n i d h k, eq-eqb (f (getD l i d)) m e)
+
+    pub number-next : (f (getD l i d) ≡ m → ⊥) → amongOf (rest l n i) ≡ amongOf (rest l n (i + 1))
+    unfolding among anyOf
+    number-next e = rw (rest-next l n i d h k, ne-eqb (f (getD l i d)) m e)
 
 -- ---- a search for a context
 

@@ -10,21 +10,25 @@ use borrow.Author.Tests.{lt-ltb}
 use lib.Dec.{eqb, ltb}
 use lib.ListN.{length, take, set, length-set}
 use lib.Seq.{take-suc-set}
+use Rattle.wire.specs.Codes as blr
 use Rattle.wire.specs.Lists.{find}
-use Rattle.dictionary.specs.Walk.{relationAt}
+use Rattle.wire.specs.declared.numbers.MessageNumber.{MessageNumber}
+use Rattle.wire.specs.declared.numbers.LabelNumber.{LabelNumber}
+use Rattle.dictionary.specs.Internal.Walk.{relationAt}
 use Rattle.grammar.specs.Kind.{Kind}
 use Rattle.grammar.specs.Kind as Kind
 use Rattle.grammar.specs.declared.Fit.{Fit}
 use Rattle.grammar.specs.declared.Fit.the-variants as Fit
-use Rattle.grammar.specs.Steps.{fitOf, kindIn}
-use Rattle.grammar.specs.Environment as Names
+use Rattle.grammar.specs.Internal.Steps.{fitOf, kindIn}
+use Rattle.grammar.specs.Environment as Grammar
 use Rattle.grammar.specs.Scope.{inScope, ofFor}
-use Rattle.scopes.specs.declared.scope.Numbers.{Numbers}
+use Rattle.scopes.specs.declared.scope.Sends.{Sends}
+use Rattle.scopes.specs.declared.scope.Labels.{Labels}
 use Rattle.scopes.specs.declared.scope.Context.{Context}
 use Rattle.scopes.specs.declared.scope.Scope.{Scope}
 use Rattle.scopes.specs.declared.scope.Found.{Found}
 use Rattle.scopes.specs.declared.scope.Found.the-variants.{Is, Nothing}
-use Rattle.scopes.specs.Scopes.{numbersOf, withNumber, contextsIn, foundAnswer, foundOf, withContext, contextOf, scopeOf}
+use Rattle.scopes.specs.Scopes.{sendNumbers, labelNumbers, sendsWith, labelsWith, contextsIn, foundAnswer, foundOf, withContext, contextOf, scopeOf}
 
 -- ---- kinds as the code has them
 
@@ -45,11 +49,19 @@ kind-fit (some Kind.Date) = refl
 pub one-more : {A : Type 0} (l : List A) (n : ℕ) (a : A) → n < 32 → length l ≡ 32 → take (n + 1) (set l n a) ≡ take n l ++ (a ∷ [])
 one-more l n a h e = let k : n < length l = omega arith in rw (add-one n) (take-suc-set l n a k)
 
-pub with-number : (x : Numbers) (n : ℕ) → x .count < 32 → length (x .bytes) ≡ 32 → numbersOf (withNumber x n) ≡ numbersOf x ++ (n ∷ [])
-with-number x n h e = rw (lt-ltb (x .count) 32 h) (one-more (x .bytes) (x .count) n h e)
+pub with-send : (x : Sends) (m : MessageNumber) → x .count < 32 → length (x .messages) ≡ 32 → sendNumbers (sendsWith x m) ≡ sendNumbers x ++ (m .0 ∷ [])
+with-send x m h e =
+    rw (lt-ltb (x .count) 32 h, one-more (x .messages) (x .count) m h e) (map-append (λ (y : MessageNumber). y .0) (take (x .count) (x .messages)) (m ∷ []))
 
-pub with-number-count : (x : Numbers) (n : ℕ) → x .count < 32 → withNumber x n .count ≡ x .count + 1
-with-number-count x n h = rw (lt-ltb (x .count) 32 h)
+pub with-send-count : (x : Sends) (m : MessageNumber) → x .count < 32 → sendsWith x m .count ≡ x .count + 1
+with-send-count x m h = rw (lt-ltb (x .count) 32 h)
+
+pub with-label : (x : Labels) (n : LabelNumber) → x .count < 32 → length (x .labels) ≡ 32 → labelNumbers (labelsWith x n) ≡ labelNumbers x ++ (n .0 ∷ [])
+with-label x n h e =
+    rw (lt-ltb (x .count) 32 h, one-more (x .labels) (x .count) n h e) (map-append (λ (y : LabelNumber). y .0) (take (x .count) (x .labels)) (n ∷ []))
+
+pub with-label-count : (x : Labels) (n : LabelNumber) → x .count < 32 → labelsWith x n .count ≡ x .count + 1
+with-label-count x n h = rw (lt-ltb (x .count) 32 h)
 
 pub with-context :
     (sc : Scope) (x : Context) → sc .count < 32 → length (sc .contexts) ≡ 32 → contextsIn (withContext sc x) ≡ contextsIn sc ++ (x ∷ [])
@@ -62,10 +74,6 @@ with-context-count sc x h = rw (lt-ltb (sc .count) 32 h)
 cond-same : {A B : Type 0} (f : A → B) (t : Bool) (a b : A) → f a ≡ f b → f (cond t a b) ≡ f b
 cond-same f true a b e = e
 cond-same f false a b e = refl
-
-pub with-number-length : (x : Numbers) (n : ℕ) → length (withNumber x n .bytes) ≡ length (x .bytes)
-with-number-length x n =
-    cond-same (λ (y : Numbers). length (y .bytes)) (ltb (x .count) 32) _ x (length-set (x .bytes) (x .count) n)
 
 module _ (sc : Scope) (x : Context) where
   pub with-context-length : length (withContext sc x .contexts) ≡ length (sc .contexts)
@@ -87,7 +95,7 @@ module _ (sc : Scope) (x : Context) where
 -- what a scope with one more context stands for
 pub scope-with :
     (d : List ℕ) (sc : Scope) (x : Context) → sc .count < 32 → length (sc .contexts) ≡ 32
-    → scopeOf d (withContext sc x) ≡ Names.withContexts (scopeOf d sc) (contextOf d x ∷ [])
+    → scopeOf d (withContext sc x) ≡ Grammar.withContexts (scopeOf d sc) (contextOf d x ∷ [])
 unfolding scopeOf
 scope-with d sc x h e = rw (with-context sc x h e, map-append (contextOf d) (contextsIn sc) (x ∷ []), lt-ltb (sc .count) 32 h)
 
@@ -104,7 +112,7 @@ find-map f test [] = refl
 find-map f test (x ∷ l) = rw (find-map f test l) (cond-map f (test (f x)) x (find (λ y. test (f y)) l))
 
 -- what was found, as the definitions have it
-abbrev pub foundIn : List ℕ → Found → Option Names.Context
+abbrev pub foundIn : List ℕ → Found → Option Grammar.Context
 foundIn d (Is x) = some (contextOf d x)
 foundIn d Nothing = none
 
@@ -112,31 +120,31 @@ found-answer : (d : List ℕ) (o : Option Context) → Option·map (contextOf d)
 found-answer d none = refl
 found-answer d (some x) = refl
 
-pub found-context : (d : List ℕ) (sc : Scope) (n : ℕ) → Names.contextOf (scopeOf d sc) n ≡ foundIn d (foundOf (contextsIn sc) n)
-unfolding Names.contextOf scopeOf
+pub found-context : (d : List ℕ) (sc : Scope) (n : ℕ) → Grammar.contextOf (scopeOf d sc) n ≡ foundIn d (foundOf (contextsIn sc) n)
+unfolding Grammar.contextOf scopeOf
 found-context d sc n =
     find-map (contextOf d) (λ x. eqb (x .number) n) (contextsIn sc) ∙
     found-answer d (find (λ x. eqb (x .number .0) n) (contextsIn sc))
 
 module _ (d : List ℕ) (sc : Scope) (n : ℕ) where
   module _ (x : Context) (e : foundOf (contextsIn sc) n ≡ Is x) where
-    pub found-is : Names.contextOf (scopeOf d sc) n ≡ some (contextOf d x)
+    pub found-is : Grammar.contextOf (scopeOf d sc) n ≡ some (contextOf d x)
     found-is = found-context d sc n ∙ ap (foundIn d) e
 
     pub is-in-scope : inScope (scopeOf d sc) n ≡ true
     unfolding inScope
     is-in-scope = rw found-is
 
-    pub is-of-for : ofFor (scopeOf d sc) n ≡ x .«from_for»
+    pub is-of-for : ofFor (scopeOf d sc) n ≡ eqb (x .opener) blr.for
     unfolding ofFor
     is-of-for = rw found-is
 
-    pub is-relation : Names.relationOfContext (scopeOf d sc) n ≡ some (relationAt d (x .relation))
-    unfolding Names.relationOfContext
+    pub is-relation : Grammar.relationOfContext (scopeOf d sc) n ≡ some (relationAt d (x .relation))
+    unfolding Grammar.relationOfContext
     is-relation = rw found-is
 
   module _ (e : foundOf (contextsIn sc) n ≡ Nothing) where
-    pub found-nothing : Names.contextOf (scopeOf d sc) n ≡ none
+    pub found-nothing : Grammar.contextOf (scopeOf d sc) n ≡ none
     found-nothing = found-context d sc n ∙ ap (foundIn d) e
 
     pub nothing-in-scope : inScope (scopeOf d sc) n ≡ false
@@ -147,6 +155,6 @@ module _ (d : List ℕ) (sc : Scope) (n : ℕ) where
     unfolding ofFor
     nothing-of-for = rw found-nothing
 
-    pub nothing-relation : Names.relationOfContext (scopeOf d sc) n ≡ none
-    unfolding Names.relationOfContext
+    pub nothing-relation : Grammar.relationOfContext (scopeOf d sc) n ≡ none
+    unfolding Grammar.relationOfContext
     nothing-relation = rw found-nothing

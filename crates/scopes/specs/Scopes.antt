@@ -5,22 +5,34 @@ use mathlib.Core.List.{List, [], _∷_, map}
 use mathlib.Core.Option.{Option, none, some}
 use lib.Dec.{eqb, ltb}
 use lib.ListN.{take, set}
+use Rattle.wire.specs.Limits.{maxDepth, maxContexts}
 use Rattle.wire.specs.Lists.{find}
-use Rattle.dictionary.specs.Walk.{relationAt}
-use Rattle.grammar.specs.Environment as Names
+use Rattle.wire.specs.declared.numbers.MessageNumber.{MessageNumber}
+use Rattle.wire.specs.declared.numbers.LabelNumber.{LabelNumber}
+use Rattle.dictionary.specs.Internal.Walk.{relationAt}
+use Rattle.grammar.specs.Environment as Grammar
 use Rattle.grammar.specs.declared.Fit.{Fit}
 use Rattle.grammar.specs.declared.Fit.the-variants as Fit
-use Rattle.scopes.specs.declared.scope.Numbers.{Numbers}
+use Rattle.scopes.specs.declared.scope.Sends.{Sends}
+use Rattle.scopes.specs.declared.scope.Labels.{Labels}
 use Rattle.scopes.specs.declared.scope.Context.{Context}
 use Rattle.scopes.specs.declared.scope.Scope.{Scope}
 use Rattle.scopes.specs.declared.scope.Found.{Found}
 use Rattle.scopes.specs.declared.scope.Found.the-variants.{Is, Nothing}
 
-abbrev pub numbersOf : Numbers → List ℕ
-numbersOf x = take (x .count) (x .bytes)
+-- the numbers of the messages being sent, and one more
+abbrev pub sendNumbers : Sends → List ℕ
+sendNumbers x = map (λ m. m .0) (take (x .count) (x .messages))
 
-abbrev pub withNumber : Numbers → ℕ → Numbers
-withNumber x n = cond (ltb (x .count) 32) (record { bytes = set (x .bytes) (x .count) n; count = x .count + 1 }) x
+abbrev pub sendsWith : Sends → MessageNumber → Sends
+sendsWith x m = cond (ltb (x .count) maxDepth) (record { messages = set (x .messages) (x .count) m; count = x .count + 1 }) x
+
+-- the numbers of the labels around, and one more
+abbrev pub labelNumbers : Labels → List ℕ
+labelNumbers x = map (λ n. n .0) (take (x .count) (x .labels))
+
+abbrev pub labelsWith : Labels → LabelNumber → Labels
+labelsWith x n = cond (ltb (x .count) maxDepth) (record { labels = set (x .labels) (x .count) n; count = x .count + 1 }) x
 
 abbrev pub contextsIn : Scope → List Context
 contextsIn sc = take (sc .count) (sc .contexts)
@@ -34,7 +46,7 @@ foundOf xs n = foundAnswer (find (λ x. eqb (x .number .0) n) xs)
 
 abbrev pub withContext : Scope → Context → Scope
 withContext sc x =
-    cond (ltb (sc .count) 32)
+    cond (ltb (sc .count) maxContexts)
     (record {
       contexts = set (sc .contexts) (sc .count) x;
       count = sc .count + 1;
@@ -47,16 +59,16 @@ withContext sc x =
 
 -- ---- what a scope stands for, beside the bytes of a dictionary
 
-abbrev pub contextOf : List ℕ → Context → Names.Context
-contextOf d x = record { number = x .number .0; relation = some (relationAt d (x .relation)); fromFor = x .«from_for» }
+abbrev pub contextOf : List ℕ → Context → Grammar.Context
+contextOf d x = record { number = x .number .0; relation = some (relationAt d (x .relation)); opener = x .opener }
 
-unfoldable pub scopeOf : List ℕ → Scope → Names.Scope
+unfoldable pub scopeOf : List ℕ → Scope → Grammar.Scope
 scopeOf d sc =
     record {
       contexts = map (contextOf d) (contextsIn sc);
       target = cond (sc .updating) (some (sc .target .0)) none;
-      sends = numbersOf (sc .sends .0);
-      labels = numbersOf (sc .labels .0);
+      sends = sendNumbers (sc .sends);
+      labels = labelNumbers (sc .labels);
     }
 
 -- ---- a number for each kind, and 3 for none

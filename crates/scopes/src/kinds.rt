@@ -6,22 +6,20 @@ ghost use lib.Signed.{ltZ};
 ghost use Rattle.wire.specs.Words.{signed};
 ghost use Rattle.wire.specs.declared.codes.FieldType.the-variants.{Plain};
 ghost use Rattle.grammar.specs.Kinds.{typeKind, resultScale, arithmeticRange, arithmeticKind, negatedKind, oneKind, bothText, allOneKind};
-ghost use Rattle.grammar.specs.Steps.{fitOf, kindIn};
+ghost use Rattle.grammar.specs.Internal.Steps.{fitOf, kindIn};
 ghost use Rattle.scopes.specs.Scopes.{rankOf};
 use grammar::Fit;
+use wire::bytes::signed_byte;
 use wire::codes::DataType;
 use wire::codes::FieldType;
 use wire::codes::Operator;
+use wire::limits::MIN_ARITHMETIC_SCALE;
 
 // A scale byte as a signed number.
 pub fn scale_of(byte: u8) -> i8
     ensures { λ r. ⌜ r ≡ signed 1 byte ⌝ }
 {
-    if byte < 128 {
-        byte as i8
-    } else {
-        !((255 - byte) as i8)
-    }
+    signed_byte(byte)
 }
 
 // The kind of a stored type with its scale byte.
@@ -49,7 +47,7 @@ pub fn type_fit(t: FieldType, scale: u8) -> Fit
 fn within(scale: i32) -> Fit
     ensures { λ r. ⌜ r ≡ fitOf (arithmeticRange scale) ⌝ }
 {
-    if scale < -18 {
+    if scale < MIN_ARITHMETIC_SCALE as i32 {
         return Fit::NoKind;
     }
     if 0 < scale {
@@ -107,7 +105,10 @@ pub fn negated_fit(a: Fit) -> Fit
     }
 }
 
-// A number for each kind, and 3 for none.
+// The rank of what has no kind.
+const NO_RANK: u8 = 3;
+
+// A number for each kind, and one for none.
 fn rank(a: Fit) -> u8
     ensures { λ r. ⌜ r ≡ rankOf a ⌝ }
 {
@@ -115,14 +116,14 @@ fn rank(a: Fit) -> u8
         Fit::Number(_) => 0,
         Fit::Text => 1,
         Fit::Date => 2,
-        Fit::NoKind => 3,
+        Fit::NoKind => NO_RANK,
     }
 }
 
 pub fn one_kind(a: Fit, b: Fit) -> bool
     ensures { λ r. ⌜ r ≡ oneKind (kindIn a) (kindIn b) ⌝ }
 {
-    rank(a) < 3 && rank(a) == rank(b)
+    rank(a) < NO_RANK && rank(a) == rank(b)
 }
 
 pub fn both_text(a: Fit, b: Fit) -> bool

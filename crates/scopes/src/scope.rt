@@ -2,35 +2,37 @@
 ghost use mathlib.Core.Path.{_≡_};
 ghost use lib.ListN.{take};
 ghost use Rattle.wire.specs.Lists.{among};
-ghost use Rattle.scopes.specs.Scopes.{numbersOf, withNumber, withContext, foundOf, contextsIn};
+ghost use Rattle.scopes.specs.Scopes.{sendNumbers, labelNumbers, sendsWith, labelsWith, withContext, foundOf, contextsIn};
+use wire::limits::MAX_CONTEXTS;
+use wire::limits::MAX_DEPTH;
 use wire::numbers::ContextNumber;
 use wire::numbers::LabelNumber;
 use wire::numbers::MessageNumber;
 
-// A list of at most 32 bytes.
-pub struct Numbers {
-    pub bytes: [u8; 32],
+// The messages being sent.
+pub struct Sends {
+    pub messages: [MessageNumber; MAX_DEPTH],
     pub count: usize,
 }
 
-// The messages being sent.
-pub struct Sends(pub Numbers);
-
 // The labels around.
-pub struct Labels(pub Numbers);
+pub struct Labels {
+    pub labels: [LabelNumber; MAX_DEPTH],
+    pub count: usize,
+}
 
-// A context: the place of its relation's entry in the dictionary, its number, and whether a for opened it. A scope goes by value through every
-// level, so that a context is kept small.
+// A context: the place of its relation's entry in the dictionary, its number, and the code of the statement that opened it: for, store or
+// modify. A scope goes by value through every level, so that a context is kept small.
 pub struct Context {
     pub relation: u16,
     pub number: ContextNumber,
-    pub from_for: bool,
+    pub opener: u8,
 }
 
 // The contexts in the order of their declarations, the context of the nearest store or modify around, the messages being sent, and the
 // labels around.
 pub struct Scope {
-    pub contexts: [Context; 32],
+    pub contexts: [Context; MAX_CONTEXTS],
     pub count: usize,
     pub updating: bool,
     pub target: ContextNumber,
@@ -44,18 +46,19 @@ pub enum Found {
     Nothing,
 }
 
-impl Numbers {
-    fn has(self, n: u8) -> bool
-        ensures { λ r. ⌜ r ≡ among n (numbersOf self) ⌝ }
+impl Sends {
+    pub fn has(self, m: MessageNumber) -> bool
+        ensures { λ r. ⌜ r ≡ among (m .0) (sendNumbers self) ⌝ }
     {
-        let bytes = self.bytes;
-        let count = self.count;
+        let messages = self.messages;
+        let sent = self.count;
         let mut i: usize = 0;
-        while i < 32 {
-            if i == count {
+        while i < MAX_DEPTH {
+            if i == sent {
                 return false;
             }
-            if bytes[i] == n {
+            let x = messages[i];
+            if x.0 == m.0 {
                 return true;
             }
             i += 1;
@@ -63,51 +66,51 @@ impl Numbers {
         false
     }
 
-    // One number more; a full list stays as it is.
-    fn with(self, n: u8) -> Numbers
-        ensures { λ r. ⌜ r ≡ withNumber self n ⌝ }
+    // One message more; a full list stays as it is.
+    pub fn with(self, m: MessageNumber) -> Sends
+        ensures { λ r. ⌜ r ≡ sendsWith self m ⌝ }
     {
         let at = self.count;
         let mut next = self;
-        if at < 32 {
-            next.bytes[at] = n;
+        if at < MAX_DEPTH {
+            next.messages[at] = m;
             next.count = at + 1;
         }
         next
     }
 }
 
-impl Sends {
-    pub fn has(self, m: MessageNumber) -> bool
-        ensures { λ r. ⌜ r ≡ among (m .0) (numbersOf (self .0)) ⌝ }
-    {
-        let all = self.0;
-        all.has(m.0)
-    }
-
-    // One message more; a full list stays as it is.
-    pub fn with(self, m: MessageNumber) -> Sends
-        ensures { λ r. ⌜ r .0 ≡ withNumber (self .0) (m .0) ⌝ }
-    {
-        let all = self.0;
-        Sends(all.with(m.0))
-    }
-}
-
 impl Labels {
     pub fn has(self, n: LabelNumber) -> bool
-        ensures { λ r. ⌜ r ≡ among (n .0) (numbersOf (self .0)) ⌝ }
+        ensures { λ r. ⌜ r ≡ among (n .0) (labelNumbers self) ⌝ }
     {
-        let all = self.0;
-        all.has(n.0)
+        let labels = self.labels;
+        let around = self.count;
+        let mut i: usize = 0;
+        while i < MAX_DEPTH {
+            if i == around {
+                return false;
+            }
+            let x = labels[i];
+            if x.0 == n.0 {
+                return true;
+            }
+            i += 1;
+        }
+        false
     }
 
     // One label more; a full list stays as it is.
     pub fn with(self, n: LabelNumber) -> Labels
-        ensures { λ r. ⌜ r .0 ≡ withNumber (self .0) (n .0) ⌝ }
+        ensures { λ r. ⌜ r ≡ labelsWith self n ⌝ }
     {
-        let all = self.0;
-        Labels(all.with(n.0))
+        let end = self.count;
+        let mut next = self;
+        if end < MAX_DEPTH {
+            next.labels[end] = n;
+            next.count = end + 1;
+        }
+        next
     }
 }
 
@@ -118,7 +121,7 @@ impl Scope {
         let contexts = self.contexts;
         let count = self.count;
         let mut i: usize = 0;
-        while i < 32 {
+        while i < MAX_CONTEXTS {
             if i == count {
                 return Found::Nothing;
             }
@@ -137,7 +140,7 @@ impl Scope {
     {
         let place = self.count;
         let mut next = self;
-        if place < 32 {
+        if place < MAX_CONTEXTS {
             next.contexts[place] = x;
             next.count = place + 1;
         }

@@ -8,17 +8,27 @@ ghost use Rattle.steps.specs.Fields.{stands};
 ghost use Rattle.grammar.specs.Messages.{scaleByte, sizeWord};
 ghost use Rattle.grammar.specs.Sizes.{countInRange};
 ghost use Rattle.grammar.specs.Statements.{countByte};
-ghost use Rattle.grammar.specs.Steps.{stepOf, noKind, byteStep, wordStep};
+ghost use Rattle.grammar.specs.Internal.Steps.{stepOf, noKind, byteStep, contextStep, messageStep, labelStep, wordStep};
 use dictionary::check::scale_in_range;
 use dictionary::check::size_in_range;
 use grammar::ByteStep;
+use grammar::ContextStep;
 use grammar::Cursor;
 use grammar::Fit;
+use grammar::LabelStep;
+use grammar::MessageStep;
 use grammar::Refusal;
 use grammar::Step;
 use grammar::WordStep;
 use wire::bytes::byte_at;
 use wire::bytes::word_at;
+use wire::limits::MAX_STREAMS;
+use wire::numbers::ContextNumber;
+use wire::numbers::LabelNumber;
+use wire::numbers::MessageNumber;
+
+// The bytes of a word.
+const WORD_BYTES: usize = 2;
 
 // The cursor n bytes on.
 fn moved(c: Cursor, n: usize, length: usize) -> Cursor
@@ -54,6 +64,36 @@ pub fn next_byte(s: &[u8], c: Cursor) -> ByteStep
     }
 }
 
+// The number of a context.
+pub fn next_context(s: &[u8], c: Cursor) -> ContextStep
+    ensures { λ r. ⌜ r ≡ contextStep (byte (now (s .entry)) c) ⌝ }
+{
+    match next_byte(s, c) {
+        ByteStep::Is(n, next) => ContextStep::Is(ContextNumber(n), next),
+        ByteStep::Refused(r, p) => ContextStep::Refused(r, p),
+    }
+}
+
+// The number of a message.
+pub fn next_message(s: &[u8], c: Cursor) -> MessageStep
+    ensures { λ r. ⌜ r ≡ messageStep (byte (now (s .entry)) c) ⌝ }
+{
+    match next_byte(s, c) {
+        ByteStep::Is(n, next) => MessageStep::Is(MessageNumber(n), next),
+        ByteStep::Refused(r, p) => MessageStep::Refused(r, p),
+    }
+}
+
+// The number of a label.
+pub fn next_label(s: &[u8], c: Cursor) -> LabelStep
+    ensures { λ r. ⌜ r ≡ labelStep (byte (now (s .entry)) c) ⌝ }
+{
+    match next_byte(s, c) {
+        ByteStep::Is(n, next) => LabelStep::Is(LabelNumber(n), next),
+        ByteStep::Refused(r, p) => LabelStep::Refused(r, p),
+    }
+}
+
 // The next byte, which stays.
 pub fn peek_byte(s: &[u8], c: Cursor) -> ByteStep
     ensures { λ r. ⌜ r ≡ byteStep (peek (now (s .entry)) c) ⌝ }
@@ -69,8 +109,8 @@ pub fn peek_byte(s: &[u8], c: Cursor) -> ByteStep
 pub fn next_word(s: &[u8], c: Cursor) -> WordStep
     ensures { λ r. ⌜ r ≡ wordStep (word (now (s .entry)) c) ⌝ }
 {
-    if stand(s, c.at, 2) {
-        WordStep::Is(word_at(s, c.at), moved(c, 2, s.len()))
+    if stand(s, c.at, WORD_BYTES) {
+        WordStep::Is(word_at(s, c.at), moved(c, WORD_BYTES, s.len()))
     } else {
         WordStep::Refused(Refusal::EndsEarly, s.len())
     }
@@ -149,7 +189,11 @@ pub fn size_word(s: &[u8], c: Cursor) -> WordStep
 fn count_in_range(n: u8) -> bool
     ensures { λ r. ⌜ r ≡ countInRange n ⌝ }
 {
-    if n < 1 { false } else { n <= 8 }
+    if n < 1 {
+        false
+    } else {
+        n as usize <= MAX_STREAMS
+    }
 }
 
 // The count of an rse's streams or of a sort's values.

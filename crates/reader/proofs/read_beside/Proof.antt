@@ -8,7 +8,7 @@ use Rattle.reader.proofs.read_beside.Tie as tie
 use Rattle.reader.proofs.read_beside.Reads as reads
 use Rattle.reader.proofs.read_beside.Lts as lts
 use Rattle.reader.proofs.request.read_whole.Reads as read-whole-reads
-use Rattle.reader.proofs.tables.clear.Reads as clear-reads
+use Rattle.wire.proofs.table.clear.Reads as clear-reads
 
 -- src/lib.rt:25:9
 read-whole-requires : tie.Need-read-whole-requires

@@ -8,7 +8,7 @@ use Rattle.reader.proofs.read_noting.Reads as reads
 use Rattle.reader.proofs.read_noting.Lts as lts
 use Rattle.reader.proofs.before.judge.Reads as judge-reads
 use Rattle.reader.proofs.read_beside.Reads as read-beside-reads
-use Rattle.reader.proofs.tables.clear.Reads as clear-reads
+use Rattle.wire.proofs.table.clear.Reads as clear-reads
 
 -- src/lib.rt:45:5
 clear-requires : tie.Need-clear-requires

@@ -5,7 +5,7 @@ use borrow.Author.Tests.{leb-true}
 use Rattle.wire.specs.Words.{byteAt}
 use Rattle.grammar.specs.declared.ByteStep.the-variants.{Is}
 use Rattle.grammar.specs.Reader.{on}
-use Rattle.grammar.specs.Steps.{byteStep}
+use Rattle.grammar.specs.Internal.Steps.{byteStep}
 use Rattle.grammar.proofs.StepLaws.{taken-whole, taken-cut}
 use borrow.Author.Needs.{needs}
 use Rattle.steps.proofs.next_byte.Statement.{statement}

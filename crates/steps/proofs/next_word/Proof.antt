@@ -5,7 +5,7 @@ use borrow.Author.Tests.{leb-true}
 use Rattle.wire.specs.Words.{wordAt}
 use Rattle.grammar.specs.declared.WordStep.the-variants.{Is}
 use Rattle.grammar.specs.Reader.{on}
-use Rattle.grammar.specs.Steps.{wordStep}
+use Rattle.grammar.specs.Internal.Steps.{wordStep}
 use Rattle.grammar.proofs.StepLaws.{taken-whole, taken-cut}
 use borrow.Author.Needs.{needs}
 use Rattle.steps.proofs.next_word.Statement.{statement}

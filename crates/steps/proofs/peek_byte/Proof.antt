@@ -1,6 +1,6 @@
 use mathlib.Core.Path.{_≡_, refl, sym, ap, ap₂, _∙_}
 use Rattle.grammar.specs.declared.ByteStep.the-variants.{Is}
-use Rattle.grammar.specs.Steps.{byteStep}
+use Rattle.grammar.specs.Internal.Steps.{byteStep}
 use Rattle.grammar.proofs.StepLaws.{peek-here, peek-past}
 use borrow.Author.Needs.{needs}
 use Rattle.steps.proofs.peek_byte.Statement.{statement}

@@ -5,7 +5,7 @@ use borrow.Author.Tests.{leb-true}
 use Rattle.grammar.specs.declared.Step.the-variants.{Next}
 use Rattle.grammar.specs.declared.Fit.the-variants.{NoKind}
 use Rattle.grammar.specs.Reader.{on}
-use Rattle.grammar.specs.Steps.{stepOf, noKind}
+use Rattle.grammar.specs.Internal.Steps.{stepOf, noKind}
 use Rattle.grammar.proofs.StepLaws.{taken-whole, taken-cut}
 use borrow.Author.Needs.{needs}
 use Rattle.steps.proofs.skip.Statement.{statement}

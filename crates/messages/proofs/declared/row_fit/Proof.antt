@@ -10,6 +10,9 @@ use borrow.Author.Needs.{needs}
 use Rattle.messages.proofs.declared.row_fit.Statement.{statement}
 use Rattle.messages.proofs.declared.row_fit.Tie as tie
 
+cast-if1 : tie.Need-cast-if1
+cast-if1 c = search needs
+
 cast-scale-of : tie.Need-cast-scale-of
 cast-scale-of c = search needs
 
@@ -22,6 +25,9 @@ returns c =
     let if1′ = c .before .if1 in
     let scale-of′ = c .scale-of in
     rw (descriptorOf, eq-eqb _ 7 (if1′ .taken)) (ap Number (toZ-ofZ (record { sfits = scale-of′ .ok }) ∙ scale-of′ .ensures))
+
+cast-if2 : tie.Need-cast-if2
+cast-if2 c = search needs
 
 cast-scale-of-2 : tie.Need-cast-scale-of-2
 cast-scale-of-2 c = search needs
@@ -38,6 +44,9 @@ returns-2 c =
     rw (descriptorOf, ne-eqb _ 7 (if1′ .left), eq-eqb _ 8 (if2′ .taken))
     (ap Number (toZ-ofZ (record { sfits = scale-of2′ .ok }) ∙ scale-of2′ .ensures))
 
+cast-if3 : tie.Need-cast-if3
+cast-if3 c = search needs
+
 returns-3 : tie.Need-returns-3
 unfolding descriptorOf descriptorFormat formatKind
 returns-3 c =
@@ -45,6 +54,9 @@ returns-3 c =
     let if2′ = c .before .if2 in
     let if3′ = c .if3 in
     rw (descriptorOf, ne-eqb _ 7 (if1′ .left), ne-eqb _ 8 (if2′ .left), eq-eqb _ 14 (if3′ .taken))
+
+cast-if4 : tie.Need-cast-if4
+cast-if4 c = search needs
 
 returns-4 : tie.Need-returns-4
 unfolding descriptorOf descriptorFormat formatKind
@@ -54,6 +66,9 @@ returns-4 c =
     let if3′ = c .before .if3 in
     let if4′ = c .if4 in
     rw (descriptorOf, ne-eqb _ 7 (if1′ .left), ne-eqb _ 8 (if2′ .left), ne-eqb _ 14 (if3′ .left), eq-eqb _ 37 (if4′ .taken))
+
+cast-if5 : tie.Need-cast-if5
+cast-if5 c = search needs
 
 returns-5 : tie.Need-returns-5
 unfolding descriptorOf descriptorFormat formatKind
@@ -95,13 +110,18 @@ pub row-fit-spec : {M : Type 1} → statement M
 row-fit-spec =
     tie.close
     (tie.spec
+    cast-if1
     cast-scale-of
     scale-of-requires
     returns
+    cast-if2
     cast-scale-of-2
     scale-of-requires-2
     returns-2
+    cast-if3
     returns-3
+    cast-if4
     returns-4
+    cast-if5
     returns-5
     returns-6)

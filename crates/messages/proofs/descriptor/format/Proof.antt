@@ -4,7 +4,6 @@ use Rattle.dictionary.specs.Format.{held}
 use Rattle.grammar.specs.Messages.{scaleByte, sizeWord, descriptorUnder}
 use Rattle.grammar.specs.Environment.{descriptorFormat}
 use Rattle.grammar.proofs.StepLaws.{byte-read, byte-refused, word-read, word-refused}
-use Rattle.messages.proofs.Descriptors.{size-read}
 use borrow.Author.Needs.{needs}
 use Rattle.messages.proofs.descriptor.format.Statement.{statement}
 use Rattle.messages.proofs.descriptor.format.Tie as tie
@@ -37,12 +36,7 @@ enum-known-n : tie.Need-enum-known-n
 enum-known-n c = search needs
 
 text-bytes-requires : tie.Need-text-bytes-requires
-text-bytes-requires c κs =
-    let args′ = c .before .before .before .before .before .before .before .before .args in
-    let n′ = c .before .n in
-    let size-word′ = c .before .before .before .size-word in
-    size-read (args′ .request .now) (args′ .c) (word-read (sizeWord (args′ .request .now) (args′ .c))
-    (sym (n′ .given .1) ∙ size-word′ .ensures))
+text-bytes-requires c κs = search needs
 
 enum-known-r-2 : tie.Need-enum-known-r-2
 enum-known-r-2 c = search needs

@@ -2,15 +2,15 @@
 use mathlib.Core.Path.{sym, _∙_}
 use native.Mathlib.Omega.{arith}
 use Rattle.grammar.specs.Reader.{byte, word}
-use Rattle.grammar.proofs.StepLaws.{byte-read, byte-refused, word-read, word-refused}
+use Rattle.grammar.proofs.StepLaws.{message-read, message-refused, word-read, word-refused}
 use Rattle.messages.proofs.Readings.{told-refused, message-ended, message-again, message-cut, message-great, message-over}
 use Rattle.messages.proofs.Readings.{message-told, message-untold}
 use borrow.Author.Needs.{needs}
 use Rattle.messages.proofs.reading.read_message.Statement.{statement}
 use Rattle.messages.proofs.reading.read_message.Tie as tie
 
-next-byte-requires : tie.Need-next-byte-requires
-next-byte-requires c κs = search needs
+next-message-requires : tie.Need-next-message-requires
+next-message-requires c κs = search needs
 
 enum-known-m : tie.Need-enum-known-m
 enum-known-m c = search needs
@@ -22,8 +22,8 @@ returns : tie.Need-returns
 returns c =
     let args′ = c .before .before .before .before .before .args in
     let enum-told′ = c .enum-told in
-    let next-byte′ = c .before .before .next-byte in
-    let e = byte-refused (byte (args′ .request .now) (args′ .c)) (sym (enum-told′ .given .1) ∙ next-byte′ .ensures) in
+    let next-message′ = c .before .before .next-message in
+    let e = message-refused (byte (args′ .request .now) (args′ .c)) (sym (enum-told′ .given .1) ∙ next-message′ .ensures) in
     told-refused (args′ .request .now) (args′ .c) (args′ .before) (args′ .table .now)
     (message-ended (args′ .request .now) (args′ .c) (args′ .before) (args′ .table .now) e) (args′ .table .now)
 
@@ -37,10 +37,10 @@ returns-2 : tie.Need-returns-2
 returns-2 c =
     let args′ = c .before .before .before .before .before .before .before .before .before .args in
     let m′ = c .before .before .before .before .m in
-    let next-byte′ = c .before .before .before .before .before .before .next-byte in
+    let next-message′ = c .before .before .before .before .before .before .next-message in
     let find′ = c .before .before .find in
     let enum-told2′ = c .enum-told2 in
-    let e = byte-read (byte (args′ .request .now) (args′ .c)) (sym (m′ .given .1) ∙ next-byte′ .ensures) in
+    let e = message-read (byte (args′ .request .now) (args′ .c)) (sym (m′ .given .1) ∙ next-message′ .ensures) in
     let f = sym (find′ .ensures) ∙ enum-told2′ .given .1 in
     told-refused (args′ .request .now) (args′ .c) (args′ .before) (args′ .table .now)
     (message-again (args′ .request .now) (args′ .c) (args′ .before) (args′ .table .now) e f) (args′ .table .now)
@@ -61,12 +61,12 @@ returns-3 : tie.Need-returns-3
 returns-3 c =
     let args′ = c .before .before .before .before .before .before .before .before .before .before .before .before .args in
     let m′ = c .before .before .before .before .before .before .before .m in
-    let next-byte′ = c .before .before .before .before .before .before .before .before .before .next-byte in
+    let next-message′ = c .before .before .before .before .before .before .before .before .before .next-message in
     let find′ = c .before .before .before .before .before .find in
     let enum-told3′ = c .before .before .before .enum-told3 in
     let enum-told4′ = c .enum-told4 in
     let next-word′ = c .before .before .next-word in
-    let e = byte-read (byte (args′ .request .now) (args′ .c)) (sym (m′ .given .1) ∙ next-byte′ .ensures) in
+    let e = message-read (byte (args′ .request .now) (args′ .c)) (sym (m′ .given .1) ∙ next-message′ .ensures) in
     let f = sym (find′ .ensures) ∙ enum-told3′ .given .1 in
     let g = word-refused (word (args′ .request .now) (m′ .given .0 .1 .0)) (sym (enum-told4′ .given .1) ∙ next-word′ .ensures) in
     told-refused (args′ .request .now) (args′ .c) (args′ .before) (args′ .table .now)
@@ -79,13 +79,13 @@ returns-4 : tie.Need-returns-4
 returns-4 c =
     let args′ = c .before .before .before .before .before .before .before .before .before .before .before .before .before .before .args in
     let m′ = c .before .before .before .before .before .before .before .before .before .m in
-    let next-byte′ = c .before .before .before .before .before .before .before .before .before .before .before .next-byte in
+    let next-message′ = c .before .before .before .before .before .before .before .before .before .before .before .next-message in
     let find′ = c .before .before .before .before .before .before .before .find in
     let enum-told3′ = c .before .before .before .before .before .enum-told3 in
     let n′ = c .before .before .n in
     let next-word′ = c .before .before .before .before .next-word in
     let if1′ = c .if1 in
-    let e = byte-read (byte (args′ .request .now) (args′ .c)) (sym (m′ .given .1) ∙ next-byte′ .ensures) in
+    let e = message-read (byte (args′ .request .now) (args′ .c)) (sym (m′ .given .1) ∙ next-message′ .ensures) in
     let f = sym (find′ .ensures) ∙ enum-told3′ .given .1 in
     let g = word-read (word (args′ .request .now) (m′ .given .0 .1 .0)) (sym (n′ .given .1) ∙ next-word′ .ensures) in
     told-refused (args′ .request .now) (args′ .c) (args′ .before) (args′ .table .now)
@@ -99,14 +99,14 @@ returns-5 c =
     let args′ = c .before .before .before .before .before .before .before .before .before .before .before .before .before .before
     .before .before .args in
     let m′ = c .before .before .before .before .before .before .before .before .before .before .before .m in
-    let next-byte′ = c .before .before .before .before .before .before .before .before .before .before .before .before .before .next-byte in
+    let next-message′ = c .before .before .before .before .before .before .before .before .before .before .before .before .before .next-message in
     let find′ = c .before .before .before .before .before .before .before .before .before .find in
     let enum-told3′ = c .before .before .before .before .before .before .before .enum-told3 in
     let n′ = c .before .before .before .before .n in
     let next-word′ = c .before .before .before .before .before .before .next-word in
     let if1′ = c .before .before .if1 in
     let if2′ = c .if2 in
-    let e = byte-read (byte (args′ .request .now) (args′ .c)) (sym (m′ .given .1) ∙ next-byte′ .ensures) in
+    let e = message-read (byte (args′ .request .now) (args′ .c)) (sym (m′ .given .1) ∙ next-message′ .ensures) in
     let f = sym (find′ .ensures) ∙ enum-told3′ .given .1 in
     let g = word-read (word (args′ .request .now) (m′ .given .0 .1 .0)) (sym (n′ .given .1) ∙ next-word′ .ensures) in
     told-refused (args′ .request .now) (args′ .c) (args′ .before) (args′ .table .now)
@@ -138,8 +138,8 @@ returns-6 c =
     .before .before .before .before .before .before .before .before .before .before .before .args in
     let m′ = c .before .before .before .before .before .before .before .before .before .before .before .before .before .before .before
     .before .before .before .before .before .m in
-    let next-byte′ = c .before .before .before .before .before .before .before .before .before .before .before .before .before .before
-    .before .before .before .before .before .before .before .before .next-byte in
+    let next-message′ = c .before .before .before .before .before .before .before .before .before .before .before .before .before .before
+    .before .before .before .before .before .before .before .before .next-message in
     let find′ = c .before .before .before .before .before .before .before .before .before .before .before .before .before .before
     .before .before .before .before .find in
     let enum-told3′ = c .before .before .before .before .before .before .before .before .before .before .before .before .before .before
@@ -153,7 +153,7 @@ returns-6 c =
     let read-descriptors′ = c .before .before .before .before .before .before .read-descriptors in
     let after′ = c .before .before .after in
     let message-of′ = c .message-of in
-    let e = byte-read (byte (args′ .request .now) (args′ .c)) (sym (m′ .given .1) ∙ next-byte′ .ensures) in
+    let e = message-read (byte (args′ .request .now) (args′ .c)) (sym (m′ .given .1) ∙ next-message′ .ensures) in
     let f = sym (find′ .ensures) ∙ enum-told3′ .given .1 in
     let g = word-read (word (args′ .request .now) (m′ .given .0 .1 .0)) (sym (n′ .given .1) ∙ next-word′ .ensures) in
     message-told (args′ .request .now) (args′ .c) (args′ .before) (args′ .table .now) e f g (if1′ .left) (if2′ .left)
@@ -168,8 +168,8 @@ returns-7 c =
     .before .before .before .before .before .before .before .before .before .before .args in
     let m′ = c .before .before .before .before .before .before .before .before .before .before .before .before .before .before .before
     .before .before .before .before .m in
-    let next-byte′ = c .before .before .before .before .before .before .before .before .before .before .before .before .before .before
-    .before .before .before .before .before .before .before .next-byte in
+    let next-message′ = c .before .before .before .before .before .before .before .before .before .before .before .before .before .before
+    .before .before .before .before .before .before .before .next-message in
     let find′ = c .before .before .before .before .before .before .before .before .before .before .before .before .before .before
     .before .before .before .find in
     let enum-told3′ = c .before .before .before .before .before .before .before .before .before .before .before .before .before .before
@@ -182,7 +182,7 @@ returns-7 c =
     let first-parameter′ = c .before .before .before .before .before .before .before .first-parameter in
     let read-descriptors′ = c .before .before .before .before .before .read-descriptors in
     let r′ = c .before .r in
-    let e = byte-read (byte (args′ .request .now) (args′ .c)) (sym (m′ .given .1) ∙ next-byte′ .ensures) in
+    let e = message-read (byte (args′ .request .now) (args′ .c)) (sym (m′ .given .1) ∙ next-message′ .ensures) in
     let f = sym (find′ .ensures) ∙ enum-told3′ .given .1 in
     let g = word-read (word (args′ .request .now) (m′ .given .0 .1 .0)) (sym (n′ .given .1) ∙ next-word′ .ensures) in
     message-untold (args′ .request .now) (args′ .c) (args′ .before) (args′ .table .now) e f g (if1′ .left) (if2′ .left)
@@ -192,7 +192,7 @@ pub read-message-spec : {M : Type 1} → statement M
 read-message-spec =
     tie.close
     (tie.spec
-    next-byte-requires
+    next-message-requires
     enum-known-m
     enum-told
     returns

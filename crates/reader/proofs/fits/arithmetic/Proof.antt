@@ -1,4 +1,4 @@
-use Rattle.grammar.specs.Steps.{kindIn}
+use Rattle.grammar.specs.Internal.Steps.{kindIn}
 use Rattle.grammar.specs.Kinds.{arithmeticKind, negatedKind}
 use Rattle.reader.proofs.Values.{fitted-kind}
 use Rattle.scopes.proofs.Scopes.{kind-fit}
@@ -43,7 +43,8 @@ returns c =
     let b′ = c .before .before .before .b in
     let fitted′ = c .fitted in
     let arithmetic-fit′ = c .before .arithmetic-fit in
-    let h = fitted-kind (arithmeticKind (args′ .o) (kindIn (a′ .given .0 .0)) (kindIn (b′ .given .0 .0))) _ _ _ (fitted′ .ensures) (arithmetic-fit′ .ensures) in rw (a′ .given .1, b′ .given .1) h
+    let h = fitted-kind (arithmeticKind (args′ .o) (kindIn (a′ .given .0 .0)) (kindIn (b′ .given .0 .0))) _ _ _ (fitted′ .ensures) (arithmetic-fit′ .ensures) in
+    rw (a′ .given .1, b′ .given .1) h
 
 -- src/fits.rt:52:1
 returns-2 : tie.Need-returns-2

@@ -1,4 +1,4 @@
-use Rattle.grammar.specs.Steps.{kindIn}
+use Rattle.grammar.specs.Internal.Steps.{kindIn}
 use Rattle.grammar.specs.Kinds.{arithmeticKind, negatedKind}
 use Rattle.reader.proofs.Values.{fitted-kind}
 use Rattle.scopes.proofs.Scopes.{kind-fit}

@@ -14,35 +14,27 @@ use Rattle.reader.proofs.heads.boolean_at.Lts as lts
 use Rattle.classes.proofs.boolean_class.Reads as boolean-class-reads
 use Rattle.steps.proofs.next_byte.Reads as next-byte-reads
 
--- src/heads.rt:56:11
 next-byte-requires : tie.Need-next-byte-requires
 next-byte-requires c κs = search needs
 
--- src/heads.rt:57:22
 enum-known-x : tie.Need-enum-known-x
 enum-known-x c = search needs
 
--- src/heads.rt:57:41
 boolean-class-requires : tie.Need-boolean-class-requires
 boolean-class-requires c κs = search needs
 
--- src/heads.rt:58:31
 enum-known-k : tie.Need-enum-known-k
 enum-known-k c = search needs
 
--- src/heads.rt:63:59
 enum-told : tie.Need-enum-told
 enum-told c = search needs
 
--- src/heads.rt:64:59
 enum-told-2 : tie.Need-enum-told-2
 enum-told-2 c = search needs
 
--- src/heads.rt:66:27
 enum-known-r : tie.Need-enum-known-r
 enum-known-r c = search needs
 
--- src/heads.rt:53:1
 returns : tie.Need-returns
 returns c =
     let args′ = c .before .before .before .before .before .before .before .before .before .before .args in
@@ -51,9 +43,12 @@ returns c =
     let boolean-class′ = c .before .before .before .before .boolean-class in
     let k′ = c .before .before .k in
     let if1′ = c .if1 in
-    sym (ap booleanHead (leveled-deep booleanClass (args′ .request .now) (args′ .c) (args′ .levels) (coded-due booleanClass _ _ (byte-read (byte (args′ .request .now) (args′ .c)) (sym (x′ .given .1) ∙ next-byte′ .ensures)) (sym (boolean-class′ .ensures) ∙ ap booleanClassOf (k′ .given .1))) (if1′ .taken)))
+    let s = args′ .request .now in
+    let from = args′ .c in
+    let here = byte-read (byte s from) (sym (x′ .given .1) ∙ next-byte′ .ensures) in
+    let told = sym (boolean-class′ .ensures) ∙ ap booleanClassOf (k′ .given .1) in
+    sym (ap booleanHead (leveled-deep booleanClass s from (args′ .levels) (coded-due booleanClass _ _ here told) (if1′ .taken)))
 
--- src/heads.rt:53:1
 returns-2 : tie.Need-returns-2
 returns-2 c =
     let args′ = c .before .before .before .before .before .before .before .before .before .before .args in
@@ -62,9 +57,12 @@ returns-2 c =
     let boolean-class′ = c .before .before .before .before .boolean-class in
     let k′ = c .before .before .k in
     let if1′ = c .if1 in
-    sym (ap booleanHead (leveled-due booleanClass (args′ .request .now) (args′ .c) (args′ .levels) (coded-due booleanClass _ _ (byte-read (byte (args′ .request .now) (args′ .c)) (sym (x′ .given .1) ∙ next-byte′ .ensures)) (sym (boolean-class′ .ensures) ∙ ap booleanClassOf (k′ .given .1))) (if1′ .left)))
+    let s = args′ .request .now in
+    let from = args′ .c in
+    let here = byte-read (byte s from) (sym (x′ .given .1) ∙ next-byte′ .ensures) in
+    let told = sym (boolean-class′ .ensures) ∙ ap booleanClassOf (k′ .given .1) in
+    sym (ap booleanHead (leveled-due booleanClass s from (args′ .levels) (coded-due booleanClass _ _ here told) (if1′ .left)))
 
--- src/heads.rt:53:1
 returns-3 : tie.Need-returns-3
 returns-3 c =
     let args′ = c .before .before .before .before .before .before .before .before .args in
@@ -72,9 +70,12 @@ returns-3 c =
     let next-byte′ = c .before .before .before .before .before .before .next-byte in
     let boolean-class′ = c .before .before .boolean-class in
     let enum-told′ = c .enum-told in
-    sym (ap booleanHead (leveled-refused booleanClass (args′ .request .now) (args′ .c) (args′ .levels) (coded-out booleanClass _ _ (byte-read (byte (args′ .request .now) (args′ .c)) (sym (x′ .given .1) ∙ next-byte′ .ensures)) (sym (boolean-class′ .ensures) ∙ ap booleanClassOf (enum-told′ .given .1)))))
+    let s = args′ .request .now in
+    let from = args′ .c in
+    let here = byte-read (byte s from) (sym (x′ .given .1) ∙ next-byte′ .ensures) in
+    let told = sym (boolean-class′ .ensures) ∙ ap booleanClassOf (enum-told′ .given .1) in
+    sym (ap booleanHead (leveled-refused booleanClass s from (args′ .levels) (coded-out booleanClass _ _ here told)))
 
--- src/heads.rt:53:1
 returns-4 : tie.Need-returns-4
 returns-4 c =
     let args′ = c .before .before .before .before .before .before .before .before .args in
@@ -82,15 +83,21 @@ returns-4 c =
     let next-byte′ = c .before .before .before .before .before .before .next-byte in
     let boolean-class′ = c .before .before .boolean-class in
     let enum-told2′ = c .enum-told2 in
-    sym (ap booleanHead (leveled-refused booleanClass (args′ .request .now) (args′ .c) (args′ .levels) (coded-foreign booleanClass _ _ (byte-read (byte (args′ .request .now) (args′ .c)) (sym (x′ .given .1) ∙ next-byte′ .ensures)) (sym (boolean-class′ .ensures) ∙ ap booleanClassOf (enum-told2′ .given .1)))))
+    let s = args′ .request .now in
+    let from = args′ .c in
+    let here = byte-read (byte s from) (sym (x′ .given .1) ∙ next-byte′ .ensures) in
+    let told = sym (boolean-class′ .ensures) ∙ ap booleanClassOf (enum-told2′ .given .1) in
+    sym (ap booleanHead (leveled-refused booleanClass s from (args′ .levels) (coded-foreign booleanClass _ _ here told)))
 
--- src/heads.rt:53:1
 returns-5 : tie.Need-returns-5
 returns-5 c =
     let args′ = c .before .before .before .before .before .args in
     let r′ = c .before .r in
     let next-byte′ = c .before .before .before .next-byte in
-    sym (ap booleanHead (leveled-refused booleanClass (args′ .request .now) (args′ .c) (args′ .levels) (coded-cut booleanClass _ _ (byte-refused (byte (args′ .request .now) (args′ .c)) (sym (r′ .given .1) ∙ next-byte′ .ensures)))))
+    let s = args′ .request .now in
+    let from = args′ .c in
+    let here = byte-refused (byte s from) (sym (r′ .given .1) ∙ next-byte′ .ensures) in
+    sym (ap booleanHead (leveled-refused booleanClass s from (args′ .levels) (coded-cut booleanClass _ _ here)))
 
 pub boolean-at-spec : {M : Type 1} → statement M
 boolean-at-spec =

@@ -5,26 +5,21 @@ use Rattle.reader.proofs.heads.clause_after.Reads as reads
 use Rattle.reader.proofs.heads.clause_after.Lts as lts
 use Rattle.reader.proofs.heads.clause_at.Reads as clause-at-reads
 
--- src/heads.rt:174:23
 enum-known-from : tie.Need-enum-known-from
 enum-known-from c = search needs
 
--- src/heads.rt:174:29
 clause-at-requires : tie.Need-clause-at-requires
 clause-at-requires c κs = search needs
 
--- src/heads.rt:175:23
 enum-known-from-2 : tie.Need-enum-known-from-2
 enum-known-from-2 c = search needs
 
--- src/heads.rt:170:1
 returns : tie.Need-returns
 returns c =
     let clause-at′ = c .clause-at in
     let from′ = c .before .before .from in
     rw (clause-at′ .ensures, from′ .given .1)
 
--- src/heads.rt:170:1
 returns-2 : tie.Need-returns-2
 returns-2 c =
     let from2′ = c .before .from2 in

@@ -14,46 +14,36 @@ use Rattle.classes.proofs.clause_class.Reads as clause-class-reads
 use Rattle.reader.proofs.heads.clause_due.Reads as clause-due-reads
 use Rattle.steps.proofs.next_byte.Reads as next-byte-reads
 
--- src/heads.rt:153:9
 returns : tie.Need-returns
 returns c =
     let args′ = c .before .before .args in
     let if1′ = c .if1 in
     sym (ap clauseHead (clause-full (args′ .most) (args′ .such) (args′ .sorted) (args′ .request .now) (args′ .c) (if1′ .taken)))
 
--- src/heads.rt:155:11
 next-byte-requires : tie.Need-next-byte-requires
 next-byte-requires c κs = search needs
 
--- src/heads.rt:156:22
 enum-known-x : tie.Need-enum-known-x
 enum-known-x c = search needs
 
--- src/heads.rt:156:41
 clause-class-requires : tie.Need-clause-class-requires
 clause-class-requires c κs = search needs
 
--- src/heads.rt:157:30
 enum-known-k : tie.Need-enum-known-k
 enum-known-k c = search needs
 
--- src/heads.rt:157:39
 clause-due-requires : tie.Need-clause-due-requires
 clause-due-requires c κs = search needs
 
--- src/heads.rt:162:57
 enum-told : tie.Need-enum-told
 enum-told c = search needs
 
--- src/heads.rt:163:57
 enum-told-2 : tie.Need-enum-told-2
 enum-told-2 c = search needs
 
--- src/heads.rt:165:27
 enum-known-r : tie.Need-enum-known-r
 enum-known-r c = search needs
 
--- src/heads.rt:149:1
 returns-2 : tie.Need-returns-2
 returns-2 c =
     let args′ = c .before .before .before .before .before .before .before .before .before .before .before .before .args in
@@ -64,9 +54,13 @@ returns-2 c =
     let k′ = c .before .before .before .k in
     let clause-due′ = c .before .clause-due in
     let if2′ = c .if2 in
-    sym (ap clauseHead (clause-stands (args′ .most) (args′ .such) (args′ .sorted) (args′ .request .now) (args′ .c) (if1′ .left) (coded-due clauseClass _ _ (byte-read (byte (args′ .request .now) (args′ .c)) (sym (x′ .given .1) ∙ next-byte′ .ensures)) (sym (clause-class′ .ensures) ∙ ap clauseClassOf (k′ .given .1))) (sym (clause-due′ .ensures) ∙ if2′ .taken)))
+    let s = args′ .request .now in
+    let from = args′ .c in
+    let here = byte-read (byte s from) (sym (x′ .given .1) ∙ next-byte′ .ensures) in
+    let told = sym (clause-class′ .ensures) ∙ ap clauseClassOf (k′ .given .1) in
+    let due = sym (clause-due′ .ensures) ∙ if2′ .taken in
+    sym (ap clauseHead (clause-stands (args′ .most) (args′ .such) (args′ .sorted) s from (if1′ .left) (coded-due clauseClass _ _ here told) due))
 
--- src/heads.rt:149:1
 returns-3 : tie.Need-returns-3
 returns-3 c =
     let args′ = c .before .before .before .before .before .before .before .before .before .before .before .before .args in
@@ -77,9 +71,13 @@ returns-3 c =
     let k′ = c .before .before .before .k in
     let clause-due′ = c .before .clause-due in
     let if2′ = c .if2 in
-    sym (ap clauseHead (clause-twice (args′ .most) (args′ .such) (args′ .sorted) (args′ .request .now) (args′ .c) (if1′ .left) (coded-due clauseClass _ _ (byte-read (byte (args′ .request .now) (args′ .c)) (sym (x′ .given .1) ∙ next-byte′ .ensures)) (sym (clause-class′ .ensures) ∙ ap clauseClassOf (k′ .given .1))) (sym (clause-due′ .ensures) ∙ if2′ .left)))
+    let s = args′ .request .now in
+    let from = args′ .c in
+    let here = byte-read (byte s from) (sym (x′ .given .1) ∙ next-byte′ .ensures) in
+    let told = sym (clause-class′ .ensures) ∙ ap clauseClassOf (k′ .given .1) in
+    let due = sym (clause-due′ .ensures) ∙ if2′ .left in
+    sym (ap clauseHead (clause-twice (args′ .most) (args′ .such) (args′ .sorted) s from (if1′ .left) (coded-due clauseClass _ _ here told) due))
 
--- src/heads.rt:149:1
 returns-4 : tie.Need-returns-4
 returns-4 c =
     let args′ = c .before .before .before .before .before .before .before .before .before .args in
@@ -88,9 +86,12 @@ returns-4 c =
     let next-byte′ = c .before .before .before .before .before .before .next-byte in
     let clause-class′ = c .before .before .clause-class in
     let enum-told′ = c .enum-told in
-    sym (ap clauseHead (clause-refused (args′ .most) (args′ .such) (args′ .sorted) (args′ .request .now) (args′ .c) (if1′ .left) (coded-out clauseClass _ _ (byte-read (byte (args′ .request .now) (args′ .c)) (sym (x′ .given .1) ∙ next-byte′ .ensures)) (sym (clause-class′ .ensures) ∙ ap clauseClassOf (enum-told′ .given .1)))))
+    let s = args′ .request .now in
+    let from = args′ .c in
+    let here = byte-read (byte s from) (sym (x′ .given .1) ∙ next-byte′ .ensures) in
+    let told = sym (clause-class′ .ensures) ∙ ap clauseClassOf (enum-told′ .given .1) in
+    sym (ap clauseHead (clause-refused (args′ .most) (args′ .such) (args′ .sorted) s from (if1′ .left) (coded-out clauseClass _ _ here told)))
 
--- src/heads.rt:149:1
 returns-5 : tie.Need-returns-5
 returns-5 c =
     let args′ = c .before .before .before .before .before .before .before .before .before .args in
@@ -99,16 +100,22 @@ returns-5 c =
     let next-byte′ = c .before .before .before .before .before .before .next-byte in
     let clause-class′ = c .before .before .clause-class in
     let enum-told2′ = c .enum-told2 in
-    sym (ap clauseHead (clause-refused (args′ .most) (args′ .such) (args′ .sorted) (args′ .request .now) (args′ .c) (if1′ .left) (coded-foreign clauseClass _ _ (byte-read (byte (args′ .request .now) (args′ .c)) (sym (x′ .given .1) ∙ next-byte′ .ensures)) (sym (clause-class′ .ensures) ∙ ap clauseClassOf (enum-told2′ .given .1)))))
+    let s = args′ .request .now in
+    let from = args′ .c in
+    let here = byte-read (byte s from) (sym (x′ .given .1) ∙ next-byte′ .ensures) in
+    let told = sym (clause-class′ .ensures) ∙ ap clauseClassOf (enum-told2′ .given .1) in
+    sym (ap clauseHead (clause-refused (args′ .most) (args′ .such) (args′ .sorted) s from (if1′ .left) (coded-foreign clauseClass _ _ here told)))
 
--- src/heads.rt:149:1
 returns-6 : tie.Need-returns-6
 returns-6 c =
     let args′ = c .before .before .before .before .before .before .args in
     let if1′ = c .before .before .before .before .if1 in
     let r′ = c .before .r in
     let next-byte′ = c .before .before .before .next-byte in
-    sym (ap clauseHead (clause-refused (args′ .most) (args′ .such) (args′ .sorted) (args′ .request .now) (args′ .c) (if1′ .left) (coded-cut clauseClass _ _ (byte-refused (byte (args′ .request .now) (args′ .c)) (sym (r′ .given .1) ∙ next-byte′ .ensures)))))
+    let s = args′ .request .now in
+    let from = args′ .c in
+    let here = byte-refused (byte s from) (sym (r′ .given .1) ∙ next-byte′ .ensures) in
+    sym (ap clauseHead (clause-refused (args′ .most) (args′ .such) (args′ .sorted) s from (if1′ .left) (coded-cut clauseClass _ _ here)))
 
 pub clause-at-spec : {M : Type 1} → statement M
 clause-at-spec =

@@ -12,39 +12,30 @@ use Rattle.reader.proofs.heads.direction_after.Lts as lts
 use Rattle.classes.proofs.direction_class.Reads as direction-class-reads
 use Rattle.steps.proofs.next_byte.Reads as next-byte-reads
 
--- src/heads.rt:127:23
 enum-known-from : tie.Need-enum-known-from
 enum-known-from c = search needs
 
--- src/heads.rt:127:35
 next-byte-requires : tie.Need-next-byte-requires
 next-byte-requires c κs = search needs
 
--- src/heads.rt:128:26
 enum-known-x : tie.Need-enum-known-x
 enum-known-x c = search needs
 
--- src/heads.rt:128:45
 direction-class-requires : tie.Need-direction-class-requires
 direction-class-requires c κs = search needs
 
--- src/heads.rt:129:54
 enum-told : tie.Need-enum-told
 enum-told c = search needs
 
--- src/heads.rt:130:58
 enum-told-2 : tie.Need-enum-told-2
 enum-told-2 c = search needs
 
--- src/heads.rt:132:31
 enum-known-r : tie.Need-enum-known-r
 enum-known-r c = search needs
 
--- src/heads.rt:134:23
 enum-known-from-2 : tie.Need-enum-known-from-2
 enum-known-from-2 c = search needs
 
--- src/heads.rt:123:1
 returns : tie.Need-returns
 returns c =
     let args′ = c .before .before .before .before .before .before .before .before .before .before .before .args in
@@ -53,9 +44,12 @@ returns c =
     let next-byte′ = c .before .before .before .before .before .before .next-byte in
     let direction-class′ = c .before .before .direction-class in
     let enum-told′ = c .enum-told in
-    coded-after directionClass (args′ .request .now) (from′ .given .1) (coded-due directionClass _ _ (byte-read (byte (args′ .request .now) (from′ .given .0 .1 .0)) (sym (x′ .given .1) ∙ next-byte′ .ensures)) (sym (direction-class′ .ensures) ∙ ap directionClassOf (enum-told′ .given .1)))
+    let s = args′ .request .now in
+    let q = from′ .given .0 .1 .0 in
+    let here = byte-read (byte s q) (sym (x′ .given .1) ∙ next-byte′ .ensures) in
+    let told = sym (direction-class′ .ensures) ∙ ap directionClassOf (enum-told′ .given .1) in
+    coded-after directionClass s (from′ .given .1) (coded-due directionClass _ _ here told)
 
--- src/heads.rt:123:1
 returns-2 : tie.Need-returns-2
 returns-2 c =
     let args′ = c .before .before .before .before .before .before .before .before .before .before .before .args in
@@ -64,18 +58,23 @@ returns-2 c =
     let next-byte′ = c .before .before .before .before .before .before .next-byte in
     let direction-class′ = c .before .before .direction-class in
     let enum-told2′ = c .enum-told2 in
-    refused-after directionClass (args′ .request .now) (from′ .given .1) (coded-foreign directionClass _ _ (byte-read (byte (args′ .request .now) (from′ .given .0 .1 .0)) (sym (x′ .given .1) ∙ next-byte′ .ensures)) (sym (direction-class′ .ensures) ∙ ap directionClassOf (enum-told2′ .given .1)))
+    let s = args′ .request .now in
+    let q = from′ .given .0 .1 .0 in
+    let here = byte-read (byte s q) (sym (x′ .given .1) ∙ next-byte′ .ensures) in
+    let told = sym (direction-class′ .ensures) ∙ ap directionClassOf (enum-told2′ .given .1) in
+    refused-after directionClass s (from′ .given .1) (coded-foreign directionClass _ _ here told)
 
--- src/heads.rt:123:1
 returns-3 : tie.Need-returns-3
 returns-3 c =
     let args′ = c .before .before .before .before .before .before .before .before .args in
     let from′ = c .before .before .before .before .before .from in
     let r′ = c .before .r in
     let next-byte′ = c .before .before .before .next-byte in
-    refused-after directionClass (args′ .request .now) (from′ .given .1) (coded-cut directionClass _ _ (byte-refused (byte (args′ .request .now) (from′ .given .0 .1 .0)) (sym (r′ .given .1) ∙ next-byte′ .ensures)))
+    let s = args′ .request .now in
+    let q = from′ .given .0 .1 .0 in
+    let here = byte-refused (byte s q) (sym (r′ .given .1) ∙ next-byte′ .ensures) in
+    refused-after directionClass s (from′ .given .1) (coded-cut directionClass _ _ here)
 
--- src/heads.rt:123:1
 returns-4 : tie.Need-returns-4
 returns-4 c =
     let from2′ = c .before .from2 in

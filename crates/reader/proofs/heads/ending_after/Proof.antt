@@ -9,27 +9,21 @@ use Rattle.reader.proofs.heads.ending_after.Reads as reads
 use Rattle.reader.proofs.heads.ending_after.Lts as lts
 use Rattle.steps.proofs.next_byte.Reads as next-byte-reads
 
--- src/heads.rt:184:23
 enum-known-from : tie.Need-enum-known-from
 enum-known-from c = search needs
 
--- src/heads.rt:184:35
 next-byte-requires : tie.Need-next-byte-requires
 next-byte-requires c κs = search needs
 
--- src/heads.rt:185:26
 enum-known-x : tie.Need-enum-known-x
 enum-known-x c = search needs
 
--- src/heads.rt:190:31
 enum-known-r : tie.Need-enum-known-r
 enum-known-r c = search needs
 
--- src/heads.rt:192:23
 enum-known-from-2 : tie.Need-enum-known-from-2
 enum-known-from-2 c = search needs
 
--- src/heads.rt:180:1
 returns : tie.Need-returns
 returns c =
     let from′ = c .before .before .before .before .before .before .from in
@@ -37,9 +31,11 @@ returns c =
     let x′ = c .before .before .x in
     let next-byte′ = c .before .before .before .before .next-byte in
     let if1′ = c .if1 in
-    rw (from′ .given .1, ending-done (args′ .request .now) (from′ .given .0 .1 .0) (byte-read (byte (args′ .request .now) (from′ .given .0 .1 .0)) (sym (x′ .given .1) ∙ next-byte′ .ensures)) (if1′ .taken))
+    let s = args′ .request .now in
+    let q = from′ .given .0 .1 .0 in
+    let here = byte-read (byte s q) (sym (x′ .given .1) ∙ next-byte′ .ensures) in
+    rw (from′ .given .1, ending-done s q here (if1′ .taken))
 
--- src/heads.rt:180:1
 returns-2 : tie.Need-returns-2
 returns-2 c =
     let from′ = c .before .before .before .before .before .before .from in
@@ -47,18 +43,22 @@ returns-2 c =
     let x′ = c .before .before .x in
     let next-byte′ = c .before .before .before .before .next-byte in
     let if1′ = c .if1 in
-    rw (from′ .given .1, ending-goes (args′ .request .now) (from′ .given .0 .1 .0) (byte-read (byte (args′ .request .now) (from′ .given .0 .1 .0)) (sym (x′ .given .1) ∙ next-byte′ .ensures)) (if1′ .left))
+    let s = args′ .request .now in
+    let q = from′ .given .0 .1 .0 in
+    let here = byte-read (byte s q) (sym (x′ .given .1) ∙ next-byte′ .ensures) in
+    rw (from′ .given .1, ending-goes s q here (if1′ .left))
 
--- src/heads.rt:180:1
 returns-3 : tie.Need-returns-3
 returns-3 c =
     let from′ = c .before .before .before .before .before .from in
     let args′ = c .before .before .before .before .before .before .before .before .args in
     let r′ = c .before .r in
     let next-byte′ = c .before .before .before .next-byte in
-    rw (from′ .given .1, ending-cut (args′ .request .now) (from′ .given .0 .1 .0) (byte-refused (byte (args′ .request .now) (from′ .given .0 .1 .0)) (sym (r′ .given .1) ∙ next-byte′ .ensures)))
+    let s = args′ .request .now in
+    let q = from′ .given .0 .1 .0 in
+    let here = byte-refused (byte s q) (sym (r′ .given .1) ∙ next-byte′ .ensures) in
+    rw (from′ .given .1, ending-cut s q here)
 
--- src/heads.rt:180:1
 returns-4 : tie.Need-returns-4
 returns-4 c =
     let from2′ = c .before .from2 in

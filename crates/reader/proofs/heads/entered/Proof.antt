@@ -8,14 +8,12 @@ use Rattle.reader.proofs.heads.entered.Tie as tie
 use Rattle.reader.proofs.heads.entered.Reads as reads
 use Rattle.reader.proofs.heads.entered.Lts as lts
 
--- src/heads.rt:112:9
 returns : tie.Need-returns
 returns c =
     let args′ = c .before .args in
     let if1′ = c .if1 in
     rw (no-level (args′ .levels) (if1′ .taken))
 
--- src/heads.rt:115:9
 returns-2 : tie.Need-returns-2
 returns-2 c =
     let args′ = c .before .before .before .args in
@@ -23,17 +21,16 @@ returns-2 c =
     let if2′ = c .if2 in
     rw (some-level (args′ .levels) (if1′ .left), le-ltb (args′ .c .statements) 512 (if2′ .taken))
 
--- src/heads.rt:118:24
 add-first : tie.Need-add-first
 add-first c = search needs
 
--- src/heads.rt:108:1
 returns-3 : tie.Need-returns-3
 returns-3 c =
     let args′ = c .before .before .before .before .args in
     let if2′ = c .before .if2 in
     let if1′ = c .before .before .before .if1 in
-    let few : args′ .c .statements < 512 = omega (arith, if2′ .left) in rw (some-level (args′ .levels) (if1′ .left), lt-ltb (args′ .c .statements) 512 few)
+    let few : args′ .c .statements < 512 = omega (arith, if2′ .left) in
+    rw (some-level (args′ .levels) (if1′ .left), lt-ltb (args′ .c .statements) 512 few)
 
 pub entered-spec : {M : Type 1} → statement M
 entered-spec = tie.close (tie.spec returns returns-2 add-first returns-3)

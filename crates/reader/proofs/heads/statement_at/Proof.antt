@@ -14,39 +14,30 @@ use Rattle.classes.proofs.statement_class.Reads as statement-class-reads
 use Rattle.reader.proofs.heads.entered.Reads as entered-reads
 use Rattle.steps.proofs.next_byte.Reads as next-byte-reads
 
--- src/heads.rt:97:11
 next-byte-requires : tie.Need-next-byte-requires
 next-byte-requires c κs = search needs
 
--- src/heads.rt:98:22
 enum-known-x : tie.Need-enum-known-x
 enum-known-x c = search needs
 
--- src/heads.rt:98:41
 statement-class-requires : tie.Need-statement-class-requires
 statement-class-requires c κs = search needs
 
--- src/heads.rt:99:33
 enum-known-k : tie.Need-enum-known-k
 enum-known-k c = search needs
 
--- src/heads.rt:99:39
 entered-requires : tie.Need-entered-requires
 entered-requires c κs = search needs
 
--- src/heads.rt:100:63
 enum-told : tie.Need-enum-told
 enum-told c = search needs
 
--- src/heads.rt:101:63
 enum-told-2 : tie.Need-enum-told-2
 enum-told-2 c = search needs
 
--- src/heads.rt:103:27
 enum-known-r : tie.Need-enum-known-r
 enum-known-r c = search needs
 
--- src/heads.rt:94:1
 returns : tie.Need-returns
 returns c =
     let entered′ = c .entered in
@@ -55,9 +46,12 @@ returns c =
     let next-byte′ = c .before .before .before .before .before .before .before .before .next-byte in
     let statement-class′ = c .before .before .before .before .statement-class in
     let k′ = c .before .before .k in
-    entered′ .ensures ∙ sym (statement-entered (args′ .request .now) (args′ .c) (args′ .levels) (coded-due statementClass _ _ (byte-read (byte (args′ .request .now) (args′ .c)) (sym (x′ .given .1) ∙ next-byte′ .ensures)) (sym (statement-class′ .ensures) ∙ ap statementClassOf (k′ .given .1))))
+    let s = args′ .request .now in
+    let from = args′ .c in
+    let here = byte-read (byte s from) (sym (x′ .given .1) ∙ next-byte′ .ensures) in
+    let told = sym (statement-class′ .ensures) ∙ ap statementClassOf (k′ .given .1) in
+    entered′ .ensures ∙ sym (statement-entered s from (args′ .levels) (coded-due statementClass _ _ here told))
 
--- src/heads.rt:94:1
 returns-2 : tie.Need-returns-2
 returns-2 c =
     let args′ = c .before .before .before .before .before .before .before .before .args in
@@ -65,9 +59,12 @@ returns-2 c =
     let next-byte′ = c .before .before .before .before .before .before .next-byte in
     let statement-class′ = c .before .before .statement-class in
     let enum-told′ = c .enum-told in
-    sym (ap statementHead (statement-refused (args′ .request .now) (args′ .c) (args′ .levels) (coded-out statementClass _ _ (byte-read (byte (args′ .request .now) (args′ .c)) (sym (x′ .given .1) ∙ next-byte′ .ensures)) (sym (statement-class′ .ensures) ∙ ap statementClassOf (enum-told′ .given .1)))))
+    let s = args′ .request .now in
+    let from = args′ .c in
+    let here = byte-read (byte s from) (sym (x′ .given .1) ∙ next-byte′ .ensures) in
+    let told = sym (statement-class′ .ensures) ∙ ap statementClassOf (enum-told′ .given .1) in
+    sym (ap statementHead (statement-refused s from (args′ .levels) (coded-out statementClass _ _ here told)))
 
--- src/heads.rt:94:1
 returns-3 : tie.Need-returns-3
 returns-3 c =
     let args′ = c .before .before .before .before .before .before .before .before .args in
@@ -75,15 +72,21 @@ returns-3 c =
     let next-byte′ = c .before .before .before .before .before .before .next-byte in
     let statement-class′ = c .before .before .statement-class in
     let enum-told2′ = c .enum-told2 in
-    sym (ap statementHead (statement-refused (args′ .request .now) (args′ .c) (args′ .levels) (coded-foreign statementClass _ _ (byte-read (byte (args′ .request .now) (args′ .c)) (sym (x′ .given .1) ∙ next-byte′ .ensures)) (sym (statement-class′ .ensures) ∙ ap statementClassOf (enum-told2′ .given .1)))))
+    let s = args′ .request .now in
+    let from = args′ .c in
+    let here = byte-read (byte s from) (sym (x′ .given .1) ∙ next-byte′ .ensures) in
+    let told = sym (statement-class′ .ensures) ∙ ap statementClassOf (enum-told2′ .given .1) in
+    sym (ap statementHead (statement-refused s from (args′ .levels) (coded-foreign statementClass _ _ here told)))
 
--- src/heads.rt:94:1
 returns-4 : tie.Need-returns-4
 returns-4 c =
     let args′ = c .before .before .before .before .before .args in
     let r′ = c .before .r in
     let next-byte′ = c .before .before .before .next-byte in
-    sym (ap statementHead (statement-refused (args′ .request .now) (args′ .c) (args′ .levels) (coded-cut statementClass _ _ (byte-refused (byte (args′ .request .now) (args′ .c)) (sym (r′ .given .1) ∙ next-byte′ .ensures)))))
+    let s = args′ .request .now in
+    let from = args′ .c in
+    let here = byte-refused (byte s from) (sym (r′ .given .1) ∙ next-byte′ .ensures) in
+    sym (ap statementHead (statement-refused s from (args′ .levels) (coded-cut statementClass _ _ here)))
 
 pub statement-at-spec : {M : Type 1} → statement M
 statement-at-spec =

@@ -14,35 +14,27 @@ use Rattle.reader.proofs.heads.value_at.Lts as lts
 use Rattle.classes.proofs.value_class.Reads as value-class-reads
 use Rattle.steps.proofs.next_byte.Reads as next-byte-reads
 
--- src/heads.rt:39:11
 next-byte-requires : tie.Need-next-byte-requires
 next-byte-requires c κs = search needs
 
--- src/heads.rt:40:22
 enum-known-x : tie.Need-enum-known-x
 enum-known-x c = search needs
 
--- src/heads.rt:40:41
 value-class-requires : tie.Need-value-class-requires
 value-class-requires c κs = search needs
 
--- src/heads.rt:41:29
 enum-known-k : tie.Need-enum-known-k
 enum-known-k c = search needs
 
--- src/heads.rt:46:55
 enum-told : tie.Need-enum-told
 enum-told c = search needs
 
--- src/heads.rt:47:55
 enum-told-2 : tie.Need-enum-told-2
 enum-told-2 c = search needs
 
--- src/heads.rt:49:27
 enum-known-r : tie.Need-enum-known-r
 enum-known-r c = search needs
 
--- src/heads.rt:36:1
 returns : tie.Need-returns
 returns c =
     let args′ = c .before .before .before .before .before .before .before .before .before .before .args in
@@ -51,9 +43,12 @@ returns c =
     let value-class′ = c .before .before .before .before .value-class in
     let k′ = c .before .before .k in
     let if1′ = c .if1 in
-    sym (ap valueHead (leveled-deep valueClass (args′ .request .now) (args′ .c) (args′ .levels) (coded-due valueClass _ _ (byte-read (byte (args′ .request .now) (args′ .c)) (sym (x′ .given .1) ∙ next-byte′ .ensures)) (sym (value-class′ .ensures) ∙ ap valueClassOf (k′ .given .1))) (if1′ .taken)))
+    let s = args′ .request .now in
+    let from = args′ .c in
+    let here = byte-read (byte s from) (sym (x′ .given .1) ∙ next-byte′ .ensures) in
+    let told = sym (value-class′ .ensures) ∙ ap valueClassOf (k′ .given .1) in
+    sym (ap valueHead (leveled-deep valueClass s from (args′ .levels) (coded-due valueClass _ _ here told) (if1′ .taken)))
 
--- src/heads.rt:36:1
 returns-2 : tie.Need-returns-2
 returns-2 c =
     let args′ = c .before .before .before .before .before .before .before .before .before .before .args in
@@ -62,9 +57,12 @@ returns-2 c =
     let value-class′ = c .before .before .before .before .value-class in
     let k′ = c .before .before .k in
     let if1′ = c .if1 in
-    sym (ap valueHead (leveled-due valueClass (args′ .request .now) (args′ .c) (args′ .levels) (coded-due valueClass _ _ (byte-read (byte (args′ .request .now) (args′ .c)) (sym (x′ .given .1) ∙ next-byte′ .ensures)) (sym (value-class′ .ensures) ∙ ap valueClassOf (k′ .given .1))) (if1′ .left)))
+    let s = args′ .request .now in
+    let from = args′ .c in
+    let here = byte-read (byte s from) (sym (x′ .given .1) ∙ next-byte′ .ensures) in
+    let told = sym (value-class′ .ensures) ∙ ap valueClassOf (k′ .given .1) in
+    sym (ap valueHead (leveled-due valueClass s from (args′ .levels) (coded-due valueClass _ _ here told) (if1′ .left)))
 
--- src/heads.rt:36:1
 returns-3 : tie.Need-returns-3
 returns-3 c =
     let args′ = c .before .before .before .before .before .before .before .before .args in
@@ -72,9 +70,12 @@ returns-3 c =
     let next-byte′ = c .before .before .before .before .before .before .next-byte in
     let value-class′ = c .before .before .value-class in
     let enum-told′ = c .enum-told in
-    sym (ap valueHead (leveled-refused valueClass (args′ .request .now) (args′ .c) (args′ .levels) (coded-out valueClass _ _ (byte-read (byte (args′ .request .now) (args′ .c)) (sym (x′ .given .1) ∙ next-byte′ .ensures)) (sym (value-class′ .ensures) ∙ ap valueClassOf (enum-told′ .given .1)))))
+    let s = args′ .request .now in
+    let from = args′ .c in
+    let here = byte-read (byte s from) (sym (x′ .given .1) ∙ next-byte′ .ensures) in
+    let told = sym (value-class′ .ensures) ∙ ap valueClassOf (enum-told′ .given .1) in
+    sym (ap valueHead (leveled-refused valueClass s from (args′ .levels) (coded-out valueClass _ _ here told)))
 
--- src/heads.rt:36:1
 returns-4 : tie.Need-returns-4
 returns-4 c =
     let args′ = c .before .before .before .before .before .before .before .before .args in
@@ -82,15 +83,21 @@ returns-4 c =
     let next-byte′ = c .before .before .before .before .before .before .next-byte in
     let value-class′ = c .before .before .value-class in
     let enum-told2′ = c .enum-told2 in
-    sym (ap valueHead (leveled-refused valueClass (args′ .request .now) (args′ .c) (args′ .levels) (coded-foreign valueClass _ _ (byte-read (byte (args′ .request .now) (args′ .c)) (sym (x′ .given .1) ∙ next-byte′ .ensures)) (sym (value-class′ .ensures) ∙ ap valueClassOf (enum-told2′ .given .1)))))
+    let s = args′ .request .now in
+    let from = args′ .c in
+    let here = byte-read (byte s from) (sym (x′ .given .1) ∙ next-byte′ .ensures) in
+    let told = sym (value-class′ .ensures) ∙ ap valueClassOf (enum-told2′ .given .1) in
+    sym (ap valueHead (leveled-refused valueClass s from (args′ .levels) (coded-foreign valueClass _ _ here told)))
 
--- src/heads.rt:36:1
 returns-5 : tie.Need-returns-5
 returns-5 c =
     let args′ = c .before .before .before .before .before .args in
     let r′ = c .before .r in
     let next-byte′ = c .before .before .before .next-byte in
-    sym (ap valueHead (leveled-refused valueClass (args′ .request .now) (args′ .c) (args′ .levels) (coded-cut valueClass _ _ (byte-refused (byte (args′ .request .now) (args′ .c)) (sym (r′ .given .1) ∙ next-byte′ .ensures)))))
+    let s = args′ .request .now in
+    let from = args′ .c in
+    let here = byte-refused (byte s from) (sym (r′ .given .1) ∙ next-byte′ .ensures) in
+    sym (ap valueHead (leveled-refused valueClass s from (args′ .levels) (coded-cut valueClass _ _ here)))
 
 pub value-at-spec : {M : Type 1} → statement M
 value-at-spec =

@@ -2,6 +2,7 @@ use mathlib.Core.Bool.{true}
 use mathlib.Core.Path.{_≡_, sym, _∙_}
 use native.Mathlib.Omega.{arith}
 use lib.ListN.{length, length-map}
+use Rattle.wire.specs.Codes as blr
 use Rattle.grammar.specs.Statements.{stream}
 use Rattle.grammar.specs.Demands.{Octets}
 use Rattle.scopes.specs.Scopes.{scopeOf}
@@ -88,7 +89,7 @@ read-streams-add-context-requires t c κs =
     let whole : length (args′ .scope .contexts) ≡ 32 = sym (length-map (args′ .scope .contexts) (the-type .to)) ∙ good′ .1 .1 .1 .0 .1 .1
     .0 .1 .0 .1 in
     let octets : Octets s = λ p. omega (arith, shared-slice-known′ .given p) in
-    let i = stream-next s (args′ .dictionary .now) octets (pre′ .1 .is-proper) true (args′ .scope) (args′ .c) (x′ .given .0 .0)
+    let i = stream-next s (args′ .dictionary .now) octets (pre′ .1 .is-proper) blr.for (args′ .scope) (args′ .c) (x′ .given .0 .0)
     (x′ .given .0 .1 .0) whole (pre′ .1 .scope-fits) (sym (x′ .given .1) ∙ read-stream′ .ensures) in
     (omega (arith, i .room), omega (arith, pre′ .1 .inside, pre′ .1 .short))
 
@@ -127,7 +128,7 @@ read-streams-read-streams-requires t c κs =
     let whole : length (args′ .scope .contexts) ≡ 32 = sym (length-map (args′ .scope .contexts) (the-type .to)) ∙ good′ .1 .1 .1 .0 .1 .1
     .0 .1 .0 .1 in
     let octets : Octets s = λ p. omega (arith, shared-slice-known′ .given p) in
-    let i = stream-next s d octets (pre′ .1 .is-proper) true sc from (x′ .given .0 .0) (x′ .given .0 .1 .0) whole (pre′ .1 .scope-fits)
+    let i = stream-next s d octets (pre′ .1 .is-proper) blr.for sc from (x′ .given .0 .0) (x′ .given .0 .1 .0) whole (pre′ .1 .scope-fits)
     (sym (x′ .given .1) ∙ read-stream′ .ensures) in (
       omega (arith, pre′ .0, if1′ .left),
       ready-next s d sc from (x′ .given .0 .0) (x′ .given .0 .1 .0) i _ (args′ .contexts .now) _
@@ -183,7 +184,7 @@ read-streams-returns-2 t c =
     let whole : length (args′ .scope .contexts) ≡ 32 = sym (length-map (args′ .scope .contexts) (the-type .to)) ∙ good′ .1 .1 .1 .0 .1 .1
     .0 .1 .0 .1 in
     let octets : Octets s = λ p. omega (arith, shared-slice-known′ .given p) in
-    let i = stream-next s d octets (pre′ .1 .is-proper) true sc from (x′ .given .0 .0) (x′ .given .0 .1 .0) whole (pre′ .1 .scope-fits)
+    let i = stream-next s d octets (pre′ .1 .is-proper) blr.for sc from (x′ .given .0 .0) (x′ .given .0 .1 .0) whole (pre′ .1 .scope-fits)
     (sym (x′ .given .1) ∙ read-stream′ .ensures) in
     opens-next s d sc from (x′ .given .0 .0) (x′ .given .0 .1 .0) i _ (args′ .contexts .now) _ (add-context′ .ensures) (args′ .n) _ _
     (if1′ .left) (read-streams′ .ensures)
@@ -205,7 +206,7 @@ read-streams-returns-3 t c =
     let r′ = c .before .r in
     let read-stream′ = c .before .before .before .read-stream in
     let if1′ = c .before .before .before .before .if1 in
-    let e = stream-refused d true (stream (relations d) (scopeOf d sc) s from) (sym (r′ .given .1) ∙ read-stream′ .ensures) in
+    let e = stream-refused d blr.for (stream (relations d) (scopeOf d sc) s from) (sym (r′ .given .1) ∙ read-stream′ .ensures) in
     opens-refused s d sc from (args′ .contexts .now) (args′ .n) (if1′ .left) e
 
 pub +read-streams-spec : {M : Type 1} → statement M

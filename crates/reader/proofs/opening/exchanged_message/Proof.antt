@@ -1,6 +1,6 @@
 use mathlib.Core.Path.{_≡_, refl, sym, ap, _∙_}
 use Rattle.grammar.specs.Reader.{byte}
-use Rattle.grammar.proofs.StepLaws.{byte-read, byte-refused}
+use Rattle.grammar.proofs.StepLaws.{message-read, message-refused as message-cut}
 use Rattle.references.specs.Promises.{environmentOf}
 use Rattle.messages.proofs.Found.{message-declared, message-undeclared}
 use Rattle.scopes.specs.Scopes.{scopeOf}
@@ -17,8 +17,8 @@ returns c =
     λ d table. rw (exchanged-updating (environmentOf d table (args′ .messages)) (scopeOf d sc) (args′ .at) (args′ .request .now)
     (args′ .c) (updating-is d sc ∙ if1′ .taken))
 
-next-byte-requires : tie.Need-next-byte-requires
-next-byte-requires c κs = search needs
+next-message-requires : tie.Need-next-message-requires
+next-message-requires c κs = search needs
 
 enum-known-m : tie.Need-enum-known-m
 enum-known-m c = search needs
@@ -44,11 +44,11 @@ returns-2 c =
     let from = args′ .c in
     let if1′ = c .before .before .before .before .before .before .before .if1 in
     let m′ = c .before .before .before .before .m in
-    let next-byte′ = c .before .before .before .before .before .before .next-byte in
+    let next-message′ = c .before .before .before .before .before .before .next-message in
     let find′ = c .before .before .find in
     let enum-told′ = c .enum-told in
     λ d table. rw (message-there (environmentOf d table (args′ .messages)) (scopeOf d sc) (args′ .at) s from
-    (updating-is d sc ∙ if1′ .left) (byte-read (byte s from) (sym (m′ .given .1) ∙ next-byte′ .ensures))
+    (updating-is d sc ∙ if1′ .left) (message-read (byte s from) (sym (m′ .given .1) ∙ next-message′ .ensures))
     (message-declared (environmentOf d table (args′ .messages)) table (args′ .messages) refl _ _
     (sym (find′ .ensures) ∙ enum-told′ .given .1)))
 
@@ -61,11 +61,11 @@ returns-3 c =
     let from = args′ .c in
     let if1′ = c .before .before .before .before .before .before .before .if1 in
     let m′ = c .before .before .before .before .m in
-    let next-byte′ = c .before .before .before .before .before .before .next-byte in
+    let next-message′ = c .before .before .before .before .before .before .next-message in
     let find′ = c .before .before .find in
     let enum-told2′ = c .enum-told2 in
     λ d table. rw (message-unknown (environmentOf d table (args′ .messages)) (scopeOf d sc) (args′ .at) s from
-    (updating-is d sc ∙ if1′ .left) (byte-read (byte s from) (sym (m′ .given .1) ∙ next-byte′ .ensures))
+    (updating-is d sc ∙ if1′ .left) (message-read (byte s from) (sym (m′ .given .1) ∙ next-message′ .ensures))
     (message-undeclared (environmentOf d table (args′ .messages)) table (args′ .messages) refl _
     (sym (find′ .ensures) ∙ enum-told2′ .given .1)))
 
@@ -77,16 +77,16 @@ returns-4 c =
     let from = args′ .c in
     let if1′ = c .before .before .before .before .if1 in
     let r′ = c .before .r in
-    let next-byte′ = c .before .before .before .next-byte in
+    let next-message′ = c .before .before .before .next-message in
     λ d table. rw (message-refused (environmentOf d table (args′ .messages)) (scopeOf d sc) (args′ .at) s from
-    (updating-is d sc ∙ if1′ .left) (byte-refused (byte s from) (sym (r′ .given .1) ∙ next-byte′ .ensures)))
+    (updating-is d sc ∙ if1′ .left) (message-cut (byte s from) (sym (r′ .given .1) ∙ next-message′ .ensures)))
 
 pub exchanged-message-spec : {M : Type 1} → statement M
 exchanged-message-spec =
     tie.close
     (tie.spec
     returns
-    next-byte-requires
+    next-message-requires
     enum-known-m
     find-requires
     enum-told

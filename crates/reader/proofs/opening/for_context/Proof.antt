@@ -1,6 +1,8 @@
 use mathlib.Core.Path.{_≡_, refl, sym, ap, _∙_}
+use borrow.Author.Tests.{eq-eqb, ne-eqb}
+use Rattle.wire.specs.Codes as blr
 use Rattle.grammar.specs.Reader.{byte}
-use Rattle.grammar.proofs.StepLaws.{byte-read, byte-refused}
+use Rattle.grammar.proofs.StepLaws.{context-read, context-refused}
 use Rattle.scopes.specs.Scopes.{scopeOf, contextsIn, foundOf}
 use Rattle.scopes.specs.declared.scope.Found.the-variants as Found
 use Rattle.scopes.proofs.Scopes.{found-is, is-in-scope, is-of-for, nothing-in-scope}
@@ -9,8 +11,8 @@ use borrow.Author.Needs.{needs}
 use Rattle.reader.proofs.opening.for_context.Statement.{statement}
 use Rattle.reader.proofs.opening.for_context.Tie as tie
 
-next-byte-requires : tie.Need-next-byte-requires
-next-byte-requires c κs = search needs
+next-context-requires : tie.Need-next-context-requires
+next-context-requires c κs = search needs
 
 enum-known-n : tie.Need-enum-known-n
 enum-known-n c = search needs
@@ -29,38 +31,38 @@ enum-known-r c = search needs
 
 returns : tie.Need-returns
 returns c =
-    let args′ = c .before .before .before .before .before .before .before .before .before .before .args in
+    let args′ = c .before .before .before .before .before .before .before .before .before .before .before .args in
     let s = args′ .request .now in
     let sc = args′ .scope in
     let from = args′ .c in
-    let n′ = c .before .before .before .before .before .before .n in
-    let x′ = c .before .before .x in
-    let find′ = c .before .before .before .before .find in
-    let next-byte′ = c .before .before .before .before .before .before .before .before .next-byte in
+    let n′ = c .before .before .before .before .before .before .before .n in
+    let x′ = c .before .before .before .x in
+    let find′ = c .before .before .before .before .before .find in
+    let next-context′ = c .before .before .before .before .before .before .before .before .before .next-context in
     let if1′ = c .if1 in
-    let f : foundOf (contextsIn sc) (n′ .given .0 .0) ≡ Found.Is (x′ .given .0 .0) = sym (find′ .ensures) ∙ x′ .given .1 in
+    let f : foundOf (contextsIn sc) (n′ .given .0 .0 .0) ≡ Found.Is (x′ .given .0 .0) = sym (find′ .ensures) ∙ x′ .given .1 in
     λ d. (
-      n′ .given .0 .0,
+      n′ .given .0 .0 .0,
       for-there (scopeOf d sc) (args′ .at) s from
-          (byte-read (byte s from) (sym (n′ .given .1) ∙ next-byte′ .ensures)) (is-in-scope d sc _ _ f)
-          (is-of-for d sc _ _ f ∙ if1′ .taken),
+          (context-read (byte s from) (sym (n′ .given .1) ∙ next-context′ .ensures)) (is-in-scope d sc _ _ f)
+          (is-of-for d sc _ _ f ∙ eq-eqb (x′ .given .0 .0 .opener) blr.for (if1′ .taken)),
       found-is d sc _ _ f,
     )
 
 returns-2 : tie.Need-returns-2
 returns-2 c =
-    let args′ = c .before .before .before .before .before .before .before .before .before .before .args in
+    let args′ = c .before .before .before .before .before .before .before .before .before .before .before .args in
     let s = args′ .request .now in
     let sc = args′ .scope in
     let from = args′ .c in
-    let n′ = c .before .before .before .before .before .before .n in
-    let x′ = c .before .before .x in
-    let find′ = c .before .before .before .before .find in
-    let next-byte′ = c .before .before .before .before .before .before .before .before .next-byte in
+    let n′ = c .before .before .before .before .before .before .before .n in
+    let x′ = c .before .before .before .x in
+    let find′ = c .before .before .before .before .before .find in
+    let next-context′ = c .before .before .before .before .before .before .before .before .before .next-context in
     let if1′ = c .if1 in
-    let f : foundOf (contextsIn sc) (n′ .given .0 .0) ≡ Found.Is (x′ .given .0 .0) = sym (find′ .ensures) ∙ x′ .given .1 in
-    λ d. for-other (scopeOf d sc) (args′ .at) s from (byte-read (byte s from) (sym (n′ .given .1) ∙ next-byte′ .ensures))
-    (is-in-scope d sc _ _ f) (is-of-for d sc _ _ f ∙ if1′ .left)
+    let f : foundOf (contextsIn sc) (n′ .given .0 .0 .0) ≡ Found.Is (x′ .given .0 .0) = sym (find′ .ensures) ∙ x′ .given .1 in
+    λ d. for-other (scopeOf d sc) (args′ .at) s from (context-read (byte s from) (sym (n′ .given .1) ∙ next-context′ .ensures))
+    (is-in-scope d sc _ _ f) (is-of-for d sc _ _ f ∙ ne-eqb (x′ .given .0 .0 .opener) blr.for (if1′ .left))
 
 returns-3 : tie.Need-returns-3
 returns-3 c =
@@ -69,10 +71,10 @@ returns-3 c =
     let sc = args′ .scope in
     let from = args′ .c in
     let n′ = c .before .before .before .before .n in
-    let next-byte′ = c .before .before .before .before .before .before .next-byte in
+    let next-context′ = c .before .before .before .before .before .before .next-context in
     let find′ = c .before .before .find in
     let enum-told′ = c .enum-told in
-    λ d. for-none (scopeOf d sc) (args′ .at) s from (byte-read (byte s from) (sym (n′ .given .1) ∙ next-byte′ .ensures))
+    λ d. for-none (scopeOf d sc) (args′ .at) s from (context-read (byte s from) (sym (n′ .given .1) ∙ next-context′ .ensures))
     (nothing-in-scope d sc _ (sym (find′ .ensures) ∙ enum-told′ .given .1))
 
 returns-4 : tie.Need-returns-4
@@ -81,14 +83,14 @@ returns-4 c =
     let s = args′ .request .now in
     let from = args′ .c in
     let r′ = c .before .r in
-    let next-byte′ = c .before .before .before .next-byte in
-    λ d. for-refused (scopeOf d (args′ .scope)) (args′ .at) s from (byte-refused (byte s from) (sym (r′ .given .1) ∙ next-byte′ .ensures))
+    let next-context′ = c .before .before .before .next-context in
+    λ d. for-refused (scopeOf d (args′ .scope)) (args′ .at) s from (context-refused (byte s from) (sym (r′ .given .1) ∙ next-context′ .ensures))
 
 pub for-context-spec : {M : Type 1} → statement M
 for-context-spec =
     tie.close
     (tie.spec
-    next-byte-requires
+    next-context-requires
     enum-known-n
     find-requires
     enum-known-x

@@ -1,7 +1,7 @@
 use mathlib.Core.Path.{_≡_, refl, sym, ap, subst, _∙_}
 use Rattle.grammar.specs.Reader.{opened}
-use Rattle.grammar.specs.Steps.{noKind}
-use Rattle.grammar.proofs.StepLaws.{step-read, step-refused, byte-read, byte-refused}
+use Rattle.grammar.specs.Internal.Steps.{noKind}
+use Rattle.grammar.proofs.StepLaws.{step-read, step-refused, context-read, context-refused}
 use Rattle.scopes.specs.Scopes.{scopeOf}
 use Rattle.reader.specs.Streams.{freshByte}
 use Rattle.reader.specs.Headings.{FromFor}
@@ -53,10 +53,10 @@ returns c =
     let o = step-read noKind (opened at s from) (sym (first′ .given .1) ∙ open-context′ .ensures s) in
     λ d.
     let g = subst (FromFor sc at s (first′ .given .0 .1 .0)) (x′ .given .1) (for-context′ .ensures) d in
-    let f = byte-read (freshByte (scopeOf d sc) s (x′ .given .0 .1 .0)) (sym (n′ .given .1) ∙ fresh-context′ .ensures d) in (
+    let f = context-read (freshByte (scopeOf d sc) s (x′ .given .0 .1 .0)) (sym (n′ .given .1) ∙ fresh-context′ .ensures d) in (
       g .0,
       modify-read (scopeOf d sc) at s from (o .1) (g .1) f,
-      modify-context-is d (scopeOf d sc) (g .0) (n′ .given .0 .0)
+      modify-context-is d (scopeOf d sc) (g .0) (n′ .given .0 .0 .0)
           (x′ .given .0 .0) (g .2),
       modify-room (scopeOf d sc) at s from (o .1),
     )
@@ -77,7 +77,7 @@ returns-2 c =
     let o = step-read noKind (opened at s from) (sym (first′ .given .1) ∙ open-context′ .ensures s) in
     λ d.
     let g = subst (FromFor sc at s (first′ .given .0 .1 .0)) (x′ .given .1) (for-context′ .ensures) d in
-    let f = byte-refused (freshByte (scopeOf d sc) s (x′ .given .0 .1 .0)) (sym (r′ .given .1) ∙ fresh-context′ .ensures d) in
+    let f = context-refused (freshByte (scopeOf d sc) s (x′ .given .0 .1 .0)) (sym (r′ .given .1) ∙ fresh-context′ .ensures d) in
     modify-again (scopeOf d sc) at s from (o .1) (g .1) f
 
 returns-3 : tie.Need-returns-3

@@ -3,7 +3,7 @@ use Rattle.wire.specs.Codes as blr
 use Rattle.grammar.specs.declared.Refusal.the-variants.{NotDue}
 use Rattle.grammar.specs.Reader.{code}
 use Rattle.grammar.specs.Statements.{countByte, rseHead}
-use Rattle.grammar.specs.Steps.{noKind}
+use Rattle.grammar.specs.Internal.Steps.{noKind}
 use Rattle.grammar.proofs.StepLaws.{step-read, step-refused, byte-read, byte-refused}
 use Rattle.scopes.specs.Scopes.{scopeOf}
 use Rattle.reader.specs.Promises.{relations}

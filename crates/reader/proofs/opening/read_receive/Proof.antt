@@ -1,6 +1,6 @@
 use mathlib.Core.Path.{_≡_, refl, sym, ap, _∙_}
 use Rattle.grammar.specs.Statements.{exchanged, receiveHeading}
-use Rattle.grammar.proofs.StepLaws.{byte-read, byte-refused}
+use Rattle.grammar.proofs.StepLaws.{message-read, message-refused}
 use Rattle.references.specs.Promises.{environmentOf}
 use Rattle.scopes.specs.Scopes.{scopeOf}
 use Rattle.reader.proofs.OpenLaws.{opens-nothing}
@@ -29,10 +29,10 @@ returns c =
     let next′ = c .before .next in
     let exchanged-message′ = c .before .before .before .exchanged-message in
     λ d table ct. opens-receive d at sc from ct (receiveHeading (environmentOf d table (args′ .messages)) (scopeOf d sc) at s from)
-    (next′ .given .0 .0) (next′ .given .0 .1 .0)
+    (next′ .given .0 .0 .0) (next′ .given .0 .1 .0)
     (rw (
       receiveHeading,
-      byte-read (exchanged (environmentOf d table (args′ .messages)) (scopeOf d sc) at s from)
+      message-read (exchanged (environmentOf d table (args′ .messages)) (scopeOf d sc) at s from)
           (sym (next′ .given .1) ∙ exchanged-message′ .ensures d table),
     ))
 
@@ -49,7 +49,7 @@ returns-2 c =
     λ d table ct. opens-nothing (receiveHeading (environmentOf d table (args′ .messages)) (scopeOf d sc) at s from) d ct _ _ _ _ sc
     (rw (
       receiveHeading,
-      byte-refused (exchanged (environmentOf d table (args′ .messages)) (scopeOf d sc) at s from)
+      message-refused (exchanged (environmentOf d table (args′ .messages)) (scopeOf d sc) at s from)
           (sym (r′ .given .1) ∙ exchanged-message′ .ensures d table),
     ))
 

@@ -1,7 +1,8 @@
 use mathlib.Core.Path.{_≡_, refl, sym, ap, _∙_}
 use lib.ListN.{length-map}
+use Rattle.wire.proofs.numbers.MessageNumber.{the-type}
 use Rattle.grammar.specs.Statements.{exchanged, sendHeading}
-use Rattle.grammar.proofs.StepLaws.{byte-read, byte-refused}
+use Rattle.grammar.proofs.StepLaws.{message-read, message-refused}
 use Rattle.references.specs.Promises.{environmentOf}
 use Rattle.scopes.specs.Scopes.{scopeOf}
 use Rattle.reader.proofs.OpenLaws.{opens-nothing}
@@ -39,10 +40,10 @@ returns c =
     (sendHeading (environmentOf d table (args′ .messages)) (scopeOf d sc) at s from) (m′ .given .0 .0) (m′ .given .0 .1 .0)
     (rw (
       sendHeading,
-      byte-read (exchanged (environmentOf d table (args′ .messages)) (scopeOf d sc) at s from)
+      message-read (exchanged (environmentOf d table (args′ .messages)) (scopeOf d sc) at s from)
           (sym (m′ .given .1) ∙ exchanged-message′ .ensures d table),
     )) (pre′)
-    (sym (length-map (args′ .scope .sends .0 .bytes) _) ∙ good′ .1 .1 .0 .1 .1 .1 .1 .1 .1 .0 .1 .1 .0 .1 .1 .0 .1 .0 .1))
+    (sym (length-map (args′ .scope .sends .messages) (the-type .to)) ∙ good′ .1 .1 .0 .1 .1 .1 .1 .1 .1 .0 .1 .1 .0 .1 .0 .1))
 
 returns-2 : tie.Need-returns-2
 unfolding sendHeading
@@ -57,7 +58,7 @@ returns-2 c =
     λ d table ct. opens-nothing (sendHeading (environmentOf d table (args′ .messages)) (scopeOf d sc) at s from) d ct _ _ _ _ sc
     (rw (
       sendHeading,
-      byte-refused (exchanged (environmentOf d table (args′ .messages)) (scopeOf d sc) at s from)
+      message-refused (exchanged (environmentOf d table (args′ .messages)) (scopeOf d sc) at s from)
           (sym (r′ .given .1) ∙ exchanged-message′ .ensures d table),
     ))
 

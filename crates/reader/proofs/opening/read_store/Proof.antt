@@ -3,6 +3,7 @@ use mathlib.Core.Bool.{false}
 use mathlib.Core.Path.{_≡_, refl, sym, ap, _∙_}
 use native.Mathlib.Omega.{arith}
 use lib.ListN.{length, length-map}
+use Rattle.wire.specs.Codes as blr
 use Rattle.grammar.specs.Statements.{stream, storeHeading}
 use Rattle.grammar.specs.Demands.{Octets}
 use Rattle.scopes.specs.Scopes.{scopeOf}
@@ -36,7 +37,7 @@ add-context-requires c κs =
     let whole : length (args′ .scope .contexts) ≡ 32 = sym (length-map (args′ .scope .contexts) (the-type .to)) ∙ good′ .1 .1 .1 .0 .1 .1
     .0 .1 .0 .1 in
     let octets : Octets s = λ p. omega (arith, shared-slice-known′ .given p) in
-    let i = stream-next s (args′ .dictionary .now) octets (pre′ .0 .is-proper) false (args′ .scope) (args′ .c) (x′ .given .0 .0)
+    let i = stream-next s (args′ .dictionary .now) octets (pre′ .0 .is-proper) blr.store (args′ .scope) (args′ .c) (x′ .given .0 .0)
     (x′ .given .0 .1 .0) whole (pre′ .0 .scope-fits) (sym (x′ .given .1) ∙ read-stream′ .ensures) in
     (omega (arith, i .room), omega (arith, pre′ .1, i .onward, i .within (pre′ .0 .inside), pre′ .0 .short))
 
@@ -67,7 +68,7 @@ returns c =
     let whole : length (args′ .scope .contexts) ≡ 32 = sym (length-map (args′ .scope .contexts) (the-type .to)) ∙ good′ .1 .1 .1 .0 .1 .1
     .0 .1 .0 .1 in
     let octets : Octets s = λ p. omega (arith, shared-slice-known′ .given p) in
-    let i = stream-next s d octets (pre′ .0 .is-proper) false sc from (x′ .given .0 .0) (x′ .given .0 .1 .0) whole (pre′ .0 .scope-fits)
+    let i = stream-next s d octets (pre′ .0 .is-proper) blr.store sc from (x′ .given .0 .0) (x′ .given .0 .1 .0) whole (pre′ .0 .scope-fits)
     (sym (x′ .given .1) ∙ read-stream′ .ensures) in
     let few : args′ .scope .count < 32 = omega (arith, i .room, pre′ .0 .scope-fits) in
     rw (updating′ .ensures) (opens-store d (args′ .at) sc from (args′ .contexts .now) _ (x′ .given .0 .0) _ _ few whole
@@ -83,7 +84,7 @@ returns-2 c =
     let from = args′ .c in
     let r′ = c .before .r in
     let read-stream′ = c .before .before .before .read-stream in
-    let e = stream-refused d false (stream (relations d) (scopeOf d sc) s from) (sym (r′ .given .1) ∙ read-stream′ .ensures) in
+    let e = stream-refused d blr.store (stream (relations d) (scopeOf d sc) s from) (sym (r′ .given .1) ∙ read-stream′ .ensures) in
     opens-nothing (storeHeading (relations d) (scopeOf d sc) s from) d (args′ .contexts .now) _ _ _ _ sc (store-refused _ _ _ _ e)
 
 pub read-store-spec : {M : Type 1} → statement M

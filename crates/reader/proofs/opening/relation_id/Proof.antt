@@ -3,7 +3,7 @@ use mathlib.Core.Path.{_≡_}
 use native.Mathlib.Omega.{arith}
 use lib.ListN.{List·getD-eq-default}
 use Rattle.wire.specs.Words.{byteAt}
-use Rattle.dictionary.specs.Walk.{relationAt}
+use Rattle.dictionary.specs.Internal.Walk.{relationAt}
 use borrow.Author.Needs.{needs}
 use Rattle.reader.proofs.opening.relation_id.Statement.{statement}
 use Rattle.reader.proofs.opening.relation_id.Tie as tie

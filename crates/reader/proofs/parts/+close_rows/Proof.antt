@@ -8,7 +8,7 @@ use borrow.Fn.PlainCycle.{Measures, is, falls, and}
 use Rattle.reader.proofs.parts.close_rows.Reads as close-rows
 use Rattle.reader.proofs.parts.close_rows.Kinds as close-rows-kinds
 use Rattle.reader.proofs.parts.+close_rows.Lts-close_rows as close-rows-lts
-use Rattle.reader.proofs.tables.put.Reads as put-reads
+use Rattle.wire.proofs.table.put.Reads as put-reads
 use Rattle.reader.proofs.parts.+close_rows.{statement}
 use Rattle.reader.proofs.parts.+close_rows.Tie.{close}
 
@@ -23,75 +23,62 @@ abbrev close-rows-below : ℕ → In 1 close-rows-kinds.ps
 close-rows-below t =
     and 1 close-rows-kinds.ps (falls 1 close-rows-kinds.ps _<_ μ-close-rows t) close-rows.Pre
 
--- src/parts.rt:120:9
 close-rows-returns : (t : ℕ) → close-rows-lts.Need-returns (put-reads.Asked, put-reads.Learnt, close-rows-below t, close-rows.Post) (close-rows-at t) close-rows.Post
 close-rows-returns t c =
     let args′ = c .before .before .args in
     let if1′ = c .if1 in
     closed-none (args′ .contexts .now) (args′ .row) (args′ .left) (args′ .start) (args′ .end) (if1′ .taken)
 
--- src/parts.rt:122:14
 close-rows-mul-at : (t : ℕ) → close-rows-lts.Need-mul-at (put-reads.Asked, put-reads.Learnt, close-rows-below t, close-rows.Post) (close-rows-at t) close-rows.Post
 close-rows-mul-at t c =
     let pre′ = c .before .before .pre in
     omega (arith, pre′ .1 .0)
 
--- src/parts.rt:123:19
 close-rows-add-put : (t : ℕ) → close-rows-lts.Need-add-put (put-reads.Asked, put-reads.Learnt, close-rows-below t, close-rows.Post) (close-rows-at t) close-rows.Post
 close-rows-add-put t c =
     let pre′ = c .before .before .before .pre in
     omega (arith, pre′ .1 .0)
 
--- src/parts.rt:123:27
 close-rows-cast-put : (t : ℕ) → close-rows-lts.Need-cast-put (put-reads.Asked, put-reads.Learnt, close-rows-below t, close-rows.Post) (close-rows-at t) close-rows.Post
 close-rows-cast-put t c =
     let pre′ = c .before .before .before .pre in
     omega (arith, pre′ .1 .1 .0)
 
--- src/parts.rt:123:5
 close-rows-put-requires : (t : ℕ) → close-rows-lts.Need-put-requires (put-reads.Asked, put-reads.Learnt, close-rows-below t, close-rows.Post) (close-rows-at t) close-rows.Post
 close-rows-put-requires t c κs = search needs
 
--- src/parts.rt:124:19
 close-rows-add-put-2 : (t : ℕ) → close-rows-lts.Need-add-put-2 (put-reads.Asked, put-reads.Learnt, close-rows-below t, close-rows.Post) (close-rows-at t) close-rows.Post
 close-rows-add-put-2 t c =
     let pre′ = c .before .before .before .before .before .before .before .pre in
     omega (arith, pre′ .1 .0)
 
--- src/parts.rt:124:27
 close-rows-cast-put-2 : (t : ℕ) → close-rows-lts.Need-cast-put-2 (put-reads.Asked, put-reads.Learnt, close-rows-below t, close-rows.Post) (close-rows-at t) close-rows.Post
 close-rows-cast-put-2 t c =
     let pre′ = c .before .before .before .before .before .before .before .pre in
     omega (arith, pre′ .1 .1 .1)
 
--- src/parts.rt:124:5
 close-rows-put-requires-2 : (t : ℕ) → close-rows-lts.Need-put-requires-2 (put-reads.Asked, put-reads.Learnt, close-rows-below t, close-rows.Post) (close-rows-at t) close-rows.Post
 close-rows-put-requires-2 t c κs = search needs
 
--- src/parts.rt:125:26
 close-rows-add-close-rows : (t : ℕ) → close-rows-lts.Need-add-close-rows (put-reads.Asked, put-reads.Learnt, close-rows-below t, close-rows.Post) (close-rows-at t) close-rows.Post
 close-rows-add-close-rows t c =
     let pre′ = c .before .before .before .before .before .before .before .before .before .before .before .pre in
     omega (arith, pre′ .1 .0)
 
--- src/parts.rt:125:35
 close-rows-sub-close-rows : (t : ℕ) → close-rows-lts.Need-sub-close-rows (put-reads.Asked, put-reads.Learnt, close-rows-below t, close-rows.Post) (close-rows-at t) close-rows.Post
 close-rows-sub-close-rows t c =
     let if1′ = c .before .before .before .before .before .before .before .before .before .if1 in
     omega (arith, if1′ .left)
 
--- src/parts.rt:125:5
 close-rows-close-rows-requires : (t : ℕ) → close-rows-lts.Need-close-rows-requires (put-reads.Asked, put-reads.Learnt, close-rows-below t, close-rows.Post) (close-rows-at t) close-rows.Post
 close-rows-close-rows-requires t c κs =
     let pre′ = c .before .before .before .before .before .before .before .before .before .before .before .pre in
     let if1′ = c .before .before .before .before .before .before .before .before .before .if1 in
     (omega (arith, pre′ .0, if1′ .left), (omega (arith, pre′ .1 .0, if1′ .left), (pre′ .1 .1 .0, pre′ .1 .1 .1)))
 
--- src/parts.rt:115:1
 close-rows-same-length : (t : ℕ) → close-rows-lts.Need-same-length (put-reads.Asked, put-reads.Learnt, close-rows-below t, close-rows.Post) (close-rows-at t) close-rows.Post
 close-rows-same-length t c = search needs
 
--- src/parts.rt:115:1
 close-rows-returns-2 : (t : ℕ) → close-rows-lts.Need-returns-2 (put-reads.Asked, put-reads.Learnt, close-rows-below t, close-rows.Post) (close-rows-at t) close-rows.Post
 close-rows-returns-2 t c =
     let close-rows′ = c .before .before .close-rows in

@@ -6,15 +6,12 @@ use Rattle.reader.proofs.parts.close.Reads as reads
 use Rattle.reader.proofs.parts.close.Lts as lts
 use Rattle.reader.proofs.parts.close_rows.Reads as close-rows-reads
 
--- src/parts.rt:133:26
 enum-known-from : tie.Need-enum-known-from
 enum-known-from c = search needs
 
--- src/parts.rt:134:30
 enum-known-to : tie.Need-enum-known-to
 enum-known-to c = search needs
 
--- src/parts.rt:135:39
 sub-close-rows : tie.Need-sub-close-rows
 sub-close-rows c =
     let pre′ = c .before .before .before .before .before .before .before .before .before .pre in
@@ -22,13 +19,13 @@ sub-close-rows c =
     let to′ = c .before .before .before .to in
     omega (arith, pre′ .closes _ _ _ _ (from′ .given .1) (to′ .given .1) .0)
 
--- src/parts.rt:135:13
 close-rows-requires : tie.Need-close-rows-requires
 close-rows-requires c κs =
     let pre′ = c .before .before .before .before .before .before .before .before .before .pre in
     let from′ = c .before .before .before .before .before .before .from in
     let to′ = c .before .before .before .to in
-    (omega (arith, pre′ .closes _ _ _ _ (from′ .given .1) (to′ .given .1) .0, pre′ .closes _ _ _ _ (from′ .given .1) (to′ .given .1) .1 .0), (pre′ .closes _ _ _ _ (from′ .given .1) (to′ .given .1) .1 .1 .0, pre′ .closes _ _ _ _ (from′ .given .1) (to′ .given .1) .1 .1 .1))
+    let fits = pre′ .closes _ _ _ _ (from′ .given .1) (to′ .given .1) in
+    (omega (arith, fits .0, fits .1 .0), (fits .1 .1 .0, fits .1 .1 .1))
 
 enum-told : tie.Need-enum-told
 enum-told c = search needs
@@ -36,11 +33,9 @@ enum-told c = search needs
 enum-told-2 : tie.Need-enum-told-2
 enum-told-2 c = search needs
 
--- src/parts.rt:129:1
 same-length : tie.Need-same-length
 same-length c = search needs
 
--- src/parts.rt:129:1
 returns : tie.Need-returns
 returns c =
     let close-rows′ = c .before .before .close-rows in
@@ -48,14 +43,12 @@ returns c =
     let to′ = c .before .before .before .before .before .before .to in
     rw (close-rows′ .ensures, from′ .given .1, to′ .given .1)
 
--- src/parts.rt:129:1
 returns-2 : tie.Need-returns-2
 returns-2 c =
     let from′ = c .before .before .before .from in
     let enum-told′ = c .enum-told in
     rw (from′ .given .1, enum-told′ .given .1)
 
--- src/parts.rt:129:1
 returns-3 : tie.Need-returns-3
 returns-3 c = search needs
 

@@ -5,11 +5,9 @@ use Rattle.reader.proofs.parts.finish.Reads as reads
 use Rattle.reader.proofs.parts.finish.Lts as lts
 use Rattle.reader.proofs.tables.put_statement.Reads as put-statement-reads
 
--- src/parts.rt:109:26
 enum-known-to : tie.Need-enum-known-to
 enum-known-to c = search needs
 
--- src/parts.rt:110:9
 put-statement-requires : tie.Need-put-statement-requires
 put-statement-requires c κs =
     let pre′ = c .before .before .before .before .before .pre in
@@ -19,18 +17,15 @@ put-statement-requires c κs =
 enum-told : tie.Need-enum-told
 enum-told c = search needs
 
--- src/parts.rt:105:1
 same-length : tie.Need-same-length
 same-length c = search needs
 
--- src/parts.rt:105:1
 returns : tie.Need-returns
 returns c =
     let put-statement′ = c .before .before .put-statement in
     let to′ = c .before .before .before .before .before .to in
     rw (put-statement′ .ensures, to′ .given .1)
 
--- src/parts.rt:105:1
 returns-2 : tie.Need-returns-2
 returns-2 c = search needs
 

@@ -1,10 +1,10 @@
 use Rattle.reader.proofs.Messages.{receives-full, receives-other, receives-under}
 use Rattle.grammar.proofs.StepLaws.{step-read, step-refused}
-use Rattle.grammar.specs.Steps.{noKind}
+use Rattle.grammar.specs.Internal.Steps.{noKind}
 use Rattle.grammar.specs.Reader.{code}
 use Rattle.grammar.specs.declared.Refusal.the-variants.{NotDue}
 use Rattle.wire.specs.Codes as blr
-use Rattle.grammar.specs.Steps.{byteStep}
+use Rattle.grammar.specs.Internal.Steps.{messageStep}
 use Rattle.scopes.specs.Scopes.{scopeOf}
 use Rattle.references.specs.Promises.{environmentOf}
 use mathlib.Core.Path.{_≡_, refl, sym, ap, _∙_}
@@ -16,7 +16,11 @@ returns : tie.Need-returns
 returns c =
     let args′ = c .before .before .before .before .args in
     let if1′ = c .if1 in
-    record { selected = λ ms h. sym (ap byteStep (receives-full (args′ .most) (args′ .levels) (environmentOf (args′ .dictionary .now) (args′ .parameters .now) (args′ .messages)) (scopeOf (args′ .dictionary .now) (args′ .scope)) ms (args′ .request .now) (args′ .c) (if1′ .taken))) }
+    let around = environmentOf (args′ .dictionary .now) (args′ .parameters .now) (args′ .messages) in
+    let scope = scopeOf (args′ .dictionary .now) (args′ .scope) in
+    let s = args′ .request .now in
+    let from = args′ .c in
+    record { selected = λ ms h. sym (ap messageStep (receives-full (args′ .most) (args′ .levels) around scope ms s from (if1′ .taken))) }
 
 due-code-requires : tie.Need-due-code-requires
 due-code-requires c κs = search needs
@@ -37,7 +41,15 @@ returns-2 c =
     let if1′ = c .before .before .before .before .before .if1 in
     let first′ = c .before .before .first in
     let due-code′ = c .before .before .before .before .due-code in
-    record { selected = λ ms h. receive-tests′ .ensures .selected ms h ∙ sym (ap byteStep (receives-under (args′ .most) (args′ .levels) (environmentOf (args′ .dictionary .now) (args′ .parameters .now) (args′ .messages)) (scopeOf (args′ .dictionary .now) (args′ .scope)) ms (args′ .request .now) (args′ .c) (if1′ .left) (step-read noKind (code blr.receive NotDue (args′ .request .now) (args′ .c)) (sym (first′ .given .1) ∙ due-code′ .ensures) .1))) }
+    let around = environmentOf (args′ .dictionary .now) (args′ .parameters .now) (args′ .messages) in
+    let scope = scopeOf (args′ .dictionary .now) (args′ .scope) in
+    let s = args′ .request .now in
+    let from = args′ .c in
+    let here = step-read noKind (code blr.receive NotDue s from) (sym (first′ .given .1) ∙ due-code′ .ensures) .1 in
+    record {
+      selected = λ ms h. receive-tests′ .ensures .selected ms h ∙
+          sym (ap messageStep (receives-under (args′ .most) (args′ .levels) around scope ms s from (if1′ .left) here));
+    }
 
 returns-3 : tie.Need-returns-3
 returns-3 c =
@@ -45,7 +57,12 @@ returns-3 c =
     let if1′ = c .before .before .before .before .if1 in
     let r′ = c .before .r in
     let due-code′ = c .before .before .before .due-code in
-    record { selected = λ ms h. sym (ap byteStep (receives-other (args′ .most) (args′ .levels) (environmentOf (args′ .dictionary .now) (args′ .parameters .now) (args′ .messages)) (scopeOf (args′ .dictionary .now) (args′ .scope)) ms (args′ .request .now) (args′ .c) (if1′ .left) (step-refused noKind (code blr.receive NotDue (args′ .request .now) (args′ .c)) (sym (r′ .given .1) ∙ due-code′ .ensures)))) }
+    let around = environmentOf (args′ .dictionary .now) (args′ .parameters .now) (args′ .messages) in
+    let scope = scopeOf (args′ .dictionary .now) (args′ .scope) in
+    let s = args′ .request .now in
+    let from = args′ .c in
+    let here = step-refused noKind (code blr.receive NotDue s from) (sym (r′ .given .1) ∙ due-code′ .ensures) in
+    record { selected = λ ms h. sym (ap messageStep (receives-other (args′ .most) (args′ .levels) around scope ms s from (if1′ .left) here)) }
 
 pub receive-at-spec : {M : Type 1} → statement M
 receive-at-spec = tie.close (tie.spec returns due-code-requires enum-known-first receive-tests-requires enum-known-r returns-2 returns-3)

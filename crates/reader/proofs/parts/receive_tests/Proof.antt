@@ -1,7 +1,7 @@
 use Rattle.reader.proofs.Messages.{tests-deep, tests-many, tests-misplaced, tests-on}
 use Rattle.reader.proofs.HeadingLaws.{updating-is}
 use Prim.Native.Nat.{ℕ, _<_}
-use Rattle.grammar.specs.Steps.{byteStep}
+use Rattle.grammar.specs.Internal.Steps.{messageStep}
 use native.Mathlib.Omega.{arith}
 use Rattle.scopes.specs.Scopes.{scopeOf}
 use Rattle.references.specs.Promises.{environmentOf}
@@ -14,14 +14,22 @@ returns : tie.Need-returns
 returns c =
     let args′ = c .before .before .before .before .args in
     let if1′ = c .if1 in
-    record { selected = λ ms h. sym (ap byteStep (tests-deep (args′ .levels) (environmentOf (args′ .dictionary .now) (args′ .parameters .now) (args′ .messages)) (scopeOf (args′ .dictionary .now) (args′ .scope)) ms (args′ .at) (args′ .request .now) (args′ .c) (if1′ .taken))) }
+    let around = environmentOf (args′ .dictionary .now) (args′ .parameters .now) (args′ .messages) in
+    let scope = scopeOf (args′ .dictionary .now) (args′ .scope) in
+    let s = args′ .request .now in
+    let from = args′ .c in
+    record { selected = λ ms h. sym (ap messageStep (tests-deep (args′ .levels) around scope ms (args′ .at) s from (if1′ .taken))) }
 
 returns-2 : tie.Need-returns-2
 returns-2 c =
     let args′ = c .before .before .before .before .before .before .args in
     let if1′ = c .before .before .if1 in
     let if2′ = c .if2 in
-    record { selected = λ ms h. sym (ap byteStep (tests-many (args′ .levels) (environmentOf (args′ .dictionary .now) (args′ .parameters .now) (args′ .messages)) (scopeOf (args′ .dictionary .now) (args′ .scope)) ms (args′ .at) (args′ .request .now) (args′ .c) (if1′ .left) (if2′ .taken))) }
+    let around = environmentOf (args′ .dictionary .now) (args′ .parameters .now) (args′ .messages) in
+    let scope = scopeOf (args′ .dictionary .now) (args′ .scope) in
+    let s = args′ .request .now in
+    let from = args′ .c in
+    record { selected = λ ms h. sym (ap messageStep (tests-many (args′ .levels) around scope ms (args′ .at) s from (if1′ .left) (if2′ .taken))) }
 
 returns-3 : tie.Need-returns-3
 returns-3 c =
@@ -29,7 +37,14 @@ returns-3 c =
     let if2′ = c .before .if2 in
     let if1′ = c .before .before .before .if1 in
     let if3′ = c .if3 in
-    let few : args′ .c .statements < 512 = omega (arith, if2′ .left) in record { selected = λ ms h. sym (ap byteStep (tests-misplaced (args′ .levels) (environmentOf (args′ .dictionary .now) (args′ .parameters .now) (args′ .messages)) (scopeOf (args′ .dictionary .now) (args′ .scope)) ms (args′ .at) (args′ .request .now) (args′ .c) (if1′ .left) few (updating-is (args′ .dictionary .now) (args′ .scope) ∙ if3′ .taken))) }
+    let around = environmentOf (args′ .dictionary .now) (args′ .parameters .now) (args′ .messages) in
+    let scope = scopeOf (args′ .dictionary .now) (args′ .scope) in
+    let s = args′ .request .now in
+    let from = args′ .c in
+    let d = args′ .dictionary .now in
+    let few : args′ .c .statements < 512 = omega (arith, if2′ .left) in
+    let under = updating-is d (args′ .scope) ∙ if3′ .taken in
+    record { selected = λ ms h. sym (ap messageStep (tests-misplaced (args′ .levels) around scope ms (args′ .at) s from (if1′ .left) few under)) }
 
 add-counted : tie.Need-add-counted
 add-counted c = search needs
@@ -44,7 +59,17 @@ returns-4 c =
     let selected-message′ = c .selected-message in
     let if1′ = c .before .before .before .before .before .if1 in
     let if3′ = c .before .before .if3 in
-    let few : args′ .c .statements < 512 = omega (arith, if2′ .left) in record { selected = λ ms h. selected-message′ .ensures .selected ms h ∙ sym (ap byteStep (tests-on (args′ .levels) (environmentOf (args′ .dictionary .now) (args′ .parameters .now) (args′ .messages)) (scopeOf (args′ .dictionary .now) (args′ .scope)) ms (args′ .at) (args′ .request .now) (args′ .c) (if1′ .left) few (updating-is (args′ .dictionary .now) (args′ .scope) ∙ if3′ .left))) }
+    let around = environmentOf (args′ .dictionary .now) (args′ .parameters .now) (args′ .messages) in
+    let scope = scopeOf (args′ .dictionary .now) (args′ .scope) in
+    let s = args′ .request .now in
+    let from = args′ .c in
+    let d = args′ .dictionary .now in
+    let few : args′ .c .statements < 512 = omega (arith, if2′ .left) in
+    let free = updating-is d (args′ .scope) ∙ if3′ .left in
+    record {
+      selected = λ ms h. selected-message′ .ensures .selected ms h ∙
+          sym (ap messageStep (tests-on (args′ .levels) around scope ms (args′ .at) s from (if1′ .left) few free));
+    }
 
 pub receive-tests-spec : {M : Type 1} → statement M
 receive-tests-spec = tie.close (tie.spec returns returns-2 returns-3 add-counted selected-message-requires returns-4)

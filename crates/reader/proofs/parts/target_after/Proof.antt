@@ -5,26 +5,21 @@ use Rattle.reader.proofs.parts.target_after.Reads as reads
 use Rattle.reader.proofs.parts.target_after.Lts as lts
 use Rattle.references.proofs.reference.read_target.Reads as read-target-reads
 
--- src/parts.rt:54:23
 enum-known-from : tie.Need-enum-known-from
 enum-known-from c = search needs
 
--- src/parts.rt:54:29
 read-target-requires : tie.Need-read-target-requires
 read-target-requires c κs = search needs
 
--- src/parts.rt:55:23
 enum-known-from-2 : tie.Need-enum-known-from-2
 enum-known-from-2 c = search needs
 
--- src/parts.rt:50:1
 returns : tie.Need-returns
 returns c =
     let read-target′ = c .read-target in
     let from′ = c .before .before .from in
     rw (read-target′ .ensures, from′ .given .1)
 
--- src/parts.rt:50:1
 returns-2 : tie.Need-returns-2
 returns-2 c =
     let from2′ = c .before .from2 in

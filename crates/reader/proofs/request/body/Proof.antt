@@ -1,6 +1,6 @@
 use Rattle.reader.proofs.Whole.{ready-after, ends-within, whole}
 use Rattle.grammar.proofs.StepLaws.{step-read}
-use Rattle.grammar.specs.Steps.{noKind}
+use Rattle.grammar.specs.Internal.Steps.{noKind}
 use Rattle.grammar.specs.Messages.{messages}
 use mathlib.Core.List.{[]}
 use native.Mathlib.Omega.{arith}

@@ -1,6 +1,6 @@
 use Rattle.reader.specs.Request.{endOf}
 use Rattle.grammar.proofs.StepLaws.{step-read, step-refused}
-use Rattle.grammar.specs.Steps.{noKind}
+use Rattle.grammar.specs.Internal.Steps.{noKind}
 use Rattle.grammar.specs.Reading.{nothingMore}
 use Rattle.grammar.specs.Reader.{code}
 use Rattle.grammar.specs.declared.Refusal.the-variants.{NotDue}

@@ -3,7 +3,7 @@ use Rattle.reader.specs.Request.{headOf}
 use Rattle.reader.specs.Promises.{relations}
 use Rattle.grammar.proofs.StepLaws.{step-read, step-refused}
 use Rattle.grammar.specs.Reading.{start}
-use Rattle.grammar.specs.Steps.{noKind}
+use Rattle.grammar.specs.Internal.Steps.{noKind}
 use mathlib.Core.Path.{sym, _∙_, subst}
 use borrow.Author.Needs.{needs}
 use Rattle.reader.proofs.request.read_whole.Statement.{statement}

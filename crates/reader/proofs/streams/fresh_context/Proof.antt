@@ -3,7 +3,7 @@ use mathlib.Core.Bool.{not}
 use Rattle.grammar.specs.declared.Refusal.the-variants.{BadContext}
 use Rattle.grammar.specs.Scope.{inScope}
 use Rattle.grammar.specs.Reader.{byte}
-use Rattle.grammar.proofs.StepLaws.{byte-read, byte-refused}
+use Rattle.grammar.proofs.StepLaws.{context-read, context-refused}
 use Rattle.scopes.specs.Scopes.{scopeOf}
 use Rattle.scopes.proofs.Scopes.{is-in-scope, nothing-in-scope}
 use Rattle.reader.specs.Streams.{freshByte}
@@ -12,8 +12,8 @@ use borrow.Author.Needs.{needs}
 use Rattle.reader.proofs.streams.fresh_context.Statement.{statement}
 use Rattle.reader.proofs.streams.fresh_context.Tie as tie
 
-next-byte-requires : tie.Need-next-byte-requires
-next-byte-requires c κs = search needs
+next-context-requires : tie.Need-next-context-requires
+next-context-requires c κs = search needs
 
 enum-known-n : tie.Need-enum-known-n
 enum-known-n c = search needs
@@ -38,13 +38,13 @@ returns c =
     let sc = args′ .scope in
     let from = args′ .c in
     let n′ = c .before .before .before .before .n in
-    let next-byte′ = c .before .before .before .before .before .before .next-byte in
+    let next-context′ = c .before .before .before .before .before .before .next-context in
     let find′ = c .before .before .find in
     let enum-told′ = c .enum-told in
     λ d. rw (
       freshByte,
       tested-is byte (λ x. not (inScope (scopeOf d sc) x)) BadContext s from
-          (byte-read (byte s from) (sym (n′ .given .1) ∙ next-byte′ .ensures)),
+          (context-read (byte s from) (sym (n′ .given .1) ∙ next-context′ .ensures)),
       is-in-scope d sc _ _
           (sym (find′ .ensures) ∙ enum-told′ .given .1),
     )
@@ -57,13 +57,13 @@ returns-2 c =
     let sc = args′ .scope in
     let from = args′ .c in
     let n′ = c .before .before .before .before .n in
-    let next-byte′ = c .before .before .before .before .before .before .next-byte in
+    let next-context′ = c .before .before .before .before .before .before .next-context in
     let find′ = c .before .before .find in
     let enum-told2′ = c .enum-told2 in
     λ d. rw (
       freshByte,
       tested-is byte (λ x. not (inScope (scopeOf d sc) x)) BadContext s from
-          (byte-read (byte s from) (sym (n′ .given .1) ∙ next-byte′ .ensures)),
+          (context-read (byte s from) (sym (n′ .given .1) ∙ next-context′ .ensures)),
       nothing-in-scope d sc _
           (sym (find′ .ensures) ∙ enum-told2′ .given .1),
     )
@@ -75,14 +75,14 @@ returns-3 c =
     let s = args′ .request .now in
     let from = args′ .c in
     let r′ = c .before .r in
-    let next-byte′ = c .before .before .before .next-byte in
-    λ d. rw (freshByte, tested-refused byte _ _ s from (byte-refused (byte s from) (sym (r′ .given .1) ∙ next-byte′ .ensures)))
+    let next-context′ = c .before .before .before .next-context in
+    λ d. rw (freshByte, tested-refused byte _ _ s from (context-refused (byte s from) (sym (r′ .given .1) ∙ next-context′ .ensures)))
 
 pub fresh-context-spec : {M : Type 1} → statement M
 fresh-context-spec =
     tie.close
     (tie.spec
-    next-byte-requires
+    next-context-requires
     enum-known-n
     find-requires
     enum-told

@@ -2,7 +2,7 @@ use mathlib.Core.Path.{_≡_, refl, sym, ap, _∙_}
 use Rattle.wire.specs.Classes.{streamClass}
 use Rattle.grammar.specs.Reader.{coded, opened}
 use Rattle.grammar.specs.Statements.{stream}
-use Rattle.grammar.specs.Steps.{noKind}
+use Rattle.grammar.specs.Internal.Steps.{noKind}
 use Rattle.grammar.proofs.StepLaws.{step-read, step-refused}
 use Rattle.reader.specs.Streams.{freshByte, relationNamed, streamUnder}
 use Rattle.reader.proofs.StreamLaws.{code-read, code-refused}

@@ -1,10 +1,10 @@
 use mathlib.Core.Path.{_≡_, refl, sym, ap, _∙_}
 use Rattle.dictionary.specs.Naming.{named}
-use Rattle.dictionary.specs.Walk.{relationPlace}
-use Rattle.dictionary.specs.Answers.{placeAnswer}
+use Rattle.dictionary.specs.Internal.Walk.{relationPlace}
+use Rattle.dictionary.specs.Internal.Answers.{placeAnswer}
 use Rattle.grammar.specs.Reader.{name, tested}
 use Rattle.grammar.specs.Values.{byName}
-use Rattle.grammar.specs.Steps.{noKind}
+use Rattle.grammar.specs.Internal.Steps.{noKind}
 use Rattle.grammar.proofs.StepLaws.{step-read, step-refused}
 use Rattle.reader.specs.Streams.{placedStep, relationNamed}
 use Rattle.reader.proofs.StreamLaws.{by-name, by-name-refused, name-at, relation-known, tested-refused}

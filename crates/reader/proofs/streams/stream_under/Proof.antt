@@ -1,6 +1,6 @@
 use mathlib.Core.Path.{_≡_, refl, sym, ap, _∙_}
 use Rattle.grammar.specs.Statements.{naming}
-use Rattle.grammar.proofs.StepLaws.{byte-read, byte-refused}
+use Rattle.grammar.proofs.StepLaws.{context-read, context-refused}
 use Rattle.scopes.specs.Scopes.{scopeOf}
 use Rattle.reader.specs.Promises.{relations}
 use Rattle.reader.specs.Streams.{relationNamed, freshByte, streamUnder}
@@ -49,7 +49,7 @@ returns c =
     let fresh-context′ = c .before .before .before .fresh-context in
     let e = relation-read d (relationNamed (relations d) (naming (args′ .k)) s (args′ .c)) (sym (q′ .given .1) ∙ read-relation′ .ensures) in
     under-read _ _ _ _ (args′ .k) _ _ (e .1) (e .2)
-    (byte-read (freshByte (scopeOf d (args′ .scope)) s (q′ .given .0 .1 .0)) (sym (n′ .given .1) ∙ fresh-context′ .ensures d))
+    (context-read (freshByte (scopeOf d (args′ .scope)) s (q′ .given .0 .1 .0)) (sym (n′ .given .1) ∙ fresh-context′ .ensures d))
 
 returns-2 : tie.Need-returns-2
 unfolding streamUnder
@@ -65,7 +65,7 @@ returns-2 c =
     rw (
       streamUnder,
       e .1,
-      byte-refused (freshByte (scopeOf d (args′ .scope)) s (q′ .given .0 .1 .0))
+      context-refused (freshByte (scopeOf d (args′ .scope)) s (q′ .given .0 .1 .0))
           (sym (r′ .given .1) ∙ fresh-context′ .ensures d),
     )
 

@@ -1,3 +1,4 @@
+use native.Mathlib.Nat.{add-zero}
 use native.Mathlib.Numerals.{add-one, add-two, add-three, add-four}
 use lib.ListN.{length-set}
 use borrow.Author.Needs.{needs}
@@ -7,32 +8,38 @@ use Rattle.reader.proofs.tables.put_context.Tie as tie
 mul-at : tie.Need-mul-at
 mul-at c = search needs
 
-put-requires : tie.Need-put-requires
-put-requires c κs = search needs
-
 add-put : tie.Need-add-put
 add-put c = search needs
 
 cast-put : tie.Need-cast-put
 cast-put c = search needs
 
-put-requires-2 : tie.Need-put-requires-2
-put-requires-2 c κs = search needs
+put-requires : tie.Need-put-requires
+put-requires c κs = search needs
 
 add-put-2 : tie.Need-add-put-2
 add-put-2 c = search needs
 
-put-requires-3 : tie.Need-put-requires-3
-put-requires-3 c κs = search needs
+cast-put-2 : tie.Need-cast-put-2
+cast-put-2 c = search needs
+
+put-requires-2 : tie.Need-put-requires-2
+put-requires-2 c κs = search needs
 
 add-put-3 : tie.Need-add-put-3
 add-put-3 c = search needs
 
-put-requires-4 : tie.Need-put-requires-4
-put-requires-4 c κs = search needs
+put-requires-3 : tie.Need-put-requires-3
+put-requires-3 c κs = search needs
 
 add-put-4 : tie.Need-add-put-4
 add-put-4 c = search needs
+
+put-requires-4 : tie.Need-put-requires-4
+put-requires-4 c κs = search needs
+
+add-put-5 : tie.Need-add-put-5
+add-put-5 c = search needs
 
 put-requires-5 : tie.Need-put-requires-5
 put-requires-5 c κs = search needs
@@ -48,22 +55,24 @@ returns c =
     let put2′ = c .before .before .before .before .before .before .before .before .before .before .before .before .before .before .put2 in
     let put′ = c .before .before .before .before .before .before .before .before .before .before .before .before .before .before .before
     .before .before .before .put in
-    rw (put5′ .ensures, put4′ .ensures, put3′ .ensures, put2′ .ensures, put′ .ensures, add-one, add-two, add-three, add-four)
+    rw (put5′ .ensures, put4′ .ensures, put3′ .ensures, put2′ .ensures, put′ .ensures, add-zero, add-one, add-two, add-three, add-four)
 
 pub put-context-spec : {M : Type 1} → statement M
 put-context-spec =
     tie.close
     (tie.spec
     mul-at
-    put-requires
     add-put
     cast-put
-    put-requires-2
+    put-requires
     add-put-2
-    put-requires-3
+    cast-put-2
+    put-requires-2
     add-put-3
-    put-requires-4
+    put-requires-3
     add-put-4
+    put-requires-4
+    add-put-5
     put-requires-5
     same-length
     returns)

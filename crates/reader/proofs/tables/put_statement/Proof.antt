@@ -1,3 +1,4 @@
+use native.Mathlib.Nat.{add-zero}
 use native.Mathlib.Numerals.{add-one, add-two, add-three}
 use lib.ListN.{length-set}
 use borrow.Author.Needs.{needs}
@@ -7,20 +8,23 @@ use Rattle.reader.proofs.tables.put_statement.Tie as tie
 mul-at : tie.Need-mul-at
 mul-at c = search needs
 
+add-put : tie.Need-add-put
+add-put c = search needs
+
 cast-put : tie.Need-cast-put
 cast-put c = search needs
 
 put-requires : tie.Need-put-requires
 put-requires c κs = search needs
 
-add-put : tie.Need-add-put
-add-put c = search needs
+add-put-2 : tie.Need-add-put-2
+add-put-2 c = search needs
 
 put-requires-2 : tie.Need-put-requires-2
 put-requires-2 c κs = search needs
 
-add-put-2 : tie.Need-add-put-2
-add-put-2 c = search needs
+add-put-3 : tie.Need-add-put-3
+add-put-3 c = search needs
 
 cast-put-2 : tie.Need-cast-put-2
 cast-put-2 c = search needs
@@ -28,8 +32,8 @@ cast-put-2 c = search needs
 put-requires-3 : tie.Need-put-requires-3
 put-requires-3 c κs = search needs
 
-add-put-3 : tie.Need-add-put-3
-add-put-3 c = search needs
+add-put-4 : tie.Need-add-put-4
+add-put-4 c = search needs
 
 cast-put-3 : tie.Need-cast-put-3
 cast-put-3 c = search needs
@@ -46,21 +50,22 @@ returns c =
     let put3′ = c .before .before .before .before .before .before .put3 in
     let put2′ = c .before .before .before .before .before .before .before .before .before .before .put2 in
     let put′ = c .before .before .before .before .before .before .before .before .before .before .before .before .before .before .put in
-    rw (put4′ .ensures, put3′ .ensures, put2′ .ensures, put′ .ensures, add-one, add-two, add-three)
+    rw (put4′ .ensures, put3′ .ensures, put2′ .ensures, put′ .ensures, add-zero, add-one, add-two, add-three)
 
 pub put-statement-spec : {M : Type 1} → statement M
 put-statement-spec =
     tie.close
     (tie.spec
     mul-at
+    add-put
     cast-put
     put-requires
-    add-put
-    put-requires-2
     add-put-2
+    put-requires-2
+    add-put-3
     cast-put-2
     put-requires-3
-    add-put-3
+    add-put-4
     cast-put-3
     put-requires-4
     same-length

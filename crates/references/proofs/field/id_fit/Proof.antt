@@ -3,7 +3,7 @@ use mathlib.Core.Option.{some}
 use mathlib.Core.Path.{sym, ap, _∙_}
 use borrow.Author.Needs.{needs}
 use Rattle.grammar.specs.Kinds.{formatKind}
-use Rattle.grammar.specs.Steps.{fitOf}
+use Rattle.grammar.specs.Internal.Steps.{fitOf}
 use Rattle.references.proofs.Known.{id-found, id-unknown}
 use Rattle.references.proofs.field.id_fit.Statement.{statement}
 use Rattle.references.proofs.field.id_fit.Tie as tie

@@ -1,7 +1,7 @@
 -- `references::field::name_fit` meets its contract. By the id of the name. Assumes nothing.
 use mathlib.Core.Path.{sym, ap, _∙_}
 use borrow.Author.Needs.{needs}
-use Rattle.grammar.specs.Steps.{fitOf}
+use Rattle.grammar.specs.Internal.Steps.{fitOf}
 use Rattle.references.proofs.Known.{name-found, name-unknown}
 use Rattle.references.proofs.field.name_fit.Statement.{statement}
 use Rattle.references.proofs.field.name_fit.Tie as tie

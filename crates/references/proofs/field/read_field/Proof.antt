@@ -4,14 +4,14 @@ use mathlib.Core.Path.{sym, _∙_}
 use borrow.Author.Tests.{not-true, not-false}
 use borrow.Author.Needs.{needs}
 use Rattle.grammar.specs.Reader.{byte}
-use Rattle.grammar.proofs.StepLaws.{byte-read, byte-refused}
+use Rattle.grammar.proofs.StepLaws.{context-read, context-refused}
 use Rattle.scopes.proofs.Scopes.{is-in-scope, nothing-in-scope, is-relation}
 use Rattle.references.proofs.References.{field-ended, field-out-of-scope, field-misplaced, field-placed}
 use Rattle.references.proofs.field.read_field.Statement.{statement}
 use Rattle.references.proofs.field.read_field.Tie as tie
 
-next-byte-requires : tie.Need-next-byte-requires
-next-byte-requires c κs = search needs
+next-context-requires : tie.Need-next-context-requires
+next-context-requires c κs = search needs
 
 enum-known-n : tie.Need-enum-known-n
 enum-known-n c = search needs
@@ -23,9 +23,9 @@ returns : tie.Need-returns
 returns c e p =
     let args′ = c .before .before .before .before .before .args in
     let enum-told′ = c .enum-told in
-    let next-byte′ = c .before .before .next-byte in
+    let next-context′ = c .before .before .next-context in
     sym (field-ended e _ _ p (args′ .by-name) (args′ .request .now) (args′ .c)
-    (byte-refused (byte (args′ .request .now) (args′ .c)) (sym (enum-told′ .given .1) ∙ next-byte′ .ensures)))
+    (context-refused (byte (args′ .request .now) (args′ .c)) (sym (enum-told′ .given .1) ∙ next-context′ .ensures)))
 
 find-requires : tie.Need-find-requires
 find-requires c κs = search needs
@@ -40,11 +40,11 @@ returns-2 : tie.Need-returns-2
 returns-2 c e p =
     let args′ = c .before .before .before .before .before .before .before .before .before .args in
     let n′ = c .before .before .before .before .n in
-    let next-byte′ = c .before .before .before .before .before .before .next-byte in
+    let next-context′ = c .before .before .before .before .before .before .next-context in
     let find′ = c .before .before .find in
     let enum-told2′ = c .enum-told2 in
     sym (field-out-of-scope e _ _ p (args′ .by-name) (args′ .request .now) (args′ .c)
-    (byte-read (byte (args′ .request .now) (args′ .c)) (sym (n′ .given .1) ∙ next-byte′ .ensures))
+    (context-read (byte (args′ .request .now) (args′ .c)) (sym (n′ .given .1) ∙ next-context′ .ensures))
     (nothing-in-scope _ _ _ (sym (find′ .ensures) ∙ enum-told2′ .given .1)))
 
 field-allowed-requires : tie.Need-field-allowed-requires
@@ -58,14 +58,14 @@ returns-3 c e p =
     let target-place′ = c .target-place in
     let args′ = c .before .before .before .before .before .before .before .before .before .before .before .before .before .args in
     let n′ = c .before .before .before .before .before .before .before .before .n in
-    let next-byte′ = c .before .before .before .before .before .before .before .before .before .before .next-byte in
+    let next-context′ = c .before .before .before .before .before .before .before .before .before .before .next-context in
     let find′ = c .before .before .before .before .before .before .find in
     let x′ = c .before .before .before .before .x in
     let field-allowed′ = c .before .before .field-allowed in
     let if1′ = c .before .if1 in
     rw (target-place′ .ensures)
     (sym (field-misplaced e _ _ p (args′ .by-name) (args′ .request .now) (args′ .c)
-    (byte-read (byte (args′ .request .now) (args′ .c)) (sym (n′ .given .1) ∙ next-byte′ .ensures))
+    (context-read (byte (args′ .request .now) (args′ .c)) (sym (n′ .given .1) ∙ next-context′ .ensures))
     (is-in-scope _ _ _ _ (sym (find′ .ensures) ∙ x′ .given .1))
     (sym (field-allowed′ .ensures) ∙ not-true _ (if1′ .taken))))
 
@@ -84,14 +84,14 @@ returns-4 c e p =
     let read-named′ = c .read-named in
     let if2′ = c .before .if2 in
     let n′ = c .before .before .before .before .before .before .before .before .before .before .n in
-    let next-byte′ = c .before .before .before .before .before .before .before .before .before .before .before .before .next-byte in
+    let next-context′ = c .before .before .before .before .before .before .before .before .before .before .before .before .next-context in
     let find′ = c .before .before .before .before .before .before .before .before .find in
     let x′ = c .before .before .before .before .before .before .x in
     let field-allowed′ = c .before .before .before .before .field-allowed in
     let if1′ = c .before .before .before .if1 in
     read-named′ .ensures ∙ rw (if2′ .taken)
     (sym (field-placed e _ _ p true (args′ .request .now) (args′ .c)
-    (byte-read (byte (args′ .request .now) (args′ .c)) (sym (n′ .given .1) ∙ next-byte′ .ensures))
+    (context-read (byte (args′ .request .now) (args′ .c)) (sym (n′ .given .1) ∙ next-context′ .ensures))
     (is-in-scope _ _ _ _ (sym (find′ .ensures) ∙ x′ .given .1))
     (sym (field-allowed′ .ensures) ∙ not-false _ (if1′ .left))
     (is-relation _ _ _ _ (sym (find′ .ensures) ∙ x′ .given .1))))
@@ -102,14 +102,14 @@ returns-5 c e p =
     let read-numbered′ = c .read-numbered in
     let if2′ = c .before .if2 in
     let n′ = c .before .before .before .before .before .before .before .before .before .before .n in
-    let next-byte′ = c .before .before .before .before .before .before .before .before .before .before .before .before .next-byte in
+    let next-context′ = c .before .before .before .before .before .before .before .before .before .before .before .before .next-context in
     let find′ = c .before .before .before .before .before .before .before .before .find in
     let x′ = c .before .before .before .before .before .before .x in
     let field-allowed′ = c .before .before .before .before .field-allowed in
     let if1′ = c .before .before .before .if1 in
     read-numbered′ .ensures ∙ rw (if2′ .left)
     (sym (field-placed e _ _ p false (args′ .request .now) (args′ .c)
-    (byte-read (byte (args′ .request .now) (args′ .c)) (sym (n′ .given .1) ∙ next-byte′ .ensures))
+    (context-read (byte (args′ .request .now) (args′ .c)) (sym (n′ .given .1) ∙ next-context′ .ensures))
     (is-in-scope _ _ _ _ (sym (find′ .ensures) ∙ x′ .given .1))
     (sym (field-allowed′ .ensures) ∙ not-false _ (if1′ .left))
     (is-relation _ _ _ _ (sym (find′ .ensures) ∙ x′ .given .1))))
@@ -118,7 +118,7 @@ pub read-field-spec : {M : Type 1} → statement M
 read-field-spec =
     tie.close
     (tie.spec
-    next-byte-requires
+    next-context-requires
     enum-known-n
     enum-told
     returns

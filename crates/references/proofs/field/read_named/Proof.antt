@@ -1,8 +1,8 @@
 -- `references::field::read_named` meets its contract. The name that was skipped is the one that stands there. Assumes nothing.
 use mathlib.Core.Path.{sym, _∙_}
 use borrow.Author.Needs.{needs}
-use Rattle.dictionary.specs.Walk.{relationAt}
-use Rattle.grammar.specs.Steps.{noKind}
+use Rattle.dictionary.specs.Internal.Walk.{relationAt}
+use Rattle.grammar.specs.Internal.Steps.{noKind}
 use Rattle.grammar.specs.Values.{byName}
 use Rattle.grammar.specs.Reader.{name}
 use Rattle.grammar.proofs.StepLaws.{step-refused}

@@ -1,7 +1,7 @@
 -- `references::field::read_numbered` meets its contract. An id is its own index. Assumes nothing.
 use mathlib.Core.Path.{sym, _∙_}
 use borrow.Author.Needs.{needs}
-use Rattle.dictionary.specs.Walk.{relationAt}
+use Rattle.dictionary.specs.Internal.Walk.{relationAt}
 use Rattle.grammar.specs.Values.{byNumber}
 use Rattle.grammar.specs.Reader.{word}
 use Rattle.grammar.proofs.StepLaws.{word-read, word-refused}

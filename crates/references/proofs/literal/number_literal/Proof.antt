@@ -16,8 +16,8 @@ scale-byte-requires c κs = search needs
 enum-known-scale : tie.Need-enum-known-scale
 enum-known-scale c = search needs
 
-width-of-requires : tie.Need-width-of-requires
-width-of-requires c κs = search needs
+width-bytes-requires : tie.Need-width-bytes-requires
+width-bytes-requires c κs = search needs
 
 skip-requires : tie.Need-skip-requires
 skip-requires c κs = search needs
@@ -42,11 +42,11 @@ returns c =
     let scale′ = c .before .before .before .before .before .before .before .scale in
     let scale-byte′ = c .before .before .before .before .before .before .before .before .before .scale-byte in
     let skip′ = c .before .before .before .before .skip in
-    let width-of′ = c .before .before .before .before .before .width-of in
+    let width-bytes′ = c .before .before .before .before .before .width-bytes in
     ap (λ z. Next (Number z) (after′ .given .0 .1 .0)) (toZ-ofZ (record { sfits = scale-of′ .ok }) ∙ scale-of′ .ensures) ∙
     sym (number-is (args′ .w) (args′ .request .now) (args′ .c)
     (byte-read (scaleByte (args′ .request .now) (args′ .c)) (sym (scale′ .given .1) ∙ scale-byte′ .ensures))
-    (sym (after′ .given .1) ∙ skip′ .ensures ∙ rw (width-of′ .ensures)))
+    (sym (after′ .given .1) ∙ skip′ .ensures ∙ rw (width-bytes′ .ensures)))
 
 returns-2 : tie.Need-returns-2
 returns-2 c =
@@ -55,10 +55,10 @@ returns-2 c =
     let scale-byte′ = c .before .before .before .before .before .before .before .before .scale-byte in
     let r′ = c .before .r in
     let skip′ = c .before .before .before .skip in
-    let width-of′ = c .before .before .before .before .width-of in
+    let width-bytes′ = c .before .before .before .before .width-bytes in
     sym (number-cut (args′ .w) (args′ .request .now) (args′ .c)
     (byte-read (scaleByte (args′ .request .now) (args′ .c)) (sym (scale′ .given .1) ∙ scale-byte′ .ensures))
-    (sym (r′ .given .1) ∙ skip′ .ensures ∙ rw (width-of′ .ensures)))
+    (sym (r′ .given .1) ∙ skip′ .ensures ∙ rw (width-bytes′ .ensures)))
 
 returns-3 : tie.Need-returns-3
 returns-3 c =
@@ -74,7 +74,7 @@ number-literal-spec =
     (tie.spec
     scale-byte-requires
     enum-known-scale
-    width-of-requires
+    width-bytes-requires
     skip-requires
     enum-known-after
     scale-of-requires

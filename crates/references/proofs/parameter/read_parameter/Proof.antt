@@ -3,7 +3,7 @@ use mathlib.Core.Path.{refl, sym, _∙_}
 use borrow.Author.Tests.{not-true, not-false}
 use borrow.Author.Needs.{needs}
 use Rattle.grammar.specs.Reader.{byte}
-use Rattle.grammar.proofs.StepLaws.{byte-read, byte-refused}
+use Rattle.grammar.proofs.StepLaws.{message-read, message-refused}
 use Rattle.messages.proofs.Found.{message-declared, message-undeclared}
 use Rattle.references.specs.Promises.{environmentOf}
 use Rattle.references.proofs.References.{parameter-ended, parameter-undeclared, parameter-misplaced}
@@ -11,8 +11,8 @@ use Rattle.references.proofs.References.{parameter-placed, words-refuse
 use Rattle.references.proofs.parameter.read_parameter.Statement.{statement}
 use Rattle.references.proofs.parameter.read_parameter.Tie as tie
 
-next-byte-requires : tie.Need-next-byte-requires
-next-byte-requires c κs = search needs
+next-message-requires : tie.Need-next-message-requires
+next-message-requires c κs = search needs
 
 enum-known-m : tie.Need-enum-known-m
 enum-known-m c = search needs
@@ -24,9 +24,9 @@ returns : tie.Need-returns
 returns c d =
     let args′ = c .before .before .before .before .before .args in
     let enum-told′ = c .enum-told in
-    let next-byte′ = c .before .before .next-byte in
+    let next-message′ = c .before .before .next-message in
     sym (parameter-ended _ _ _ _ (args′ .flagged) (args′ .request .now) (args′ .c)
-    (byte-refused (byte (args′ .request .now) (args′ .c)) (sym (enum-told′ .given .1) ∙ next-byte′ .ensures)))
+    (message-refused (byte (args′ .request .now) (args′ .c)) (sym (enum-told′ .given .1) ∙ next-message′ .ensures)))
 
 find-requires : tie.Need-find-requires
 find-requires c κs = search needs
@@ -42,12 +42,12 @@ unfolding environmentOf
 returns-2 c d =
     let args′ = c .before .before .before .before .before .before .before .before .before .args in
     let m′ = c .before .before .before .before .m in
-    let next-byte′ = c .before .before .before .before .before .before .next-byte in
+    let next-message′ = c .before .before .before .before .before .before .next-message in
     let find′ = c .before .before .find in
     let enum-told2′ = c .enum-told2 in
     let env = environmentOf d (args′ .parameters .now) (args′ .messages) in
     sym (parameter-undeclared _ _ _ _ (args′ .flagged) (args′ .request .now) (args′ .c)
-    (byte-read (byte (args′ .request .now) (args′ .c)) (sym (m′ .given .1) ∙ next-byte′ .ensures))
+    (message-read (byte (args′ .request .now) (args′ .c)) (sym (m′ .given .1) ∙ next-message′ .ensures))
     (message-undeclared env (args′ .parameters .now) (args′ .messages) refl _ (sym (find′ .ensures) ∙ enum-told2′ .given .1)))
 
 parameter-allowed-requires : tie.Need-parameter-allowed-requires
@@ -64,14 +64,14 @@ returns-3 c d =
     let x′ = c .before .before .before .before .x in
     let target-place′ = c .target-place in
     let m′ = c .before .before .before .before .before .before .before .before .m in
-    let next-byte′ = c .before .before .before .before .before .before .before .before .before .before .next-byte in
+    let next-message′ = c .before .before .before .before .before .before .before .before .before .before .next-message in
     let parameter-allowed′ = c .before .before .parameter-allowed in
     let if1′ = c .before .if1 in
     let env = environmentOf d (args′ .parameters .now) (args′ .messages) in
     let found = sym (find′ .ensures) ∙ x′ .given .1 in
     rw (target-place′ .ensures)
     (sym (parameter-misplaced _ _ _ _ (args′ .flagged) (args′ .request .now) (args′ .c)
-    (byte-read (byte (args′ .request .now) (args′ .c)) (sym (m′ .given .1) ∙ next-byte′ .ensures))
+    (message-read (byte (args′ .request .now) (args′ .c)) (sym (m′ .given .1) ∙ next-message′ .ensures))
     (message-declared env (args′ .parameters .now) (args′ .messages) refl _ _ found)
     (sym (parameter-allowed′ .ensures d) ∙ not-true _ (if1′ .taken))))
 
@@ -92,8 +92,8 @@ unfolding environmentOf
 returns-4 c d =
     let args′ = c .before .before .before .before .before .before .before .before .before .before .before
     .before .before .before .before .before .before .before .args in
-    let next-byte′ = c .before .before .before .before .before .before .before .before .before .before .before
-    .before .before .before .before .next-byte in
+    let next-message′ = c .before .before .before .before .before .before .before .before .before .before .before
+    .before .before .before .before .next-message in
     let find′ = c .before .before .before .before .before .before .before .before .before .before .before .find in
     let x′ = c .before .before .before .before .before .before .before .before .before .x in
     let read-flag′ = c .read-flag in
@@ -107,7 +107,7 @@ returns-4 c d =
     let found = sym (find′ .ensures) ∙ x′ .given .1 in
     read-flag′ .ensures ∙
     sym (parameter-placed _ _ _ _ (args′ .flagged) (args′ .request .now) (args′ .c)
-    (byte-read (byte (args′ .request .now) (args′ .c)) (sym (m′ .given .1) ∙ next-byte′ .ensures))
+    (message-read (byte (args′ .request .now) (args′ .c)) (sym (m′ .given .1) ∙ next-message′ .ensures))
     (message-declared env (args′ .parameters .now) (args′ .messages) refl _ _ found)
     (sym (parameter-allowed′ .ensures d) ∙ not-false _ (if1′ .left)) ∙
     words-flagged env (args′ .parameters .now) (args′ .messages) refl _ _ found _ _ _ _ (args′ .flagged) (if2′ .taken)
@@ -118,8 +118,8 @@ unfolding environmentOf
 returns-5 c d =
     let args′ = c .before .before .before .before .before .before .before .before .before .before .before
     .before .before .before .before .before .before .args in
-    let next-byte′ = c .before .before .before .before .before .before .before .before .before .before .before
-    .before .before .before .next-byte in
+    let next-message′ = c .before .before .before .before .before .before .before .before .before .before .before
+    .before .before .before .next-message in
     let find′ = c .before .before .before .before .before .before .before .before .before .before .find in
     let x′ = c .before .before .before .before .before .before .before .before .x in
     let m′ = c .before .before .before .before .before .before .before .before .before .before .before .before .m in
@@ -131,7 +131,7 @@ returns-5 c d =
     let env = environmentOf d (args′ .parameters .now) (args′ .messages) in
     let found = sym (find′ .ensures) ∙ x′ .given .1 in
     sym (parameter-placed _ _ _ _ (args′ .flagged) (args′ .request .now) (args′ .c)
-    (byte-read (byte (args′ .request .now) (args′ .c)) (sym (m′ .given .1) ∙ next-byte′ .ensures))
+    (message-read (byte (args′ .request .now) (args′ .c)) (sym (m′ .given .1) ∙ next-message′ .ensures))
     (message-declared env (args′ .parameters .now) (args′ .messages) refl _ _ found)
     (sym (parameter-allowed′ .ensures d) ∙ not-false _ (if1′ .left)) ∙
     words-plain env (args′ .parameters .now) (args′ .messages) refl _ _ found _ _ _ _ (args′ .flagged) (if2′ .left)
@@ -145,7 +145,7 @@ returns-6 c d =
     let find′ = c .before .before .before .before .before .before .before .before .before .find in
     let x′ = c .before .before .before .before .before .before .before .x in
     let m′ = c .before .before .before .before .before .before .before .before .before .before .before .m in
-    let next-byte′ = c .before .before .before .before .before .before .before .before .before .before .before .before .before .next-byte in
+    let next-message′ = c .before .before .before .before .before .before .before .before .before .before .before .before .before .next-message in
     let parameter-allowed′ = c .before .before .before .before .before .parameter-allowed in
     let if1′ = c .before .before .before .before .if1 in
     let read-word′ = c .before .before .before .read-word in
@@ -153,7 +153,7 @@ returns-6 c d =
     let env = environmentOf d (args′ .parameters .now) (args′ .messages) in
     let found = sym (find′ .ensures) ∙ x′ .given .1 in
     sym (parameter-placed _ _ _ _ (args′ .flagged) (args′ .request .now) (args′ .c)
-    (byte-read (byte (args′ .request .now) (args′ .c)) (sym (m′ .given .1) ∙ next-byte′ .ensures))
+    (message-read (byte (args′ .request .now) (args′ .c)) (sym (m′ .given .1) ∙ next-message′ .ensures))
     (message-declared env (args′ .parameters .now) (args′ .messages) refl _ _ found)
     (sym (parameter-allowed′ .ensures d) ∙ not-false _ (if1′ .left)) ∙
     words-refused env (args′ .parameters .now) (args′ .messages) refl _ _ found _ _ _ _ (args′ .flagged)
@@ -163,7 +163,7 @@ pub read-parameter-spec : {M : Type 1} → statement M
 read-parameter-spec =
     tie.close
     (tie.spec
-    next-byte-requires
+    next-message-requires
     enum-known-m
     enum-told
     returns

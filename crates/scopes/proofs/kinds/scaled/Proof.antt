@@ -1,7 +1,7 @@
 -- `scopes::kinds::scaled` meets its contract. By the operators, on scales of 32 bits. Assumes nothing.
 use mathlib.Core.Path.{ap, _∙_}
 use borrow.Author.Needs.{needs}
-use Rattle.grammar.specs.Steps.{fitOf}
+use Rattle.grammar.specs.Internal.Steps.{fitOf}
 use Rattle.grammar.specs.Kinds.{arithmeticRange}
 use Rattle.scopes.proofs.Scales.{wide-fits, read-smaller, sum-fits, read-sum, difference-fits, read-difference}
 use Rattle.scopes.proofs.kinds.scaled.Statement.{statement}

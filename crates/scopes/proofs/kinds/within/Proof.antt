@@ -1,8 +1,12 @@
 -- `scopes::kinds::within` meets its contract. Below, above and within the range. Assumes nothing.
 use mir.Facts.{toZ-ofZ}
+use borrow.Author.Needs.{needs}
 use Rattle.scopes.proofs.Scales.{range-below, range-above, range-within, range-fits}
 use Rattle.scopes.proofs.kinds.within.Statement.{statement}
 use Rattle.scopes.proofs.kinds.within.Tie as tie
+
+cast-if1 : tie.Need-cast-if1
+cast-if1 c = search needs
 
 returns : tie.Need-returns
 returns c =
@@ -18,8 +22,8 @@ returns-2 c =
     let if2′ = c .if2 in
     rw (range-above (args′ .scale) (rw (toZ-ofZ (fits′ .scale)) at (if2′ .taken)))
 
-cast-t3 : tie.Need-cast-t3
-cast-t3 c =
+cast-t4 : tie.Need-cast-t4
+cast-t4 c =
     let fits′ = c .before .before .fits in
     let args′ = c .before .before .args in
     let if1′ = c .before .if1 in
@@ -39,4 +43,4 @@ returns-3 c =
     rw (back, range-within (args′ .scale) low high, toZ-ofZ (range-fits (args′ .scale) low high))
 
 pub within-spec : {M : Type 1} → statement M
-within-spec = tie.close (tie.spec returns returns-2 cast-t3 returns-3)
+within-spec = tie.close (tie.spec cast-if1 returns returns-2 cast-t4 returns-3)

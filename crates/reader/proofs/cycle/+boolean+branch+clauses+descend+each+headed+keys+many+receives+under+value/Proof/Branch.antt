@@ -1,5 +1,4 @@
-use Rattle.reader.proofs.Statements.{goes-given, statements-below, if-head, if-done, if-goes, if-stopped}
-use Rattle.reader.proofs.Values.{booleans-below}
+use Rattle.reader.proofs.Statements.{goes-given, if-head, if-done, if-goes, if-stopped}
 use Rattle.reader.proofs.Requires.{given-noted, inside-noted, inside-short}
 use Rattle.reader.proofs.Ready.{given-next, given-again, boolean-onward, statement-onward}
 use Prim.Native.Nat.{_-_}
@@ -117,11 +116,9 @@ returns t c =
     let descend2′ = c .before .before .before .before .before .before .before .before .before .before .descend2 in
     let ending-after′ = c .before .before .before .ending-after in
     let after′ = c .before .after in
-    if-done (args′ .request .now) (pre′ .1 .given .octets) around′ scope′ (args′ .levels) (args′ .at) (args′ .c) (pre′ .1 .here)
-    (if-head (args′ .request .now) (pre′ .1 .given .octets) around′ scope′ (args′ .levels) (args′ .at) (args′ .c) (pre′ .1 .here)
-    (note′ .ensures .0) (note′ .ensures .1) (booleans-below around′ scope′ (args′ .request .now) (args′ .levels) (pre′ .1 .deep) 0
-    (descend′ .ensures)) (statements-below around′ scope′ (args′ .request .now) (args′ .levels) (pre′ .1 .deep) (args′ .c .statements)
-    (descend2′ .ensures))) (ending-after′ .ensures) (after′ .given .1)
+    if-done (args′ .request .now) (pre′ .1 .given .octets) around′ scope′ (args′ .levels - 1) (args′ .at) (args′ .c) (pre′ .1 .here)
+    (if-head (args′ .request .now) (pre′ .1 .given .octets) around′ scope′ (args′ .levels - 1) (args′ .at) (args′ .c) (pre′ .1 .here)
+    (note′ .ensures .0) (note′ .ensures .1) (descend′ .ensures) (descend2′ .ensures)) (ending-after′ .ensures) (after′ .given .1)
 
 pub same-length-4 : (t : ℕ) → branch-lts.Need-same-length-4 (note-reads.Asked, note-reads.Learnt, descend-below t, descend.Post, ending-after-reads.Asked, ending-after-reads.Learnt) (branch-at t) branch.Post
 same-length-4 t c =
@@ -157,12 +154,10 @@ returns-2 t c =
     let ending-after′ = c .before .before .before .before .before .before .before .before .before .before .before .before .before .ending-after in
     let after2′ = c .before .before .before .before .before .before .before .before .before .before .before .after2 in
     let descend3′ = c .before .before .before .before .before .before .descend3 in
-    if-goes (args′ .request .now) (pre′ .1 .given .octets) around′ scope′ (args′ .levels) (args′ .at) (args′ .c) (pre′ .1 .here)
-    (if-head (args′ .request .now) (pre′ .1 .given .octets) around′ scope′ (args′ .levels) (args′ .at) (args′ .c) (pre′ .1 .here)
-    (note′ .ensures .0) (note′ .ensures .1) (booleans-below around′ scope′ (args′ .request .now) (args′ .levels) (pre′ .1 .deep) 0
-    (descend′ .ensures)) (statements-below around′ scope′ (args′ .request .now) (args′ .levels) (pre′ .1 .deep) (args′ .c .statements)
-    (descend2′ .ensures))) (ending-after′ .ensures) (after2′ .given .1)
-    (statements-below around′ scope′ (args′ .request .now) (args′ .levels) (pre′ .1 .deep) (args′ .c .statements) (descend3′ .ensures))
+    if-goes (args′ .request .now) (pre′ .1 .given .octets) around′ scope′ (args′ .levels - 1) (args′ .at) (args′ .c) (pre′ .1 .here)
+    (if-head (args′ .request .now) (pre′ .1 .given .octets) around′ scope′ (args′ .levels - 1) (args′ .at) (args′ .c) (pre′ .1 .here)
+    (note′ .ensures .0) (note′ .ensures .1) (descend′ .ensures) (descend2′ .ensures)) (ending-after′ .ensures) (after2′ .given .1)
+    (descend3′ .ensures)
 
 pub same-length-7 : (t : ℕ) → branch-lts.Need-same-length-7 (note-reads.Asked, note-reads.Learnt, descend-below t, descend.Post, ending-after-reads.Asked, ending-after-reads.Learnt) (branch-at t) branch.Post
 same-length-7 t c = search needs
@@ -184,8 +179,6 @@ returns-3 t c =
     let descend2′ = c .before .before .before .before .before .before .before .before .before .before .descend2 in
     let ending-after′ = c .before .before .before .ending-after in
     let r′ = c .before .r in
-    if-stopped (args′ .request .now) (pre′ .1 .given .octets) around′ scope′ (args′ .levels) (args′ .at) (args′ .c) (pre′ .1 .here)
-    (if-head (args′ .request .now) (pre′ .1 .given .octets) around′ scope′ (args′ .levels) (args′ .at) (args′ .c) (pre′ .1 .here)
-    (note′ .ensures .0) (note′ .ensures .1) (booleans-below around′ scope′ (args′ .request .now) (args′ .levels) (pre′ .1 .deep) 0
-    (descend′ .ensures)) (statements-below around′ scope′ (args′ .request .now) (args′ .levels) (pre′ .1 .deep) (args′ .c .statements)
-    (descend2′ .ensures))) (ending-after′ .ensures) (r′ .given .1)
+    if-stopped (args′ .request .now) (pre′ .1 .given .octets) around′ scope′ (args′ .levels - 1) (args′ .at) (args′ .c) (pre′ .1 .here)
+    (if-head (args′ .request .now) (pre′ .1 .given .octets) around′ scope′ (args′ .levels - 1) (args′ .at) (args′ .c) (pre′ .1 .here)
+    (note′ .ensures .0) (note′ .ensures .1) (descend′ .ensures) (descend2′ .ensures)) (ending-after′ .ensures) (r′ .given .1)

@@ -1,10 +1,9 @@
 use Rattle.reader.proofs.Headings.{for-wrote}
-use Rattle.reader.proofs.Statements.{statements-below}
 use Rattle.reader.proofs.Requires.{head-given, head-more, closes-of}
 use Rattle.reader.proofs.Ready.{given-again, clauses-onward, statement-onward}
 use Rattle.scopes.specs.Scopes.{scopeOf}
 use Rattle.references.specs.Promises.{environmentOf}
-use Prim.Native.Nat.{ℕ}
+use Prim.Native.Nat.{ℕ, _-_}
 use native.Mathlib.Omega.{arith}
 use borrow.Author.Needs.{needs}
 use Rattle.reader.proofs.cycle.+boolean+branch+clauses+descend+each+headed+keys+many+receives+under+value.Proof.Measures.{clauses-below, descend-below, each-at}
@@ -78,7 +77,6 @@ returns t c =
     let clauses′ = c .before .before .before .before .before .before .before .before .before .before .before .before .before .before .before .before .before .before .before .before .clauses in
     let descend′ = c .before .before .before .before .before .before .before .before .before .before .descend in
     let close′ = c .before .before .close in
-    for-wrote (args′ .request .now) (pre′ .1 .given .octets) around′ (scopeOf (args′ .dictionary .now) (args′ .scope)) (args′ .levels)
+    for-wrote (args′ .request .now) (pre′ .1 .given .octets) around′ (scopeOf (args′ .dictionary .now) (args′ .scope)) (args′ .levels - 1)
     (args′ .at) (args′ .c) (pre′ .1 .here) (read-head′ .ensures) (clauses′ .ensures)
-    (statements-below around′ (scopeOf (args′ .dictionary .now) (read-head′ .result .scope)) (args′ .request .now) (args′ .levels)
-    (pre′ .1 .deep) (args′ .c .statements) (descend′ .ensures)) (close′ .ensures)
+    (descend′ .ensures) (close′ .ensures)

@@ -1,10 +1,9 @@
 use Rattle.reader.proofs.Headings.{headed-wrote}
-use Rattle.reader.proofs.Statements.{statements-below}
 use Rattle.reader.proofs.Requires.{heading-given, heading-more, closes-of}
 use Rattle.reader.proofs.Ready.{given-again, statement-onward}
 use Rattle.scopes.specs.Scopes.{scopeOf}
 use Rattle.references.specs.Promises.{environmentOf}
-use Prim.Native.Nat.{ℕ}
+use Prim.Native.Nat.{ℕ, _-_}
 use native.Mathlib.Omega.{arith}
 use borrow.Author.Needs.{needs}
 use Rattle.reader.proofs.cycle.+boolean+branch+clauses+descend+each+headed+keys+many+receives+under+value.Proof.Measures.{descend-below, headed-at}
@@ -70,6 +69,5 @@ returns t c =
     let descend′ = c .before .before .before .before .before .before .before .before .before .before .descend in
     let close′ = c .before .before .close in
     headed-wrote (args′ .request .now) (pre′ .1 .given .octets) around′ (scopeOf (args′ .dictionary .now) (args′ .scope)) (args′ .at)
-    (args′ .k) (args′ .levels) (args′ .c) (pre′ .1 .here) (read-heading′ .ensures)
-    (statements-below around′ (scopeOf (args′ .dictionary .now) (read-heading′ .result .scope)) (args′ .request .now) (args′ .levels)
-    (pre′ .1 .deep) (args′ .c .statements) (descend′ .ensures)) (close′ .ensures)
+    (args′ .k) (args′ .levels - 1) (args′ .c) (pre′ .1 .here) (read-heading′ .ensures)
+    (descend′ .ensures) (close′ .ensures)

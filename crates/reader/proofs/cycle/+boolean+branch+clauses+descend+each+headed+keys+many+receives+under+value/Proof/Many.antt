@@ -1,4 +1,4 @@
-use Rattle.reader.proofs.Statements.{goes-given, statements-below, many-ends, many-ends-full, many-goes, many-stops}
+use Rattle.reader.proofs.Statements.{goes-given, many-ends, many-ends-full, many-goes, many-stops}
 use Rattle.reader.proofs.Ready.{given-next, given-again, statement-onward}
 use Rattle.scopes.specs.Scopes.{scopeOf}
 use Rattle.references.specs.Promises.{environmentOf}
@@ -28,7 +28,7 @@ returns t c =
     let c2′ = c .before .before .c2 in
     let if1′ = c .if1 in
     many-ends-full (args′ .request .now) (pre′ .1 .0 .octets) (environmentOf (args′ .dictionary .now) (args′ .parameters .now)
-    (args′ .messages)) (scopeOf (args′ .dictionary .now) (args′ .scope)) (args′ .levels) (args′ .most) (args′ .parent) (args′ .from)
+    (args′ .messages)) (scopeOf (args′ .dictionary .now) (args′ .scope)) (args′ .levels - 1) (args′ .most) (args′ .parent) (args′ .from)
     (ending-after′ .ensures) (c2′ .given .1) (if1′ .taken)
 
 pub sub-descend : (t : ℕ) → many-lts.Need-sub-descend (ending-after-reads.Asked, ending-after-reads.Learnt, descend-below t, descend.Post, many-below t, many.Post) (many-at t) many.Post
@@ -46,7 +46,7 @@ descend-requires t c κs =
       (
         given-next _ (goes-given (args′ .request .now) (pre′ .1 .0 .octets)
             (environmentOf (args′ .dictionary .now) (args′ .parameters .now) (args′ .messages)) (scopeOf (args′ .dictionary .now) (args′ .scope))
-            (args′ .levels) (args′ .most) (args′ .parent) (args′ .from) (ending-after′ .ensures) (pre′ .1 .0) (c2′ .given .1)) (omega arith),
+            (args′ .levels - 1) (args′ .most) (args′ .parent) (args′ .from) (ending-after′ .ensures) (pre′ .1 .0) (c2′ .given .1)) (omega arith),
         pre′
             .1 .1 .1 .1,
       ),
@@ -70,9 +70,9 @@ many-requires t c κs =
       omega (arith, pre′ .0, if1′ .left),
       (
         given-again (given-next {l′ = args′ .levels - 1} _
-            (goes-given (args′ .request .now) (pre′ .1 .0 .octets) around′ scope′ (args′ .levels) (args′ .most) (args′ .parent) (args′ .from)
+            (goes-given (args′ .request .now) (pre′ .1 .0 .octets) around′ scope′ (args′ .levels - 1) (args′ .most) (args′ .parent) (args′ .from)
             (ending-after′ .ensures) (pre′ .1 .0) (c2′ .given .1)) (omega arith))
-            (statements-below around′ scope′ (args′ .request .now) (args′ .levels) (pre′ .1 .1 .0) (args′ .parent) (descend′ .ensures))
+            (descend′ .ensures)
             (statement-onward (args′ .request .now) (pre′ .1 .0 .octets) _ _ _),
         (pre′ .1 .1 .0, (omega (arith, pre′ .1 .1 .1 .0), pre′ .1 .1 .1 .1)),
       ),
@@ -88,7 +88,7 @@ returns-2 t c =
     let ending-after′ = c .before .before .before .ending-after in
     let c′ = c .before .c in
     many-ends (args′ .request .now) (pre′ .1 .0 .octets) (environmentOf (args′ .dictionary .now) (args′ .parameters .now)
-    (args′ .messages)) (scopeOf (args′ .dictionary .now) (args′ .scope)) (args′ .levels) (args′ .most) (args′ .parent) (args′ .from)
+    (args′ .messages)) (scopeOf (args′ .dictionary .now) (args′ .scope)) (args′ .levels - 1) (args′ .most) (args′ .parent) (args′ .from)
     (ending-after′ .ensures) (c′ .given .1)
 
 pub same-length : (t : ℕ) → many-lts.Need-same-length (ending-after-reads.Asked, ending-after-reads.Learnt, descend-below t, descend.Post, many-below t, many.Post) (many-at t) many.Post
@@ -111,9 +111,8 @@ returns-3 t c =
     let if1′ = c .before .before .before .before .before .before .before .before .before .before .before .before .before .before .before .before .before .before .before .before .if1 in
     let descend′ = c .before .before .before .before .before .before .before .before .before .before .before .before .before .before .before .before .descend in
     let many′ = c .before .before .before .before .before .before .many in
-    many-goes (args′ .request .now) (pre′ .1 .0 .octets) around′ scope′ (args′ .levels) (args′ .most) (args′ .parent) (args′ .from)
-    (ending-after′ .ensures) (c2′ .given .1) (if1′ .left) (statements-below around′ scope′ (args′ .request .now) (args′ .levels)
-    (pre′ .1 .1 .0) (args′ .parent) (descend′ .ensures)) (many′ .ensures)
+    many-goes (args′ .request .now) (pre′ .1 .0 .octets) around′ scope′ (args′ .levels - 1) (args′ .most) (args′ .parent) (args′ .from)
+    (ending-after′ .ensures) (c2′ .given .1) (if1′ .left) (descend′ .ensures) (many′ .ensures)
 
 pub returns-4 : (t : ℕ) → many-lts.Need-returns-4 (ending-after-reads.Asked, ending-after-reads.Learnt, descend-below t, descend.Post, many-below t, many.Post) (many-at t) many.Post
 returns-4 t c =
@@ -122,5 +121,5 @@ returns-4 t c =
     let ending-after′ = c .before .before .before .ending-after in
     let r′ = c .before .r in
     many-stops (args′ .request .now) (pre′ .1 .0 .octets) (environmentOf (args′ .dictionary .now) (args′ .parameters .now)
-    (args′ .messages)) (scopeOf (args′ .dictionary .now) (args′ .scope)) (args′ .levels) (args′ .most) (args′ .parent) (args′ .from)
+    (args′ .messages)) (scopeOf (args′ .dictionary .now) (args′ .scope)) (args′ .levels - 1) (args′ .most) (args′ .parent) (args′ .from)
     (ending-after′ .ensures) (r′ .given .1)

@@ -116,9 +116,7 @@ finish-requires t c κs =
           ends-given (given-again (given-next {l′ = args′ .levels} _
               (receive-given (args′ .most) (args′ .levels - 1) around′ scope′ (args′ .request .now) (args′ .from) (receive-after′ .ensures)
               (pre′ .1 .0) (pre′ .1 .1 .1 .1 .1) (m′ .given .1) .given) (omega arith))
-              (statements-two-below around′ scope′ (args′ .request .now) (args′ .levels)
-              (receive-given (args′ .most) (args′ .levels - 1) around′ scope′ (args′ .request .now) (args′ .from) (receive-after′ .ensures)
-              (pre′ .1 .0) (pre′ .1 .1 .1 .1 .1) (m′ .given .1) .deep) _ (descend′ .ensures))
+              (statements-two-below around′ scope′ (args′ .request .now) (args′ .levels) _ (descend′ .ensures))
               (statement-onward (args′ .request .now) (pre′ .1 .0 .octets) _ _ _)),
         ),
       ),
@@ -171,9 +169,7 @@ receives-requires t c κs =
         given-next _ (goes-given (args′ .request .now) (pre′ .1 .0 .octets) around′ scope′ 0 0 0 _ (ending-after′ .ensures)
             (given-again (given-next {l′ = args′ .levels} _ (receive-given (args′ .most) (args′ .levels - 1) around′ scope′ (args′ .request .now)
             (args′ .from) (receive-after′ .ensures) (pre′ .1 .0) (pre′ .1 .1 .1 .1 .1) (m′ .given .1) .given) (omega arith))
-            (statements-two-below around′ scope′ (args′ .request .now) (args′ .levels)
-            (receive-given (args′ .most) (args′ .levels - 1) around′ scope′ (args′ .request .now) (args′ .from) (receive-after′ .ensures)
-            (pre′ .1 .0) (pre′ .1 .1 .1 .1 .1) (m′ .given .1) .deep) _ (descend′ .ensures))
+            (statements-two-below around′ scope′ (args′ .request .now) (args′ .levels) _ (descend′ .ensures))
             (statement-onward (args′ .request .now) (pre′ .1 .0 .octets) _ _ _)) (after2′ .given .1)) (omega arith),
         (
           pre′ .1 .1 .0,
@@ -217,10 +213,8 @@ returns t c =
     let finish′ = c .before .before .before .before .before .before .finish in
     let ending-after′ = c .before .before .before .ending-after in
     let after′ = c .before .after in
-    select-done (args′ .request .now) (pre′ .1 .0 .octets) around′ scope′ (args′ .levels) (args′ .most) (args′ .parent) (pre′ .1 .1 .0)
-    (args′ .from) (receive-after′ .ensures) (m′ .given .1) (statements-two-below around′ scope′ (args′ .request .now) (args′ .levels)
-    (receive-given (args′ .most) (args′ .levels - 1) around′ scope′ (args′ .request .now) (args′ .from) (receive-after′ .ensures)
-    (pre′ .1 .0) (pre′ .1 .1 .1 .1 .1) (m′ .given .1) .deep) _ (descend′ .ensures)) (finish′ .ensures) (ending-after′ .ensures)
+    select-done (args′ .request .now) (pre′ .1 .0 .octets) around′ scope′ (args′ .levels - 1) (args′ .most) (args′ .parent)
+    (args′ .from) (receive-after′ .ensures) (m′ .given .1) (statements-two-below around′ scope′ (args′ .request .now) (args′ .levels) _ (descend′ .ensures)) (finish′ .ensures) (ending-after′ .ensures)
     (after′ .given .1)
 
 pub same-length-4 : (t : ℕ) → receives-lts.Need-same-length-4 (receive-after-reads.Asked, receive-after-reads.Learnt, descend-below t, descend.Post, finish-reads.Asked, finish-reads.Learnt, ending-after-reads.Asked, ending-after-reads.Learnt, with-reads.Asked, with-reads.Learnt, receives-below t, receives.Post) (receives-at t) receives.Post
@@ -256,10 +250,8 @@ returns-2 t c =
     let after2′ = c .before .before .before .before .before .before .before .before .before .before .before .before .after2 in
     let with′ = c .before .before .before .before .before .before .before .with in
     let receives′ = c .before .before .before .before .before .before .receives in
-    select-goes (args′ .request .now) (pre′ .1 .0 .octets) around′ scope′ (args′ .levels) (args′ .most) (args′ .parent) (pre′ .1 .1 .0)
-    (args′ .from) (receive-after′ .ensures) (m′ .given .1) (statements-two-below around′ scope′ (args′ .request .now) (args′ .levels)
-    (receive-given (args′ .most) (args′ .levels - 1) around′ scope′ (args′ .request .now) (args′ .from) (receive-after′ .ensures)
-    (pre′ .1 .0) (pre′ .1 .1 .1 .1 .1) (m′ .given .1) .deep) _ (descend′ .ensures)) (finish′ .ensures) (ending-after′ .ensures)
+    select-goes (args′ .request .now) (pre′ .1 .0 .octets) around′ scope′ (args′ .levels - 1) (args′ .most) (args′ .parent)
+    (args′ .from) (receive-after′ .ensures) (m′ .given .1) (statements-two-below around′ scope′ (args′ .request .now) (args′ .levels) _ (descend′ .ensures)) (finish′ .ensures) (ending-after′ .ensures)
     (after2′ .given .1) (receive-given (args′ .most) (args′ .levels - 1) around′ scope′ (args′ .request .now) (args′ .from)
     (receive-after′ .ensures) (pre′ .1 .0) (pre′ .1 .1 .1 .1 .1) (m′ .given .1) .small) (with′ .ensures) (receives′ .ensures)
 
@@ -284,10 +276,8 @@ returns-3 t c =
     let finish′ = c .before .before .before .before .before .before .finish in
     let ending-after′ = c .before .before .before .ending-after in
     let r′ = c .before .r in
-    select-cut (args′ .request .now) (pre′ .1 .0 .octets) around′ scope′ (args′ .levels) (args′ .most) (args′ .parent) (pre′ .1 .1 .0)
-    (args′ .from) (receive-after′ .ensures) (m′ .given .1) (statements-two-below around′ scope′ (args′ .request .now) (args′ .levels)
-    (receive-given (args′ .most) (args′ .levels - 1) around′ scope′ (args′ .request .now) (args′ .from) (receive-after′ .ensures)
-    (pre′ .1 .0) (pre′ .1 .1 .1 .1 .1) (m′ .given .1) .deep) _ (descend′ .ensures)) (finish′ .ensures) (ending-after′ .ensures)
+    select-cut (args′ .request .now) (pre′ .1 .0 .octets) around′ scope′ (args′ .levels - 1) (args′ .most) (args′ .parent)
+    (args′ .from) (receive-after′ .ensures) (m′ .given .1) (statements-two-below around′ scope′ (args′ .request .now) (args′ .levels) _ (descend′ .ensures)) (finish′ .ensures) (ending-after′ .ensures)
     (r′ .given .1)
 
 pub returns-4 : (t : ℕ) → receives-lts.Need-returns-4 (receive-after-reads.Asked, receive-after-reads.Learnt, descend-below t, descend.Post, finish-reads.Asked, finish-reads.Learnt, ending-after-reads.Asked, ending-after-reads.Learnt, with-reads.Asked, with-reads.Learnt, receives-below t, receives.Post) (receives-at t) receives.Post
@@ -297,5 +287,5 @@ returns-4 t c =
     let receive-after′ = c .before .before .before .receive-after in
     let r2′ = c .before .r2 in
     select-stopped (args′ .request .now) (pre′ .1 .0 .octets) (environmentOf (args′ .dictionary .now) (args′ .parameters .now)
-    (args′ .messages)) (scopeOf (args′ .dictionary .now) (args′ .scope)) (args′ .levels) (args′ .most) (args′ .parent) (pre′ .1 .1 .0)
+    (args′ .messages)) (scopeOf (args′ .dictionary .now) (args′ .scope)) (args′ .levels - 1) (args′ .most) (args′ .parent)
     (args′ .from) (receive-after′ .ensures) (r2′ .given .1)

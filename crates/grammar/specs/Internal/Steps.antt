@@ -9,6 +9,12 @@ use Rattle.grammar.specs.declared.Step.{Step}
 use Rattle.grammar.specs.declared.Step.the-variants as Step
 use Rattle.grammar.specs.declared.ByteStep.{ByteStep}
 use Rattle.grammar.specs.declared.ByteStep.the-variants as ByteStep
+use Rattle.grammar.specs.declared.ContextStep.{ContextStep}
+use Rattle.grammar.specs.declared.ContextStep.the-variants as ContextStep
+use Rattle.grammar.specs.declared.MessageStep.{MessageStep}
+use Rattle.grammar.specs.declared.MessageStep.the-variants as MessageStep
+use Rattle.grammar.specs.declared.LabelStep.{LabelStep}
+use Rattle.grammar.specs.declared.LabelStep.the-variants as LabelStep
 use Rattle.grammar.specs.declared.WordStep.{WordStep}
 use Rattle.grammar.specs.declared.WordStep.the-variants as WordStep
 use Rattle.grammar.specs.Reader.{Read, read, refused}
@@ -37,6 +43,19 @@ noKind a = Fit.NoKind
 abbrev pub byteStep : Read ℕ → ByteStep
 byteStep (read n c) = ByteStep.Is n c
 byteStep (refused r p) = ByteStep.Refused r p
+
+-- a byte that is the number of a context, a message or a label
+abbrev pub contextStep : Read ℕ → ContextStep
+contextStep (read n c) = ContextStep.Is (record { 0 = n }) c
+contextStep (refused r p) = ContextStep.Refused r p
+
+abbrev pub messageStep : Read ℕ → MessageStep
+messageStep (read n c) = MessageStep.Is (record { 0 = n }) c
+messageStep (refused r p) = MessageStep.Refused r p
+
+abbrev pub labelStep : Read ℕ → LabelStep
+labelStep (read n c) = LabelStep.Is (record { 0 = n }) c
+labelStep (refused r p) = LabelStep.Refused r p
 
 abbrev pub wordStep : Read ℕ → WordStep
 wordStep (read n c) = WordStep.Is n c

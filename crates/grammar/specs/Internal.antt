@@ -1,0 +1,2 @@
+-- What the functions promise each other: nobody outside has to believe it.
+pub mod Steps
