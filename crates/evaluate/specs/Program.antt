@@ -5,9 +5,10 @@ use mathlib.Core.List.{List}
 use mathlib.Core.Option.{Option, none, some}
 use lib.ListN.{take, drop}
 use Rattle.wire.specs.Words.{wordAt}
+use Rattle.wire.specs.Entries.{entryBody, messageEntryKind}
 use Rattle.meaning.specs.Evaluated.{outcomeOf}
 use Rattle.meaning.specs.Evaluation.{Outcome, evaluation}
-use Rattle.input.specs.Evaluation.{joined, evaluationInput}
+use Rattle.input.specs.Evaluation.{joined, numberEntryBytes, evaluationInput}
 use Rattle.input.specs.declared.EvaluationInput.{EvaluationInput}
 use Rattle.input.specs.declared.EvaluationInput.the-variants.{Entries, Bad}
 use Rattle.evaluate.specs.declared.ProgramAnswer.{ProgramAnswer}
@@ -21,7 +22,8 @@ part s from to = take (to - from) (drop from s)
 abbrev pub outcome : List ℕ → EvaluationInput → Option Outcome
 outcome s (Entries request number records) =
     some
-    (evaluation (part s (request + 4) number) (part s 4 request) (wordAt s (number + 4)) (joined s (number + 6) 10) (drop records s))
+    (evaluation (part s (request + entryBody) number) (part s entryBody request) (wordAt s (number + entryBody))
+    (joined s (number + numberEntryBytes) messageEntryKind) (drop records s))
 outcome s Bad = none
 
 abbrev pub answerOf : ProgramAnswer → Option Outcome

@@ -5,12 +5,17 @@ mod show;
 
 ghost use Prim.Native.Nat.{_≤_};
 ghost use lib.ListN.{length};
+ghost use Rattle.input.specs.Evaluation.{maxInputBytes};
 ghost use Rattle.evaluate.specs.Program.{Answered};
 use input::EvaluationInput;
+use input::MAX_INPUT_BYTES;
+use input::NUMBER_ENTRY_BYTES;
 use meaning::Evaluation;
 use show::bad_input;
 use show::evaluation;
 use wire::bytes::word_at;
+use wire::entries::ENTRY_BODY;
+use wire::entries::MESSAGE_ENTRY;
 
 enum ProgramAnswer {
     Is(Evaluation),
@@ -19,16 +24,16 @@ enum ProgramAnswer {
 
 // The answer to an input. A body starts four bytes after its entry; the messages are joined in a space as long as the longest input.
 fn evaluate_input(s: &[u8], images: &mut [u8]) -> ProgramAnswer
-    requires { ⌜ 3000000 ≤ length (now images) ⌝ }
+    requires { ⌜ maxInputBytes ≤ length (now images) ⌝ }
     ensures { λ r. ⌜ Answered (now (s .entry)) r ⌝ }
 {
     match input::evaluation_entries(s) {
         EvaluationInput::Entries(request, number, records) => {
-            let n = input::join_bodies(s, number + 6, 10, images);
+            let n = input::join_bodies(s, number + NUMBER_ENTRY_BYTES, MESSAGE_ENTRY, images);
             ProgramAnswer::Is(evaluator::evaluate(
-                &s[request + 4..number],
-                &s[4..request],
-                word_at(s, number + 4) as usize,
+                &s[request + ENTRY_BODY..number],
+                &s[ENTRY_BODY..request],
+                word_at(s, number + ENTRY_BODY) as usize,
                 &images[..n],
                 &s[records..],
             ))
@@ -45,20 +50,23 @@ fn show_answer(a: ProgramAnswer) {
 }
 
 // With room for one byte more than the longest input, a longer one is seen to be too long.
+const INPUT_SPACE: usize = MAX_INPUT_BYTES + 1;
+
+// Reads the input into a space, and shows the answer.
 fn run(space: &mut [u8], images: &mut [u8])
-    requires { ⌜ 3000000 ≤ length (now images) ⌝ }
+    requires { ⌜ maxInputBytes ≤ length (now images) ⌝ }
 {
     let n = io::read_full(0, space);
     show_answer(evaluate_input(&space[..n], images));
 }
 
 // Lends the two arrays as slices, whose lengths are those of the arrays' types.
-fn with_space(space: &mut [u8; 3000001], images: &mut [u8; 3000000]) {
+fn with_space(space: &mut [u8; INPUT_SPACE], images: &mut [u8; MAX_INPUT_BYTES]) {
     run(space, images);
 }
 
 fn main() {
-    let mut space = [0u8; 3000001];
-    let mut images = [0u8; 3000000];
+    let mut space = [0u8; INPUT_SPACE];
+    let mut images = [0u8; MAX_INPUT_BYTES];
     with_space(&mut space, &mut images);
 }

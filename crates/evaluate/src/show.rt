@@ -23,13 +23,13 @@ fn refused(n: u32, p: usize) {
     text(b"\n");
 }
 
-pub fn evaluation(e: Evaluation) {
+pub(crate) fn evaluation(e: Evaluation) {
     match e {
         Evaluation::Is(t) => truth(t),
         Evaluation::Refused(r, p) => refused(grammar::number_of(r), p),
     }
 }
 
-pub fn bad_input() {
+pub(crate) fn bad_input() {
     text(b"bad input\n");
 }

@@ -9,10 +9,10 @@ use lib.ListN.{length, getD, getElem?, take, length-append}
 use lib.Seq.{length-sets, length-take-le, take-at}
 use borrow.Author.Tests.{eq-eqb, ne-eqb}
 use Rattle.wire.specs.Lists.{sumOf}
-use Rattle.dictionary.specs.Walk.{relationAt}
+use Rattle.dictionary.specs.Internal.Walk.{relationAt}
 use Rattle.records.specs.declared.proper.RunAnswer.the-variants.{AsDue, WrongAt}
 use Rattle.records.specs.Record.{Run, asDue, wrongAt, records}
-use Rattle.records.specs.Answers.{runAnswer}
+use Rattle.records.specs.Internal.Answers.{runAnswer}
 use Rattle.grammar.specs.declared.Refusal.the-variants.{NoBoolean, BadMessageBytes, BadRecords}
 use Rattle.grammar.specs.Sizes.{messageSize, parameterCount, contextsCount}
 use Rattle.grammar.specs.Rows.{parameterRows}

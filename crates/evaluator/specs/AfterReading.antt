@@ -18,7 +18,7 @@ use Rattle.walking.specs.Walk.{Walked, at, fault, astray}
 use Rattle.surroundings.specs.Parameters.{ScaleBytes}
 use Rattle.surroundings.specs.Tables.{conditionPlace}
 
--- the request and its relations; the rows of m parameters and o contexts, then zeros; and the place of each condition,
+-- the request and its relations; the rows of m parameters and o contexts, whatever stands after them; and the place of each condition,
 -- 0 where there is none
 pub record AfterReading (s d parameters contexts conditions : List ℕ) (m o : ℕ) : Type 0 where
   pub relations : List Relation

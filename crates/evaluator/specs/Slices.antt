@@ -3,6 +3,7 @@ use Prim.Native.Nat.{ℕ, _/_, _<_}
 use mathlib.Core.Path.{_≡_}
 use mathlib.Core.List.{List}
 use lib.ListN.{length}
+use Rattle.wire.specs.Limits.{parameterRowNumbers}
 use Rattle.wire.specs.declared.codes.ValueCode.{ValueCode}
 use Rattle.wire.specs.declared.codes.BooleanCode.{BooleanCode}
 use Rattle.grammar.specs.Tree.{Reference}
@@ -46,8 +47,8 @@ lentOf g = lent (g .request) (g .images) (g .records)
 -- what references give
 unfoldable pub fetchedBy : Slices → Reference → Fetched
 fetchedBy g =
-    lentAround (g .dictionary) (g .numbers) (g .relations) (length (g .numbers)) (g .parameters) (length (g .parameters) / 6) (g .images)
-    (g .records)
+    lentAround (g .dictionary) (g .numbers) (g .relations) (length (g .numbers)) (g .parameters) (length (g .parameters) / parameterRowNumbers)
+    (g .images) (g .records)
 
 -- the values and the booleans at a place, with so many levels left
 abbrev pub valuesOf : Slices → ℕ → ℕ → Walked Datum

@@ -11,7 +11,7 @@ use meaning::Fault;
 use values::Tested;
 
 // Document 01's 23, 24 and 25 among the refusals.
-pub fn refusal_of(fault: Fault) -> Refusal
+pub(crate) fn refusal_of(fault: Fault) -> Refusal
     ensures { λ r. ⌜ r ≡ refusalOf fault ⌝ }
 {
     match fault {
@@ -21,8 +21,8 @@ pub fn refusal_of(fault: Fault) -> Refusal
     }
 }
 
-// The answer of a walk that is not astray, for this crate alone. That over a condition of an accepted request never is: nothing reaches the last case.
-pub fn answer_of(walk: Tested) -> Evaluation
+// The answer of a walk that is not astray. That over a condition of an accepted request never is: nothing reaches the last case.
+pub(crate) fn answer_of(walk: Tested) -> Evaluation
     requires { ⌜ (tested walk ≡ astray → ⊥) ⌝ }
     ensures { λ r. ⌜ outcomeOf r ≡ settled (tested walk) ⌝ }
 {

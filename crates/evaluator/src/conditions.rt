@@ -8,10 +8,13 @@ use meaning::Evaluation;
 use records::proper::RunAnswer;
 use surroundings::images::image_bytes;
 use surroundings::scope::in_scope;
-use surroundings::table::number_at;
+use wire::limits::MAX_CONTEXTS;
+use wire::limits::MAX_DEPTH;
+use wire::limits::PARAMETER_ROW;
+use wire::table::number_at;
 
-// The condition of a number, of a request that was read, for this crate alone: the tables hold so many rows of parameters and of contexts, and the places.
-pub fn evaluate_read<'a>(
+// The condition of a number, of a request that was read: the tables hold so many rows of parameters and of contexts, and the places.
+pub(crate) fn evaluate_read<'a>(
     request: &'a [u8],
     dictionary: &[u8],
     parameters: &[u32],
@@ -34,8 +37,8 @@ pub fn evaluate_read<'a>(
     if images.len() != total {
         return Evaluation::Refused(Refusal::BadMessageBytes, images.len());
     }
-    let mut numbers = [0u32; 32];
-    let mut relations = [0u32; 32];
+    let mut numbers = [0u32; MAX_CONTEXTS];
+    let mut relations = [0u32; MAX_CONTEXTS];
     let count = in_scope(
         dictionary,
         contexts,
@@ -51,10 +54,10 @@ pub fn evaluate_read<'a>(
             dictionary,
             &numbers[..count],
             &relations[..count],
-            &parameters[..rows * 6],
+            &parameters[..rows * PARAMETER_ROW],
             images,
             run,
-            32,
+            MAX_DEPTH,
             at,
         )),
         RunAnswer::WrongAt(p) => Evaluation::Refused(Refusal::BadRecords, p),

@@ -10,45 +10,45 @@ use wire::codes::TextSearch;
 use wire::codes::ValueCode;
 
 // An operator on values.
-pub enum OperationCode {
+pub(crate) enum OperationCode {
     Arithmetic(Operator),
     Negate,
 }
 
 // What a value is, by its code.
-pub enum ValueForm {
+pub(crate) enum ValueForm {
     Literal,
     Reference(ReferenceCode),
     Operation(OperationCode),
 }
 
 // A test on two values, and between on three.
-pub enum PairCode {
+pub(crate) enum PairCode {
     Compare(Comparison),
     Search(TextSearch),
     Between,
 }
 
 // A test on values.
-pub enum TestCode {
+pub(crate) enum TestCode {
     Pair(PairCode),
     Missing,
 }
 
 // An operator on booleans.
-pub enum LogicCode {
+pub(crate) enum LogicCode {
     Connect(Connective),
     Not,
 }
 
 // What a boolean is, by its code.
-pub enum BooleanForm {
+pub(crate) enum BooleanForm {
     Test(TestCode),
     Logic(LogicCode),
 }
 
 // The form of a value's code.
-pub fn value_form(code: ValueCode) -> ValueForm
+pub(crate) fn value_form(code: ValueCode) -> ValueForm
     ensures { λ r. ⌜ valueCode r ≡ code ⌝ }
 {
     match code {
@@ -60,7 +60,7 @@ pub fn value_form(code: ValueCode) -> ValueForm
 }
 
 // The form of a boolean's code.
-pub fn boolean_form(code: BooleanCode) -> BooleanForm
+pub(crate) fn boolean_form(code: BooleanCode) -> BooleanForm
     ensures { λ r. ⌜ booleanCode r ≡ code ⌝ }
 {
     match code {

@@ -3,6 +3,10 @@ ghost use Rattle.meaning.specs.Evaluated.{Evaluated};
 use grammar::ReadAnswer;
 use meaning::Evaluation;
 use reader::read_noting;
+use wire::limits::CONTEXT_TABLE;
+use wire::limits::MAX_STATEMENTS;
+use wire::limits::PARAMETER_TABLE;
+use wire::limits::STATEMENT_TABLE;
 
 mod answers;
 mod booleans;
@@ -22,10 +26,10 @@ pub fn evaluate<'a>(
 ) -> Evaluation
     ensures { λ r. ⌜ Evaluated (now (request .entry)) (now (dictionary .entry)) number (now (images .entry)) (now (records .entry)) r ⌝ }
 {
-    let mut statements = [0u32; 2048];
-    let mut parameters = [0u32; 1536];
-    let mut contexts = [0u32; 160];
-    let mut places = [0u32; 512];
+    let mut statements = [0u32; STATEMENT_TABLE];
+    let mut parameters = [0u32; PARAMETER_TABLE];
+    let mut contexts = [0u32; CONTEXT_TABLE];
+    let mut places = [0u32; MAX_STATEMENTS];
     let reading = read_noting(
         request,
         dictionary,

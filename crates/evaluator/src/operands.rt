@@ -16,9 +16,10 @@ use values::arithmetic::arithmetic;
 use values::arithmetic::negation;
 use wire::bytes::byte_at;
 use wire::codes::ValueCode;
+use wire::limits::PARAMETER_ROW;
 
 // A value whose code stands at a place, with so many levels left.
-pub fn value_at<'a>(
+pub(crate) fn value_at<'a>(
     request: &'a [u8],
     dictionary: &[u8],
     numbers: &[u32],
@@ -84,7 +85,7 @@ fn value_under<'a>(
             relations,
             numbers.len(),
             parameters,
-            parameters.len() / 6,
+            parameters.len() / PARAMETER_ROW,
             images,
             records,
             at,
@@ -154,7 +155,7 @@ fn operation<'a>(
 }
 
 // The value that follows another; a refusal passes through.
-pub fn value_after<'a>(
+pub(crate) fn value_after<'a>(
     request: &'a [u8],
     dictionary: &[u8],
     numbers: &[u32],

@@ -16,7 +16,7 @@ use values::missing::is_missing;
 use values::search::text_search;
 
 // A test whose code stands at a place, with so many levels left for its values.
-pub fn test<'a>(
+pub(crate) fn test<'a>(
     request: &'a [u8],
     dictionary: &[u8],
     numbers: &[u32],

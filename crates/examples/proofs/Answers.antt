@@ -37,6 +37,7 @@ use Rattle.text.specs.Tests
 use Rattle.text.specs.Value
 use Rattle.wire.specs.Classes
 use Rattle.wire.specs.Lists
+use Rattle.wire.specs.Orders
 use Rattle.wire.specs.Words
 
 pub data Answer : Type 0 where
@@ -73,7 +74,7 @@ unfolding Number.places Number.fitted Number.rescaled Number.added Number.subtra
 openNumber = tt
 
 unfoldable pub openNumber2 : Unit {0}
-unfolding Number.quotient Number.negated Number.computed Number.orderℤ Number.compared
+unfolding Number.quotient Number.negated Number.computed Number.compared
 openNumber2 = tt
 
 unfoldable pub openDictionary : Unit {0}
@@ -169,7 +170,7 @@ unfolding Refusals.number
 openRefusals = tt
 
 unfoldable pub openRows : Unit {0}
-unfolding Rows.statementRows Rows.statementsRows Rows.receivesRows Rows.descriptorRows Rows.parameterRows Rows.streamRows
+unfolding Rows.rowsBelow Rows.statementsRows Rows.receivesRows Rows.descriptorRows Rows.parameterRows Rows.streamRows
 openRows = tt
 
 unfoldable pub openRows2 : Unit {0}
@@ -197,7 +198,7 @@ unfolding Sizes.rseContexts Sizes.headingContexts Sizes.contextCount Sizes.conte
 openSizes3 = tt
 
 unfoldable pub openSizes4 : Unit {0}
-unfolding Sizes.descriptorsSize Sizes.messageSize Sizes.countInRange
+unfolding Sizes.descriptorsSize Sizes.messageSize Sizes.countInRange Sizes.booleansCount Sizes.sortsCount
 openSizes4 = tt
 
 unfoldable pub openStatements : Unit {0}
@@ -308,6 +309,10 @@ unfoldable pub openLists : Unit {0}
 unfolding Lists.anyOf Lists.allOf Lists.find Lists.indexOf Lists.among Lists.sumOf Lists.sameBytes
 openLists = tt
 
+unfoldable pub openOrders : Unit {0}
+unfolding Orders.orderℕ Orders.orderℤ
+openOrders = tt
+
 unfoldable pub openWords : Unit {0}
 unfolding Words.signed
 openWords = tt
@@ -337,7 +342,7 @@ unfolding openDecoding2 openDecoding3 openDecoding4 openDecoding5 openEvaluation
 everything6 = tt
 
 unfoldable pub everything7 : Unit {0}
-unfolding openTests openTests2 openValue openClasses openClasses2 openLists openWords
+unfolding openTests openTests2 openValue openClasses openClasses2 openLists openOrders openWords
 everything7 = tt
 
 unfoldable pub readAnswer : List ℕ → List ℕ → ℕ → ℕ → ℕ → Answer

@@ -3,6 +3,7 @@ use Prim.Native.Nat.{ℕ}
 use mathlib.Core.Path.{_≡_, refl}
 use mathlib.Core.List.{List, [], _∷_, map}
 use lib.ListN.{set}
+use Rattle.wire.specs.Limits.{statementTableNumbers, parameterTableNumbers, contextTableNumbers}
 use Rattle.records.specs.declared.missing.Cause.the-variants as Cause
 use Rattle.examples.proofs.Answers.{Answer, rows, isTrue, isFalse, isMissing, refusal, readAnswer, evaluateAnswer}
 
@@ -25,7 +26,7 @@ bed bits low high = 13 ∷ 0 ∷ 3 ∷ 0 ∷ 1 ∷ 0 ∷ bits ∷ low ∷ high �
 
 -- S with another byte at a place, read with tables of the smallest lengths
 pub altered : ℕ → ℕ → Answer
-altered place byte = readAnswer (set S place byte) dictionary 2048 1536 160
+altered place byte = readAnswer (set S place byte) dictionary statementTableNumbers parameterTableNumbers contextTableNumbers
 
 -- the condition of S over a record
 pub evaluated : List ℕ → Answer
@@ -50,7 +51,8 @@ expected =
 -- the examples by reading and evaluation
 pub computed : List Answer
 computed =
-    readAnswer S dictionary 2048 1536 160 ∷ altered 0 5 ∷ altered 18 1 ∷ altered 19 1 ∷ altered 19 2 ∷ altered 36 5 ∷ altered 37 1 ∷ map evaluated beds
+    readAnswer S dictionary statementTableNumbers parameterTableNumbers contextTableNumbers ∷
+    altered 0 5 ∷ altered 18 1 ∷ altered 19 1 ∷ altered 19 2 ∷ altered 36 5 ∷ altered 37 1 ∷ map evaluated beds
 
 -- 01: "The P examples are proved on the definitions as a single list under one theorem"
 pub examples : computed ≡ expected

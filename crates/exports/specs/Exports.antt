@@ -42,17 +42,41 @@ causeGiven Bit = 1
 causeGiven Reading = 2
 causeGiven Flag = 3
 
--- the lowest byte: false, true, missing; the cause of missing in the next
+-- the lowest byte: false, true, missing or refused
+abbrev pub falseByte : ℕ
+falseByte = 0
+
+abbrev pub trueByte : ℕ
+trueByte = 1
+
+abbrev pub missingByte : ℕ
+missingByte = 2
+
+abbrev pub refusedByte : ℕ
+refusedByte = 3
+
+-- one in the next byte, and one in the 48 bits above that
+abbrev pub secondByte : ℕ
+secondByte = 256
+
+abbrev pub placeBits : ℕ
+placeBits = 65536
+
+-- the greatest place that 48 bits hold
+abbrev pub greatestPlace : ℕ
+greatestPlace = 281474976710655
+
+-- the cause of missing stands in the second byte
 abbrev pub truthGiven : Truth → ℕ
-truthGiven False = 0
-truthGiven True = 1
-truthGiven (Missing w) = 2 + 256 * causeGiven w
+truthGiven False = falseByte
+truthGiven True = trueByte
+truthGiven (Missing w) = missingByte + secondByte * causeGiven w
 
--- or 3 for a refusal; then its number in the next byte, and its place in the 48 bits above, which are full for a greater one
+-- the number of a refusal stands in the second byte, its place in the 48 bits above, which are full for a greater one
 abbrev pub refusalGiven : Refusal → ℕ → ℕ
-refusalGiven x p = 3 + 256 * number x + 65536 * min p 281474976710655
+refusalGiven x p = refusedByte + secondByte * number x + placeBits * min p greatestPlace
 
--- no evaluation strays
+-- no evaluation strays: the last case is a number that is never given
 unfoldable pub outcomeGiven : Outcome → ℕ
 outcomeGiven (answered t) = truthGiven t
 outcomeGiven (refusal x p) = refusalGiven x p

@@ -2,7 +2,7 @@
 ghost use mathlib.Core.Path.{_≡_};
 ghost use Prim.Native.Nat.{min};
 ghost use Rattle.meaning.specs.Evaluation.{evaluation};
-ghost use Rattle.exports.specs.Exports.{Exported, causeGiven, truthGiven, refusalGiven, outcomeGiven};
+ghost use Rattle.exports.specs.Exports.{Exported, causeGiven, truthGiven, greatestPlace, refusalGiven, outcomeGiven};
 use grammar::ReadAnswer;
 use grammar::Refusal;
 use grammar::number_of;
@@ -45,23 +45,37 @@ fn cause_number(cause: Cause) -> u64
     }
 }
 
+// The lowest byte of the answer of evaluation.
+const FALSE: u64 = 0;
+
+const TRUE: u64 = 1;
+
+const MISSING: u64 = 2;
+
+const REFUSED: u64 = 3;
+
+// One in the byte above it, where a cause or the number of a refusal stands; and one in the bits above that, where its place stands.
+const SECOND_BYTE: u64 = 256;
+
+const PLACE_BITS: u64 = 65536;
+
+// The greatest place that those bits hold, which are 48.
+const GREATEST_PLACE: usize = 281474976710655;
+
 // A truth value as a number; of missing, with the cause.
 fn truth_number(truth: Truth) -> u64
     ensures { λ r. ⌜ r ≡ truthGiven truth ⌝ }
 {
     match truth {
-        Truth::False => 0,
-        Truth::True => 1,
-        Truth::Missing(w) => 2 + 256 * cause_number(w),
+        Truth::False => FALSE,
+        Truth::True => TRUE,
+        Truth::Missing(w) => MISSING + SECOND_BYTE * cause_number(w),
     }
 }
 
-// The greatest place that the answer of evaluation holds: 48 bits.
-const GREATEST_PLACE: usize = 281474976710655;
-
 // A place, or the greatest that is held.
 fn held_place(place: usize) -> u64
-    ensures { λ r. ⌜ r ≡ min place 281474976710655 ⌝ }
+    ensures { λ r. ⌜ r ≡ min place greatestPlace ⌝ }
 {
     if place < GREATEST_PLACE {
         place as u64
@@ -74,7 +88,7 @@ fn held_place(place: usize) -> u64
 fn refusal_number(refusal: Refusal, place: usize) -> u64
     ensures { λ r. ⌜ r ≡ refusalGiven refusal place ⌝ }
 {
-    3 + 256 * number_of(refusal) as u64 + 65536 * held_place(place)
+    REFUSED + SECOND_BYTE * number_of(refusal) as u64 + PLACE_BITS * held_place(place)
 }
 
 // Evaluates a condition by its number: what it comes out as, or the refusal and its place, in one number (include/blr.h).

@@ -1,5 +1,6 @@
--- The input of the program `evaluate`: entries of kinds 4 (dictionary), 5 (request) and 9 (the number of a boolean, one word), then any
--- number of kind 10 (message bytes), then any number of kind 3 (records), at most 3,000,000 bytes in all.
+-- The input of the program `evaluate`. 02, No. 6: "It reads entries of kinds 4, 5, 9 (the boolean's number, a word), then any of kind 10
+-- (message bytes, joined), then of 3 .., in all at most 3,000,000 bytes, else `bad input`." Its entries of kind 7 come
+-- with No. 4.
 use Prim.Native.Nat.{ℕ, zero, suc, _+_, _-_}
 use mathlib.Core.Bool.{Bool, true, false, cond, _&&_}
 use mathlib.Core.Path.{_≡_}
@@ -8,6 +9,7 @@ use lib.Dec.{eqb, leb}
 use lib.ListN.{length, take, drop}
 use lib.Seq.{sets}
 use Rattle.wire.specs.Words.{wordAt}
+use Rattle.wire.specs.Entries.{entryBody, dictionaryEntryKind, requestEntryKind, numberEntryKind, messageEntryKind, recordEntryKind}
 use Rattle.input.specs.Input.{whole}
 use Rattle.input.specs.declared.EvaluationInput.{EvaluationInput}
 use Rattle.input.specs.declared.EvaluationInput.the-variants as EvaluationInput
@@ -22,7 +24,7 @@ unfoldable pub places : ℕ → List ℕ → ℕ → ℕ → List ℕ
 places zero s p kind = []
 places (suc n) s p kind = placed (whole s p kind) p (places n s (p + wordAt s p) kind)
 
--- all of them: an entry has four bytes or more, so there are fewer than bytes
+-- all of them: an entry has four bytes or more, so that there are no more of them than bytes
 unfoldable pub entriesFrom : List ℕ → ℕ → ℕ → List ℕ
 entriesFrom s p kind = places (length s) s p kind
 
@@ -36,7 +38,7 @@ afterEntries s p kind = after s p (entriesFrom s p kind)
 
 -- the body of the entry at p
 unfoldable pub body : List ℕ → ℕ → List ℕ
-body s p = take (wordAt s p - 4) (drop (p + 4) s)
+body s p = take (wordAt s p - entryBody) (drop (p + entryBody) s)
 
 unfoldable pub bodies : List ℕ → List ℕ → List ℕ
 bodies s [] = []
@@ -53,9 +55,17 @@ pub record Joined (s : List ℕ) (p kind : ℕ) (lent lent′ : List ℕ) (r : �
 
 -- ---- the whole input
 
+-- the longest input
+abbrev pub maxInputBytes : ℕ
+maxInputBytes = 3000000
+
+-- the bytes of an entry with one word
+abbrev pub numberEntryBytes : ℕ
+numberEntryBytes = 6
+
 -- an entry of kind 9 with one word
 unfoldable pub wholeNumber : List ℕ → ℕ → Bool
-wholeNumber s p = whole s p 9 && eqb (wordAt s p) 6
+wholeNumber s p = whole s p numberEntryKind && eqb (wordAt s p) numberEntryBytes
 
 -- where the request's entry, the number's, the messages' and the records' begin
 abbrev pub requestAt : List ℕ → ℕ
@@ -65,16 +75,16 @@ abbrev pub numberAt : List ℕ → ℕ
 numberAt s = requestAt s + wordAt s (requestAt s)
 
 abbrev pub messagesAt : List ℕ → ℕ
-messagesAt s = numberAt s + 6
+messagesAt s = numberAt s + numberEntryBytes
 
 unfoldable pub recordsAt : List ℕ → ℕ
-recordsAt s = afterEntries s (messagesAt s) 10
+recordsAt s = afterEntries s (messagesAt s) messageEntryKind
 
 -- the records are the last entries
 unfoldable pub wholeInput : List ℕ → Bool
 wholeInput s =
-    leb (length s) 3000000 && whole s 0 4 && whole s (requestAt s) 5 && wholeNumber s (numberAt s) &&
-    eqb (afterEntries s (recordsAt s) 3) (length s)
+    leb (length s) maxInputBytes && whole s 0 dictionaryEntryKind && whole s (requestAt s) requestEntryKind && wholeNumber s (numberAt s) &&
+    eqb (afterEntries s (recordsAt s) recordEntryKind) (length s)
 
 unfoldable pub evaluationInput : List ℕ → EvaluationInput
 evaluationInput s = cond (wholeInput s) (EvaluationInput.Entries (requestAt s) (numberAt s) (recordsAt s)) EvaluationInput.Bad

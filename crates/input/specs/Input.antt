@@ -7,17 +7,21 @@ use mathlib.Core.Option.{Option, none, some}
 use lib.Dec.{eqb, leb}
 use lib.ListN.{length}
 use Rattle.wire.specs.Words.{wordAt}
+use Rattle.wire.specs.Entries.{entryKind, entryBody, dictionaryEntryKind, requestEntryKind}
 use Rattle.input.specs.declared.Input.{Input}
 use Rattle.input.specs.declared.Input.the-variants as Input
 
 -- 01: "An entry is a length word (the whole entry), a kind word, a body."
 unfoldable pub whole : List ℕ → ℕ → ℕ → Bool
-whole s p kind = leb 4 (wordAt s p) && leb (p + wordAt s p) (length s) && eqb (wordAt s (p + 2)) kind
+whole s p kind = leb entryBody (wordAt s p) && leb (p + wordAt s p) (length s) && eqb (wordAt s (p + entryKind)) kind
 
 -- the place of the second entry
 unfoldable pub requestEntry : List ℕ → Option ℕ
 requestEntry s =
-    cond (whole s 0 4 && whole s (wordAt s 0) 5 && eqb (wordAt s 0 + wordAt s (wordAt s 0)) (length s)) (some (wordAt s 0)) none
+    cond
+    (whole s 0 dictionaryEntryKind && whole s (wordAt s 0) requestEntryKind && eqb (wordAt s 0 + wordAt s (wordAt s 0)) (length s))
+    (some (wordAt s 0))
+    none
 
 abbrev pub inputAnswer : Option ℕ → Input
 inputAnswer none = Input.Bad

@@ -6,6 +6,19 @@ ghost use lib.Seq.{sets};
 ghost use Rattle.input.specs.Input.{whole, inputAnswer, requestEntry};
 ghost use Rattle.input.specs.Evaluation.{wholeNumber, afterEntries, evaluationInput, Joined};
 use wire::bytes::word_at;
+use wire::entries::DICTIONARY_ENTRY;
+use wire::entries::ENTRY_BODY;
+use wire::entries::ENTRY_KIND;
+use wire::entries::MESSAGE_ENTRY;
+use wire::entries::NUMBER_ENTRY;
+use wire::entries::RECORD_ENTRY;
+use wire::entries::REQUEST_ENTRY;
+
+// The longest input of the program `evaluate`, in bytes.
+pub const MAX_INPUT_BYTES: usize = 3000000;
+
+// The bytes of the entry of a boolean's number: length, kind, and the number, a word each.
+pub const NUMBER_ENTRY_BYTES: usize = 6;
 
 // The place of the request's entry after the dictionary's, or that the input is not these two entries.
 pub enum Input {
@@ -24,7 +37,7 @@ fn is_whole(s: &[u8], at: usize, kind: u32) -> bool
     ensures { λ r. ⌜ r ≡ whole (now (s .entry)) at kind ⌝ }
 {
     let n = word_at(s, at) as usize;
-    if n < 4 {
+    if n < ENTRY_BODY {
         return false;
     }
     if s.len() < at {
@@ -33,18 +46,18 @@ fn is_whole(s: &[u8], at: usize, kind: u32) -> bool
     if s.len() - at < n {
         return false;
     }
-    word_at(s, at + 2) == kind
+    word_at(s, at + ENTRY_KIND) == kind
 }
 
 // An entry of kind 4, then one of kind 5, and nothing more.
 pub fn request_entry(s: &[u8]) -> Input
     ensures { λ r. ⌜ r ≡ inputAnswer (requestEntry (now (s .entry))) ⌝ }
 {
-    if !is_whole(s, 0, 4) {
+    if !is_whole(s, 0, DICTIONARY_ENTRY) {
         return Input::Bad;
     }
     let at = word_at(s, 0) as usize;
-    if !is_whole(s, at, 5) {
+    if !is_whole(s, at, REQUEST_ENTRY) {
         return Input::Bad;
     }
     if at + word_at(s, at) as usize == s.len() {
@@ -58,14 +71,14 @@ pub fn request_entry(s: &[u8]) -> Input
 fn is_number(s: &[u8], at: usize) -> bool
     ensures { λ r. ⌜ r ≡ wholeNumber (now (s .entry)) at ⌝ }
 {
-    if !is_whole(s, at, 9) {
+    if !is_whole(s, at, NUMBER_ENTRY) {
         return false;
     }
-    word_at(s, at) == 6
+    word_at(s, at) as usize == NUMBER_ENTRY_BYTES
 }
 
 // The place after the entries of a kind that stand one after another from a place on.
-pub fn after_entries(s: &[u8], at: usize, kind: u32) -> usize
+fn after_entries(s: &[u8], at: usize, kind: u32) -> usize
     ensures { λ r. ⌜ r ≡ afterEntries (now (s .entry)) at kind ⌝ }
 {
     let mut p = at;
@@ -79,22 +92,22 @@ pub fn after_entries(s: &[u8], at: usize, kind: u32) -> usize
 pub fn evaluation_entries(s: &[u8]) -> EvaluationInput
     ensures { λ r. ⌜ r ≡ evaluationInput (now (s .entry)) ⌝ }
 {
-    if s.len() > 3000000 {
+    if s.len() > MAX_INPUT_BYTES {
         return EvaluationInput::Bad;
     }
-    if !is_whole(s, 0, 4) {
+    if !is_whole(s, 0, DICTIONARY_ENTRY) {
         return EvaluationInput::Bad;
     }
     let request = word_at(s, 0) as usize;
-    if !is_whole(s, request, 5) {
+    if !is_whole(s, request, REQUEST_ENTRY) {
         return EvaluationInput::Bad;
     }
     let number = request + word_at(s, request) as usize;
     if !is_number(s, number) {
         return EvaluationInput::Bad;
     }
-    let records = after_entries(s, number + 6, 10);
-    if after_entries(s, records, 3) == s.len() {
+    let records = after_entries(s, number + NUMBER_ENTRY_BYTES, MESSAGE_ENTRY);
+    if after_entries(s, records, RECORD_ENTRY) == s.len() {
         EvaluationInput::Entries(request, number, records)
     } else {
         EvaluationInput::Bad
@@ -131,8 +144,8 @@ pub fn join_bodies(s: &[u8], at: usize, kind: u32, lent: &mut [u8]) -> usize
     let mut n: usize = 0;
     while is_whole(s, p, kind) {
         let next = p + word_at(s, p) as usize;
-        put_all(lent, n, &s[p + 4..next]);
-        n += next - p - 4;
+        put_all(lent, n, &s[p + ENTRY_BODY..next]);
+        n += next - p - ENTRY_BODY;
         p = next;
     }
     n

@@ -13,11 +13,11 @@ use Rattle.wire.specs.Words.{wordAt}
 use Rattle.dictionary.specs.Format.{Format}
 use Rattle.dictionary.specs.Dictionary.{Relation}
 use Rattle.dictionary.specs.Naming.{Name, numbered, formatOf, fieldOf, fieldFormat}
-use Rattle.dictionary.specs.Walk.{fieldsOf, entryField, relationAt}
+use Rattle.dictionary.specs.Internal.Walk.{fieldsOf, entryField, relationAt}
 use Rattle.dictionary.specs.declared.lookup.Place.the-variants as Place
 use Rattle.dictionary.specs.declared.field.Index.the-variants as Index
-use Rattle.dictionary.specs.Answers.{placeAnswer}
-use Rattle.dictionary.specs.FieldAnswers.{indexAnswer}
+use Rattle.dictionary.specs.Internal.Answers.{placeAnswer}
+use Rattle.dictionary.specs.Internal.FieldAnswers.{indexAnswer}
 use Rattle.records.specs.declared.missing.Cause.{Cause}
 use Rattle.records.specs.declared.missing.Presence.the-variants.{There, Missing}
 use Rattle.records.specs.Record.{bitAt, readingMissing, fieldPlace, presenceOf, fieldPresence}

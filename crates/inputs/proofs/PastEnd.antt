@@ -15,7 +15,7 @@ use Rattle.wire.specs.declared.codes.DataType.the-variants as Data
 use Rattle.wire.specs.declared.codes.FieldType.{FieldType}
 use Rattle.wire.specs.declared.codes.FieldType.the-variants.{Plain, Reading}
 use Rattle.dictionary.specs.Format.{Format, textBytes}
-use Rattle.dictionary.proofs.Fields.{word-past}
+use Rattle.wire.proofs.Past.{word-past}
 use Rattle.meaning.specs.Data.{number, date}
 use Rattle.meaning.specs.Inputs.{value, textIn, typeValue, valueAt}
 use Rattle.inputs.specs.Answers.{clamped}

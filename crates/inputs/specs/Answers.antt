@@ -6,6 +6,7 @@ use mathlib.Core.List.{List}
 use lib.Dec.{ltb}
 use lib.IntN.{ℤ, pos}
 use lib.ListN.{length, take, drop}
+use Rattle.wire.specs.Limits.{maxContexts, maxParameters}
 use Rattle.wire.specs.Words.{byteAt, wordAt, longAt, signed}
 use Rattle.wire.specs.declared.codes.Width.{Width}
 use Rattle.wire.specs.declared.codes.TextType.{TextType}
@@ -82,12 +83,12 @@ flaggedValue t count images m i flag =
 
 -- the contexts in scope that two tables hold, 32 at most
 abbrev pub slotsLent : List ℕ → List ℕ → ℕ → List Slot
-slotsLent numbers relations count = slotsIn numbers relations (min count 32) 0
+slotsLent numbers relations count = slotsIn numbers relations (min count maxContexts) 0
 
 -- what a reference gives: contexts in scope from two tables, parameters from the rows of a third, 256 at most
 abbrev pub lentAround : List ℕ → List ℕ → List ℕ → ℕ → List ℕ → ℕ → List ℕ → List ℕ → Reference → Inputs.Fetched
 lentAround d numbers relations count parameters rows images records =
-    around d (slotsLent numbers relations count) parameters (min rows 256) images records
+    around d (slotsLent numbers relations count) parameters (min rows maxParameters) images records
 
 -- the reference whose code stands at p, and the place after it
 abbrev pub referenceIn : List ℕ → ℕ → ReferenceCode → Reference

@@ -2,7 +2,7 @@
 ghost use mathlib.Core.Path.{_≡_};
 ghost use Rattle.wire.specs.Words.{wordAt};
 ghost use Rattle.dictionary.specs.Naming.{named, numbered};
-ghost use Rattle.dictionary.specs.Walk.{relationAt};
+ghost use Rattle.dictionary.specs.Internal.Walk.{relationAt};
 ghost use Rattle.records.specs.Record.{bitAt, readingMissing, fieldPlace, presenceOf};
 ghost use Rattle.meaning.specs.Inputs.{fieldIn};
 ghost use Rattle.surroundings.specs.Around.{slotField, slotValue};
@@ -27,6 +27,7 @@ use values::Source;
 use values::Value;
 use wire::bytes::word_at;
 use wire::codes::FieldType;
+use wire::limits::MISSING_READING;
 use wire::numbers::ContextNumber;
 
 // Where field i stands in the record at p, or the end of the records where that lies past it.
@@ -53,7 +54,7 @@ fn presence(t: FieldType, s: &[u8], p: usize, i: usize, at: usize) -> Presence
     }
     match t {
         FieldType::Plain(_) => Presence::There,
-        FieldType::Reading => by_reading(word_at(s, at) == 65535),
+        FieldType::Reading => by_reading(word_at(s, at) == MISSING_READING),
     }
 }
 
@@ -88,7 +89,7 @@ fn named_in(d: &[u8], relation: usize, s: &[u8], p: usize, name: &[u8]) -> Fetch
 }
 
 // The field of a name, of the context of a number.
-pub fn by_name(
+pub(crate) fn by_name(
     d: &[u8],
     numbers: &[u32],
     relations: &[u32],
@@ -108,7 +109,7 @@ pub fn by_name(
 }
 
 // The field of an id, of the context of a number.
-pub fn by_id(
+pub(crate) fn by_id(
     d: &[u8],
     numbers: &[u32],
     relations: &[u32],

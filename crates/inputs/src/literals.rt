@@ -9,7 +9,7 @@ use crate::numbers::number_at;
 use crate::stored::held_at;
 use classes::LiteralClass;
 use classes::literal_class;
-use records::lengths::width_bytes;
+use dictionary::format::width_bytes;
 use values::Position;
 use values::Source;
 use values::Value;

@@ -2,7 +2,8 @@
 ghost use mathlib.Core.Path.{_≡_};
 ghost use mathlib.Core.Bool.{Bool};
 ghost use Prim.Native.Nat.{min};
-ghost use Rattle.dictionary.specs.FieldAnswers.{formatIs};
+ghost use Rattle.wire.specs.Limits.{maxParameters};
+ghost use Rattle.dictionary.specs.Internal.FieldAnswers.{formatIs};
 ghost use Rattle.meaning.specs.Inputs.{flagged, unlessFlagged};
 ghost use Rattle.meaning.specs.Inputs as Inputs;
 ghost use Rattle.surroundings.specs.Around.{rowValue};
@@ -27,7 +28,7 @@ enum Flag {
 }
 
 // A parameter of a message.
-pub fn plain(
+pub(crate) fn plain(
     parameters: &[u32],
     count: usize,
     images: &[u8],
@@ -35,7 +36,7 @@ pub fn plain(
     index: u32,
 ) -> Fetched
     ensures { λ r. ⌜ Gives Source.Images (now (images .entry)) r
-        (rowValue (now (parameters .entry)) (min count 256) (now (images .entry)) (message .0) index) ⌝ }
+        (rowValue (now (parameters .entry)) (min count maxParameters) (now (images .entry)) (message .0) index) ⌝ }
 {
     let found = parameter_of(parameters, count, message, index);
     match found {
@@ -79,7 +80,7 @@ fn unless_set(flag: Flag, x: Description, images: &[u8], p: usize) -> Fetched
 }
 
 // A parameter of a message with another of it as its flag.
-pub fn with_flag(
+pub(crate) fn with_flag(
     parameters: &[u32],
     count: usize,
     images: &[u8],
@@ -88,7 +89,7 @@ pub fn with_flag(
     flag: u32,
 ) -> Fetched
     ensures { λ r. ⌜ Gives Source.Images (now (images .entry)) r
-        (flaggedValue (now (parameters .entry)) (min count 256) (now (images .entry)) (message .0) index flag) ⌝ }
+        (flaggedValue (now (parameters .entry)) (min count maxParameters) (now (images .entry)) (message .0) index flag) ⌝ }
 {
     let found = parameter_of(parameters, count, message, index);
     match found {

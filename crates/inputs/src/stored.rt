@@ -2,7 +2,7 @@
 ghost use mathlib.Core.Path.{_≡_};
 ghost use lib.ListN.{take, drop};
 ghost use Rattle.wire.specs.declared.codes.FieldType.the-variants.{Plain};
-ghost use Rattle.dictionary.specs.FieldAnswers.{formatIs};
+ghost use Rattle.dictionary.specs.Internal.FieldAnswers.{formatIs};
 ghost use Rattle.meaning.specs.Inputs.{textIn, typeValue, valueAt, kindHeld};
 ghost use Rattle.inputs.specs.Answers.{Gives, Holds, dateOf};
 use crate::Fetched;
@@ -11,8 +11,8 @@ use crate::numbers::integer_at;
 use crate::numbers::long_on;
 use crate::numbers::number_at;
 use dictionary::field::Description;
+use dictionary::format::text_bytes;
 use meaning::Kind;
-use records::lengths::text_bytes;
 use text::TextPart;
 use text::value::text_part;
 use values::Date;
@@ -93,7 +93,7 @@ fn plain_at(t: DataType, scale: u8, size: u32, source: Source, s: &[u8], p: usiz
 }
 
 // The value of a format whose bytes stand at p of a source. "a house reading: 2 bytes, unsigned, with scale"
-pub fn value_at(x: Description, source: Source, s: &[u8], p: usize) -> Fetched
+pub(crate) fn value_at(x: Description, source: Source, s: &[u8], p: usize) -> Fetched
     ensures { λ r. ⌜ Gives source (now (s .entry)) r (valueAt (formatIs x) (now (s .entry)) p) ⌝ }
 {
     let t = x.data_type;

@@ -9,12 +9,19 @@ use show::bad_input;
 use show::line;
 use show::refused;
 use table::rows;
+use wire::entries::ENTRY_BODY;
+use wire::limits::CONTEXT_ROW;
+use wire::limits::CONTEXT_TABLE;
+use wire::limits::PARAMETER_ROW;
+use wire::limits::PARAMETER_TABLE;
+use wire::limits::STATEMENT_ROW;
+use wire::limits::STATEMENT_TABLE;
 
 // The rows of a request beside a dictionary, or its refusal. The tables are as short as reading allows.
 fn list(dictionary: &[u8], body: &[u8]) {
-    let mut statements = [0u32; 2048];
-    let mut parameters = [0u32; 1536];
-    let mut contexts = [0u32; 160];
+    let mut statements = [0u32; STATEMENT_TABLE];
+    let mut parameters = [0u32; PARAMETER_TABLE];
+    let mut contexts = [0u32; CONTEXT_TABLE];
     match reader::read(
         body,
         dictionary,
@@ -24,9 +31,9 @@ fn list(dictionary: &[u8], body: &[u8]) {
     ) {
         ReadAnswer::Accepted(n, m, k) => {
             line(b"request ", body.len());
-            rows(b"statement", &statements, 4, n);
-            rows(b"parameter", &parameters, 6, m);
-            rows(b"context", &contexts, 5, k);
+            rows(b"statement", &statements, STATEMENT_ROW, n);
+            rows(b"parameter", &parameters, PARAMETER_ROW, m);
+            rows(b"context", &contexts, CONTEXT_ROW, k);
         }
         ReadAnswer::Refused(r, p) => refused(grammar::number_of(r), p),
     }
@@ -35,14 +42,16 @@ fn list(dictionary: &[u8], body: &[u8]) {
 // The listing of an input: a body starts four bytes after its entry.
 fn answer(s: &[u8]) {
     match input::request_entry(s) {
-        Input::Request(at) => list(&s[4..at], &s[at + 4..]),
+        Input::Request(at) => list(&s[ENTRY_BODY..at], &s[at + ENTRY_BODY..]),
         Input::Bad => bad_input(),
     }
 }
 
 // Two entries have at most 131,070 bytes; with room for one more, a longer input is seen to be too long.
+const INPUT_SPACE: usize = 131071;
+
 fn main() {
-    let mut space = [0u8; 131071];
+    let mut space = [0u8; INPUT_SPACE];
     let n = io::read_full(0, &mut space);
     answer(&space[..n]);
 }

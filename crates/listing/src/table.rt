@@ -19,7 +19,7 @@ fn row(name: &[u8], table: &[u32], start: usize, width: usize)
 }
 
 // The first rows of a table that holds so many.
-pub fn rows(name: &[u8], table: &[u32], width: usize, count: usize)
+pub(crate) fn rows(name: &[u8], table: &[u32], width: usize, count: usize)
     requires { ⌜ count * width ≤ length (now table) ⌝ }
 {
     let mut n: usize = 0;

@@ -7,6 +7,7 @@ use mathlib.Core.List.{List, [], _∷_, _++_}
 use mathlib.Core.Option.{Option, none, some}
 use lib.Dec.{eqb}
 use lib.ListN.{length, getElem?}
+use Rattle.wire.specs.Limits.{maxRecordBytes}
 use Rattle.wire.specs.Words.{byteAt, wordAt}
 use Rattle.dictionary.specs.Format.{Format, held}
 use Rattle.dictionary.specs.Dictionary.{Relation, proper, dictionary}
@@ -42,13 +43,14 @@ Asked rs t n x = getElem? (requestConditions rs t) n ≡ some x
 -- 01: "Messages of the request's sizes are one image of the declared bytes for each message."
 pub data Images : List Message → List ℕ → Type 0 where
   noImage : Images [] []
-  image : {m : Message} {ms : List Message} (e images : List ℕ) → length e ≡ messageSize m → Images ms images → Images (m ∷ ms) (e ++ images)
+  image : {m : Message} {ms : List Message} (e images : List ℕ) → length e ≡ messageSize m → Images ms images →
+      Images (m ∷ ms) (e ++ images)
 
 -- 01: "A proper record is a kind 3 entry of the relation due, here its context's, of at most 4,096 bytes and otherwise as stated above,
 -- with any bytes in its fields."
 pub record ProperRecord (r : Relation) (e : List ℕ) : Type 0 where
   pub sized : length e ≡ recordLength r
-  pub small : recordLength r ≤ 4096
+  pub small : recordLength r ≤ maxRecordBytes
   pub length-word : wordAt e 0 ≡ recordLength r
   pub kind-word : wordAt e 2 ≡ 3
   pub id-word : wordAt e 4 ≡ r .id

@@ -9,11 +9,11 @@ use lib.ListN.{length, drop, getElem?}
 use Rattle.wire.specs.Lists.{indexOf, _andThen_}
 use Rattle.dictionary.specs.Dictionary.{Relation, proper, dictionary}
 use Rattle.dictionary.specs.Naming.{Name}
-use Rattle.dictionary.specs.Walk.{relationAt}
+use Rattle.dictionary.specs.Internal.Walk.{relationAt}
 use Rattle.records.specs.Record.{asDue, records}
 use Rattle.grammar.specs.Tree.{Message, Reference, field, parameter, parameter2, Request}
 use Rattle.grammar.specs.Environment.{Context, Scope, outermost}
-use Rattle.grammar.specs.Scope.{Distinct}
+use Rattle.grammar.specs.Scope.{Unique, messageNumbers}
 use Rattle.grammar.specs.Sizes.{parameterCount, contextsCount}
 use Rattle.grammar.specs.Rules.{Allowed, environment}
 use Rattle.grammar.specs.Rows.{statementsStart, parameterRows, requestContextRows}
@@ -34,7 +34,7 @@ use Rattle.surroundings.proofs.Slots.{slotFor, slots-are, due-slots, sl
 
 -- ---- for any contexts and messages
 
-module _ (d : List ℕ) (rs : List Relation) (h : dictionary d ≡ proper rs) (ms : List Message) (u : Distinct [] ms) (v : ScaleBytes ms)
+module _ (d : List ℕ) (rs : List Relation) (h : dictionary d ≡ proper rs) (ms : List Message) (u : Unique (messageNumbers ms)) (v : ScaleBytes ms)
     (pt more : List ℕ) (g : pt ≡ parameterRows ms ++ more) (sc : Scope) (a : All (Named rs) (sc .contexts)) (images rows : List ℕ)
     (due : records (dueRelations (sc .contexts)) rows 0 ≡ asDue) where
   row-value : (m i : ℕ) → rowValue pt (parameterCount ms) images m i ≡ parameterValue ms images m i

@@ -11,7 +11,7 @@ use lib.Seq.{sets}
 use borrow.Author.Tests.{eq-eqb, ne-eqb, le-leb, lt-leb}
 use Rattle.wire.specs.Words.{wordAt}
 use Rattle.dictionary.specs.declared.lookup.Place.the-variants.{At, Unknown}
-use Rattle.dictionary.specs.Answers.{placeAnswer}
+use Rattle.dictionary.specs.Internal.Answers.{placeAnswer}
 use Rattle.surroundings.specs.Slots.{Slot, cell, rowHolds, slotOf, slotsFrom, relationsIn}
 use Rattle.surroundings.specs.Around.{slotAt}
 use Rattle.surroundings.specs.Tables.{slotsIn, numbersIn, Laid, foundAnswer}
@@ -79,15 +79,14 @@ module _ (d t : List ℕ) (q count : ℕ) (numbers₀ relations₀ : List ℕ) w
           }
 
       -- a row whose scope holds it
-      pub fill-put : rowHolds t q row ≡ true → (number relation : ℕ) → number ≡ getD t (row * 5) 0 →
+      pub fill-put : rowHolds t q row ≡ true → (number relation : ℕ) → number ≡ cell t row 0 →
           relation ≡ slotOf d 0 (cell t row 4) .relation →
           Filling d t q count numbers₀ relations₀ (set numbers filled number) (set relations filled relation) (row + 1) (filled + 1)
       unfolding slotsFrom
       fill-put e number relation n r =
-          let z : row * 5 + 0 ≡ row * 5 = omega arith in
           let x : Slot = record { number = number; relation = relation } in
           let w : slotsFrom d t q (count - row) row ≡ x ∷ slotsFrom d t q (count - (row + 1)) (row + 1) =
-          rw (more, slotsFrom, e, n, r, z) in
+          rw (more, slotsFrom, e, n, r) in
           let s : suc filled ≡ filled + 1 = omega arith in
           let a = f .few in
           let c = rw w at (f .counted) in

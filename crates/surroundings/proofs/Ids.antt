@@ -13,7 +13,7 @@ use Rattle.wire.specs.Classes.{Class, due, leftOut, foreign, fieldClass}
 use Rattle.wire.specs.declared.codes.FieldType.{FieldType}
 use Rattle.dictionary.specs.Dictionary.{Relation, nameAt, goodName, wholeEntry, relationFits, relationEntry, fieldFits, fieldAt, withField, fieldEntry, entry, proper, atFault, nextEntry, entries, dictionary}
 use Rattle.dictionary.specs.Naming.{Name, named, numbered, relationOf}
-use Rattle.dictionary.specs.Walk.{relationPlace, relationAt}
+use Rattle.dictionary.specs.Internal.Walk.{relationPlace, relationAt}
 use Rattle.dictionary.proofs.Tests.{both-left, both-right}
 use Rattle.dictionary.proofs.Relations.{found-is}
 use Rattle.grammar.proofs.StepLaws.{absurd-eq}

@@ -6,7 +6,6 @@ use mathlib.Core.List.{List}
 use mathlib.Core.Option.{Option, none, some, Option·map}
 use native.Mathlib.Omega.{arith}
 use lib.Dec.{eqb}
-use lib.ListN.{getD}
 use borrow.Author.Tests.{eq-eqb, ne-eqb}
 use Rattle.wire.specs.Lists.{among, anyOf}
 use Rattle.wire.specs.Classes.{due, leftOut, foreign, descriptorClass, classify}
@@ -47,15 +46,12 @@ module _ (t : List ℕ) (m i row count p : ℕ) where
   parameter-end h = let k : count - row ≡ 0 = omega arith in rw k
 
 -- the first number of a row is the message, the second the parameter
-module _ (t : List ℕ) (m i row a b : ℕ) (e : a ≡ getD t (row * 6) 0) where
-  first-cell : cell t row 0 ≡ a
-  first-cell = let z : row * 6 + 0 ≡ row * 6 = omega arith in rw (z, e)
-
+module _ (t : List ℕ) (m i row a b : ℕ) (e : a ≡ cell t row 0) where
   pub row-same : a ≡ m → b ≡ cell t row 1 → eqb b i ≡ isRow t m i row
-  row-same h f = rw (first-cell, ← f, eq-eqb a m h)
+  row-same h f = rw (← e, ← f, eq-eqb a m h)
 
   pub row-other : (a ≡ m → ⊥) → false ≡ isRow t m i row
-  row-other h = rw (first-cell, ne-eqb a m h)
+  row-other h = rw (← e, ne-eqb a m h)
 
 -- ---- what a row says
 

@@ -1,7 +1,7 @@
 -- One scan of the parameter rows finds a parameter's format and its place in the joined images.
 use Prim.Native.Nat.{ℕ, zero, suc, _+_, _*_, _-_, _%_, _<_, _≤_}
 use mathlib.Core.Path.{_≡_, refl, sym, ap, ap₂, _∙_}
-use mathlib.Core.Bool.{Bool, true, false, _&&_, or-true}
+use mathlib.Core.Bool.{Bool, true, false, _&&_}
 use mathlib.Core.List.{List, [], _∷_, _++_, append-assoc}
 use mathlib.Core.Option.{Option, none, some, Option·map}
 use native.Mathlib.Omega.{arith}
@@ -17,12 +17,13 @@ use Rattle.dictionary.specs.Format.{Format, held}
 use Rattle.grammar.specs.Tree.{Descriptor, Message}
 use Rattle.grammar.specs.Bytes.{descriptorBytes}
 use Rattle.grammar.specs.Environment.{descriptorFormat}
-use Rattle.grammar.specs.Scope.{Distinct}
+use Rattle.grammar.specs.Scope.{Unique, messageNumbers}
 use Rattle.grammar.specs.Sizes.{descriptorsSize, messageSize, parameterCount}
 use Rattle.grammar.specs.Rows.{descriptorRows, parameterRows}
 use Rattle.meaning.specs.Inputs.{parameterAt}
 use Rattle.surroundings.specs.Parameters.{ScaleByte, ScalesIn, ScaleBytes, rowFormat, cell, rowFound, parameterFrom, heldFrom}
 use Rattle.grammar.proofs.StepLaws.{absurd-eq}
+use Rattle.grammar.proofs.Unique.{neither}
 use Rattle.surroundings.proofs.Cells.{cell-is, next-is}
 
 -- ---- a row says its descriptor's format
@@ -79,14 +80,12 @@ abbrev NoMessage : ℕ → List Message → Type 0
 NoMessage m [] = Unit {0}
 NoMessage m (x ∷ ms) = (x .number ≡ m → ⊥) × NoMessage m ms
 
--- a number that has stood before stands not again
-not-again : (m : ℕ) (before : List ℕ) (ms : List Message) → Distinct before ms → among m before ≡ true → NoMessage m ms
+-- a number that is not among those of the messages
+none-has : (m : ℕ) (ms : List Message) → among m (messageNumbers ms) ≡ false → NoMessage m ms
 unfolding among anyOf
-not-again m before [] u h = tt
-not-again m before (x ∷ ms) u h = (
-  (λ e. let z : false ≡ true = sym (u .0) ∙ ap (λ z. anyOf (λ y. eqb y z) before) e ∙ h in absurd-eq (cc)),
-  not-again m (x .number ∷ before) ms (u .1) (rw h (or-true (eqb (x .number) m))),
-)
+none-has m [] h = tt
+none-has m (x ∷ ms) h =
+    let t = neither (eqb (x .number) m) (among m (messageNumbers ms)) h in (eqb-false (x .number) m (t .0), none-has m ms (t .1))
 
 none-at : {A : Type 0} (l : List A) (k : ℕ) → getElem? l k ≡ none → length l ≤ k
 none-at [] k e = omega arith
@@ -219,14 +218,14 @@ module _ (t : List ℕ) (m k : ℕ) where
       ∙ no-message ms (row + length (x .descriptors)) (p + descriptorsSize (x .descriptors)) rest
       (past-message (x .descriptors) row (x .number) 0 0 (parameterRows ms ++ rest) g) (h .1)
 
-  pub scanned : (ms : List Message) (before : List ℕ) (row p : ℕ) (rest : List ℕ) →
-      drop (row * 6) t ≡ parameterRows ms ++ rest → Distinct before ms → ScaleBytes ms →
+  pub scanned : (ms : List Message) (row p : ℕ) (rest : List ℕ) →
+      drop (row * 6) t ≡ parameterRows ms ++ rest → Unique (messageNumbers ms) → ScaleBytes ms →
       parameterFrom t m k (parameterCount ms) row p ≡ shifted p (parameterAt ms m k)
   unfolding parameterFrom parameterAt indexOf sumOf messageSize among anyOf
-  scanned [] before row p rest f u v = refl
-  scanned (x ∷ ms) before row p rest f u v =
+  scanned [] row p rest f u v = refl
+  scanned (x ∷ ms) row p rest f u v =
       by (eqb (x .number) m) refl (getElem? (x .descriptors) k) refl
-      (scanned ms (x .number ∷ before) (row + length (x .descriptors)) (p + messageSize x) rest
+      (scanned ms (row + length (x .descriptors)) (p + messageSize x) rest
       (past-message (x .descriptors) row (x .number) 0 0 (parameterRows ms ++ rest) (message-rows x ms row rest f)) (u .1) (v .1))
     where
       by : (b : Bool) → eqb (x .number) m ≡ b → (o : Option Descriptor) → getElem? (x .descriptors) k ≡ o →
@@ -242,11 +241,11 @@ module _ (t : List ℕ) (m k : ℕ) where
       by true e none a next =
           let g = message-rows x ms row rest f in
           let l = none-at (x .descriptors) k a in
-          let stood : among m (x .number ∷ before) ≡ true = rw (among, anyOf, e) in
+          let free : among m (messageNumbers ms) ≡ false = rw (eqb-true (x .number) m e) at (u .0) in
           skipped (x .descriptors) (parameterCount ms) row (x .number) 0 0 p (parameterRows ms ++ rest) g (λ z. omega (arith, l))
           ∙ no-message ms (row + length (x .descriptors)) (p + descriptorsSize (x .descriptors)) rest
           (past-message (x .descriptors) row (x .number) 0 0 (parameterRows ms ++ rest) g)
-          (not-again m (x .number ∷ before) ms (u .1) stood)
+          (none-has m ms free)
           ∙ sym (ap (shifted p) (here x ms m k none e a))
       by false e o a next =
           let g = message-rows x ms row rest f in
@@ -256,12 +255,12 @@ module _ (t : List ℕ) (m k : ℕ) where
 
 -- ---- what the code computes
 
-module _ (ms : List Message) (u : Distinct [] ms) (v : ScaleBytes ms) (t rest : List ℕ) (f : t ≡ parameterRows ms ++ rest) where
+module _ (ms : List Message) (u : Unique (messageNumbers ms)) (v : ScaleBytes ms) (t rest : List ℕ) (f : t ≡ parameterRows ms ++ rest) where
   table-start : drop (0 * 6) t ≡ parameterRows ms ++ rest
   table-start = f
 
   pub parameter-found : (m k : ℕ) → parameterFrom t m k (parameterCount ms) 0 0 ≡ parameterAt ms m k
-  parameter-found m k = scanned t m k ms [] 0 0 rest table-start u v ∙ shifted-none (parameterAt ms m k)
+  parameter-found m k = scanned t m k ms 0 0 rest table-start u v ∙ shifted-none (parameterAt ms m k)
 
 -- ---- the bytes of all images
 

@@ -6,13 +6,14 @@ use mathlib.Core.List.{List, [], _∷_, _++_, map}
 use mathlib.Core.Option.{Option, none, some}
 use lib.Dec.{eqb}
 use lib.ListN.{length}
+use Rattle.wire.specs.Codes as blr
 use Rattle.wire.specs.Lists.{find, isSome, _andThen_}
 use Rattle.dictionary.specs.Dictionary.{Relation}
 use Rattle.dictionary.specs.Naming.{Name, relationOf}
 use Rattle.grammar.specs.Tree.{Stream, Heading, loop, modify, handler, receive, send, store, label, Value, literal, reference, arithmetic, negate, Boolean, compare, search, between, connect, not, missing, Keys, noKeys, key, Clauses, noClauses, such, sorted, Rse, rse, Statement, assignment, begin, erase, for, headed, leave, if, ifElse, select, Statements, none as nothing, _then_, Receives, last, more}
 use Rattle.grammar.specs.Bytes.{streamBytes, headBytes, rseBytes, headingBytes, valueBytes, booleanBytes, keysBytes}
 use Rattle.grammar.specs.Environment.{Environment, Context, Scope, streamContext, modifyContext, contextOf, relationOfContext, underStreams, underRse, underHeading}
-use Rattle.grammar.specs.Scope.{StreamScoped, StreamsScoped, HeadingScoped, ofFor, openedByFor}
+use Rattle.grammar.specs.Scope.{StreamScoped, EachScoped, HeadingScoped, ofFor, openedByFor}
 use Rattle.grammar.specs.Rules.{ValueAllowed, BooleanAllowed, KeysAllowed, ClausesAllowed, RseAllowed, StatementAllowed, StatementsAllowed, ReceivesAllowed}
 use Rattle.grammar.specs.Rows.{size}
 use Rattle.walking.specs.Declared.{Declared, streamsDeclared, valueDeclared, booleanDeclared, keysDeclared, clausesDeclared, rseDeclared, headingDeclared, declared, declaredAll, receivesDeclared, keptIf, holdsAt, contextsAt}
@@ -39,20 +40,20 @@ find-all P t (x ∷ l) y a e = by (t x) e (find-all P t l y (a .1))
     by true f next = let z : x ≡ y = cc in subst P z (a .0)
     by false f next = next f
 
-stream-named : (rs : List Relation) (sc : Scope) (f : Bool) (s : Stream) → StreamScoped rs sc s → Named rs (streamContext rs f s)
-stream-named rs sc f s h = let x = some-of (relationOf rs (s .relation)) (h .0) in (s .relation, x .0, x .1, x .1)
+stream-named : (rs : List Relation) (sc : Scope) (opener : ℕ) (s : Stream) → StreamScoped rs sc s → Named rs (streamContext rs opener s)
+stream-named rs sc opener s h = let x = some-of (relationOf rs (s .relation)) (h .0) in (s .relation, x .0, x .1, x .1)
 
-streams-named : (rs : List Relation) (sc : Scope) (ss : List Stream) → StreamsScoped rs sc ss →
-    All (Named rs) (map (streamContext rs true) ss)
+streams-named : (rs : List Relation) (sc : Scope) (ss : List Stream) → EachScoped rs sc ss →
+    All (Named rs) (map (streamContext rs blr.for) ss)
 streams-named rs sc [] h = tt
-streams-named rs sc (s ∷ ss) h = (stream-named rs sc true s (h .0), streams-named rs (underStreams rs sc (s ∷ [])) ss (h .1))
+streams-named rs sc (s ∷ ss) h = (stream-named rs sc blr.for s (h .0), streams-named rs sc ss (h .1))
 
-streams-declared : (rs : List Relation) (sc : Scope) (ss : List Stream) (p start end : ℕ) → StreamsScoped rs sc ss →
+streams-declared : (rs : List Relation) (sc : Scope) (ss : List Stream) (p start end : ℕ) → EachScoped rs sc ss →
     All (NamedAt rs) (streamsDeclared rs ss p start end)
 unfolding streamsDeclared
 streams-declared rs sc [] p start end h = tt
 streams-declared rs sc (s ∷ ss) p start end h =
-    (stream-named rs sc true s (h .0), streams-declared rs (underStreams rs sc (s ∷ [])) ss (p + length (streamBytes s)) start end (h .1))
+    (stream-named rs sc blr.for s (h .0), streams-declared rs sc ss (p + length (streamBytes s)) start end (h .1))
 
 -- the context that a modify opens has the relation of the one that it names
 modify-named : (rs : List Relation) (sc : Scope) (from to : ℕ) → All (Named rs) (sc .contexts) → ofFor sc from ≡ true →
@@ -88,20 +89,20 @@ module _ (e : Environment) where
   heading-named sc (receive m) p end a h = (tt, a)
   heading-named sc (send m) p end a h = (tt, a)
   heading-named sc (store s) p end a h =
-      let x = stream-named relations sc false s h in
-      ((x, tt), all-append (Named relations) (sc .contexts) (streamContext relations false s ∷ []) a (x, tt))
+      let x = stream-named relations sc blr.store s h in
+      ((x, tt), all-append (Named relations) (sc .contexts) (streamContext relations blr.store s ∷ []) a (x, tt))
   heading-named sc (label n) p end a h = (tt, a)
 
   both-named : (a b : List Declared) → DeclaredNamed a → DeclaredNamed b → DeclaredNamed (a ++ b)
   both-named a b h k = all-append (NamedAt relations) a b h k
 
-  streams-scope : (sc : Scope) (ss : List Stream) → ScopeNamed sc → StreamsScoped relations sc ss → ScopeNamed (underStreams relations sc ss)
+  streams-scope : (sc : Scope) (ss : List Stream) → ScopeNamed sc → EachScoped relations sc ss → ScopeNamed (underStreams relations sc ss)
   unfolding underStreams
-  streams-scope sc ss a h = all-append (Named relations) (sc .contexts) (map (streamContext relations true) ss) a (streams-named relations sc ss h)
+  streams-scope sc ss a h = all-append (Named relations) (sc .contexts) (map (streamContext relations blr.for) ss) a (streams-named relations sc ss h)
 
   rse-scope : (sc : Scope) (r : Rse) → ScopeNamed sc → RseAllowed e sc r → ScopeNamed (underRse relations sc r)
   unfolding underRse
-  rse-scope sc (rse ss cs) a h = streams-scope sc ss a (h .1)
+  rse-scope sc (rse ss cs) a h = streams-scope sc ss a (h .1 .0)
 
   mutual
     unfolding valueDeclared
@@ -138,21 +139,21 @@ module _ (e : Environment) where
         both-named (valueDeclared relations sc v (p + 1)) _ (value-named v sc (p + 1) a (h .0))
         (keys-named ks sc (p + 1 + length (valueBytes v)) a (h .1))
 
-    clauses-named : (cs : Clauses) (sc : Scope) (b k : Bool) (p : ℕ) → ScopeNamed sc → ClausesAllowed e sc b k cs →
+    clauses-named : (cs : Clauses) (sc : Scope) (p : ℕ) → ScopeNamed sc → ClausesAllowed e sc cs →
         DeclaredNamed (clausesDeclared relations sc cs p)
-    clauses-named noClauses sc b k p a h = tt
-    clauses-named (such x cs) sc b k p a h =
-        both-named (booleanDeclared relations sc x (p + 1)) _ (boolean-named x sc (p + 1) a (h .1))
-        (clauses-named cs sc true k (p + 1 + length (booleanBytes x)) a (h .2))
-    clauses-named (sorted ks cs) sc b k p a h =
-        both-named (keysDeclared relations sc ks (p + 2)) _ (keys-named ks sc (p + 2) a (h .2))
-        (clauses-named cs sc b true (p + 2 + length (keysBytes ks)) a (h .3))
+    clauses-named noClauses sc p a h = tt
+    clauses-named (such x cs) sc p a h =
+        both-named (booleanDeclared relations sc x (p + 1)) _ (boolean-named x sc (p + 1) a (h .0))
+        (clauses-named cs sc (p + 1 + length (booleanBytes x)) a (h .1))
+    clauses-named (sorted ks cs) sc p a h =
+        both-named (keysDeclared relations sc ks (p + 2)) _ (keys-named ks sc (p + 2) a (h .1))
+        (clauses-named cs sc (p + 2 + length (keysBytes ks)) a (h .2))
 
     rse-named : (r : Rse) (sc : Scope) (p end : ℕ) → ScopeNamed sc → RseAllowed e sc r → DeclaredNamed (rseDeclared relations sc r p end)
     rse-named (rse ss cs) sc p end a h =
         let q = p + length (headBytes ss) in
-        both-named (streamsDeclared relations ss (p + 2) q end) _ (streams-declared relations sc ss (p + 2) q end (h .1))
-        (clauses-named cs (underStreams relations sc ss) false false q (streams-scope sc ss a (h .1)) (h .2))
+        both-named (streamsDeclared relations ss (p + 2) q end) _ (streams-declared relations sc ss (p + 2) q end (h .1 .0))
+        (clauses-named cs (underStreams relations sc ss) q (streams-scope sc ss a (h .1 .0)) (h .3))
 
   mutual
     unfolding declared
@@ -178,7 +179,7 @@ module _ (e : Environment) where
         both-named (booleanDeclared relations sc b (p + 1) ++ declared relations sc s q) _
         (both-named (booleanDeclared relations sc b (p + 1)) _ (boolean-named b sc (p + 1) a (h .0)) (declared-named s sc q a (h .1)))
         (declared-named t sc (q + size s) a (h .2))
-    declared-named (select rs) sc p a h = receives-named rs [] sc (p + 1) a h
+    declared-named (select rs) sc p a h = receives-named rs sc (p + 1) a (h .1)
 
     pub all-named : (ts : Statements) (sc : Scope) (p : ℕ) → ScopeNamed sc → StatementsAllowed e sc ts →
         DeclaredNamed (declaredAll relations sc ts p)
@@ -187,12 +188,12 @@ module _ (e : Environment) where
         both-named (declared relations sc s p) _ (declared-named s sc p a (h .0))
         (all-named ss sc (p + size s) a (h .1))
 
-    receives-named : (rs : Receives) (before : List ℕ) (sc : Scope) (p : ℕ) → ScopeNamed sc → ReceivesAllowed e sc before rs →
+    receives-named : (rs : Receives) (sc : Scope) (p : ℕ) → ScopeNamed sc → ReceivesAllowed e sc rs →
         DeclaredNamed (receivesDeclared relations sc rs p)
-    receives-named (last m s) before sc p a h = declared-named s sc (p + 2) a (h .1)
-    receives-named (more m s rs) before sc p a h =
+    receives-named (last m s) sc p a h = declared-named s sc (p + 2) a (h .1)
+    receives-named (more m s rs) sc p a h =
         both-named (declared relations sc s (p + 2)) _ (declared-named s sc (p + 2) a (h .1))
-        (receives-named rs (before ++ (m ∷ [])) sc (p + 2 + size s) a (h .2))
+        (receives-named rs sc (p + 2 + size s) a (h .2))
 
 -- so every context in scope has one
 pub at-named : (rs : List Relation) (q : ℕ) (ds : List Declared) → All (NamedAt rs) ds → All (Named rs) (contextsAt q ds)

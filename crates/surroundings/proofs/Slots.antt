@@ -11,7 +11,7 @@ use Rattle.wire.specs.Words.{wordAt}
 use Rattle.wire.specs.Lists.{indexOf, sumOf, _andThen_}
 use Rattle.dictionary.specs.Dictionary.{Relation, proper, dictionary}
 use Rattle.dictionary.specs.Naming.{Name, numbered, fieldOf}
-use Rattle.dictionary.specs.Walk.{relationPlace, relationAt}
+use Rattle.dictionary.specs.Internal.Walk.{relationPlace, relationAt}
 use Rattle.records.specs.Record.{asDue, records}
 use Rattle.grammar.specs.Environment.{Context}
 use Rattle.grammar.specs.Rows.{relationId}

@@ -6,7 +6,7 @@ use mathlib.Core.Option.{Option, none, some}
 use lib.Dec.{eqb}
 use Rattle.wire.specs.Words.{wordAt}
 use Rattle.dictionary.specs.Naming.{Name, fieldOf}
-use Rattle.dictionary.specs.Walk.{relationAt}
+use Rattle.dictionary.specs.Internal.Walk.{relationAt}
 use Rattle.grammar.specs.Tree.{Reference, field, parameter, parameter2}
 use Rattle.meaning.specs.Inputs.{Fetched, onFound, valueAt, fieldIn, flagged, unlessFlagged}
 use Rattle.surroundings.specs.Parameters.{parameterFrom}

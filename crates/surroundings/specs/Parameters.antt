@@ -6,6 +6,8 @@ use mathlib.Core.List.{List, [], _∷_}
 use mathlib.Core.Option.{Option, none, some, Option·map}
 use lib.Dec.{eqb}
 use lib.ListN.{getD}
+use Rattle.wire.specs.Internal.Columns.{parameterMessage, parameterIndex, parameterType, parameterScale, parameterHeld}
+use Rattle.wire.specs.Limits.{parameterRowNumbers}
 use Rattle.wire.specs.Classes.{Class, due, leftOut, foreign, descriptorClass}
 use Rattle.wire.specs.declared.codes.TextType.the-variants.{Text, Varying, Cstring}
 use Rattle.wire.specs.declared.codes.DataType.{DataType}
@@ -31,7 +33,7 @@ rowFormat foreign scale n = none
 
 -- number k of a row
 abbrev pub cell : List ℕ → ℕ → ℕ → ℕ
-cell t row k = getD t (row * 6 + k) 0
+cell t row k = getD t (row * parameterRowNumbers + k) 0
 
 -- a format, and where its bytes stand
 abbrev pub withPlace : ℕ → Format → Format × ℕ
@@ -44,20 +46,21 @@ rowFound false f p rest = rest
 
 -- whether a row is that of parameter i of message m
 abbrev pub isRow : List ℕ → ℕ → ℕ → ℕ → Bool
-isRow t m i row = eqb (cell t row 0) m && eqb (cell t row 1) i
+isRow t m i row = eqb (cell t row parameterMessage) m && eqb (cell t row parameterIndex) i
 
 -- parameter i of message m, in n rows of the table from a row on, whose bytes stand at p of the joined images: its format and its place.
 -- 01: "Fields are packed with no gaps.", so that a row's bytes stand after those of the rows before it
 unfoldable pub parameterFrom : List ℕ → ℕ → ℕ → ℕ → ℕ → ℕ → Option (Format × ℕ)
 parameterFrom t m i zero row p = none
 parameterFrom t m i (suc n) row p =
-    rowFound (isRow t m i row) (rowFormat (descriptorClass (cell t row 2)) (cell t row 3 % 256) (cell t row 5)) p
-    (parameterFrom t m i n (row + 1) (p + cell t row 5))
+    rowFound (isRow t m i row)
+    (rowFormat (descriptorClass (cell t row parameterType)) (cell t row parameterScale % 256) (cell t row parameterHeld)) p
+    (parameterFrom t m i n (row + 1) (p + cell t row parameterHeld))
 
 -- the bytes that n rows from a row on hold
 unfoldable pub heldFrom : List ℕ → ℕ → ℕ → ℕ
 heldFrom t zero row = 0
-heldFrom t (suc n) row = cell t row 5 + heldFrom t n (row + 1)
+heldFrom t (suc n) row = cell t row parameterHeld + heldFrom t n (row + 1)
 
 -- ---- scales
 

@@ -6,8 +6,10 @@ use mathlib.Core.List.{List, [], _∷_, map}
 use mathlib.Core.Option.{Option, none, some}
 use lib.Dec.{leb, ltb}
 use lib.ListN.{getD}
+use Rattle.wire.specs.Internal.Columns.{contextNumber, contextStart, contextEnd, contextRelation}
+use Rattle.wire.specs.Limits.{contextRowNumbers}
 use Rattle.dictionary.specs.Naming.{numbered}
-use Rattle.dictionary.specs.Walk.{relationPlace}
+use Rattle.dictionary.specs.Internal.Walk.{relationPlace}
 
 -- a context in scope: its number, and where its relation's entry stands in the dictionary
 pub record Slot : Type 0 where
@@ -16,11 +18,11 @@ pub record Slot : Type 0 where
 
 -- number k of a row
 abbrev pub cell : List ℕ → ℕ → ℕ → ℕ
-cell t row k = getD t (row * 5 + k) 0
+cell t row k = getD t (row * contextRowNumbers + k) 0
 
 -- whether the row's scope holds q: from its start on, and before its end
 abbrev pub rowHolds : List ℕ → ℕ → ℕ → Bool
-rowHolds t q row = leb (cell t row 2) q && ltb q (cell t row 3)
+rowHolds t q row = leb (cell t row contextStart) q && ltb q (cell t row contextEnd)
 
 -- a place, and 0 where there is none
 abbrev pub placeOr : Option ℕ → ℕ
@@ -36,10 +38,11 @@ abbrev pub slotIf : Bool → Slot → List Slot → List Slot
 slotIf true x xs = x ∷ xs
 slotIf false x xs = xs
 
--- the contexts in scope at q, in n rows of the table from a row on; 01: "Rows stand in reading order."
+-- the contexts in scope at q, in n rows of the table from a row on, in the order of the rows
 unfoldable pub slotsFrom : List ℕ → List ℕ → ℕ → ℕ → ℕ → List Slot
 slotsFrom d t q zero row = []
-slotsFrom d t q (suc n) row = slotIf (rowHolds t q row) (slotOf d (cell t row 0) (cell t row 4)) (slotsFrom d t q n (row + 1))
+slotsFrom d t q (suc n) row =
+    slotIf (rowHolds t q row) (slotOf d (cell t row contextNumber) (cell t row contextRelation)) (slotsFrom d t q n (row + 1))
 
 -- the places of the slots' relations, in their order
 abbrev pub relationsIn : List Slot → List ℕ

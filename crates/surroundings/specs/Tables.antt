@@ -6,7 +6,7 @@ use mathlib.Core.Option.{Option, none, some}
 use lib.ListN.{length, getD}
 use lib.Seq.{sets}
 use Rattle.dictionary.specs.Format.{Format}
-use Rattle.dictionary.specs.FieldAnswers.{formatIs}
+use Rattle.dictionary.specs.Internal.FieldAnswers.{formatIs}
 use Rattle.grammar.specs.Conditions.{Condition}
 use Rattle.surroundings.specs.Slots.{Slot, relationsIn}
 use Rattle.surroundings.specs.declared.Found.{Found}

@@ -1,13 +1,13 @@
-// Message images by the rows of the parameter table: message, parameter, type, scale byte, offset, bytes held. Document 01 has 256
-// parameters at most, and rows after those are not looked at.
+// Message images by the rows of the parameter table: message, parameter, type, scale byte, offset, bytes held. Rows after the most that
+// document 01 allows are not looked at.
 ghost use mathlib.Core.Path.{_≡_};
 ghost use mathlib.Core.Option.{Option·map};
 ghost use Prim.Native.Nat.{_*_, _+_, _%_, _≤_, min};
 ghost use Rattle.wire.specs.Classes.{descriptorClass};
+ghost use Rattle.wire.specs.Limits.{maxParameters};
 ghost use Rattle.surroundings.specs.Parameters.{heldFrom, isRow, parameterFrom, rowFormat, withPlace, sizeHeld};
 ghost use Rattle.surroundings.specs.Tables.{parameterIs};
 use crate::Parameter;
-use crate::table::number_at;
 use crate::table::smaller;
 use classes::DescriptorClass;
 use classes::descriptor_class;
@@ -15,17 +15,27 @@ use dictionary::field::Description;
 use wire::codes::DataType;
 use wire::codes::FieldType;
 use wire::codes::TextType;
+use wire::limits::MAX_PARAMETERS;
+use wire::limits::PARAMETER_ROW;
 use wire::numbers::MessageNumber;
+use wire::rows::PARAMETER_HELD;
+use wire::rows::PARAMETER_INDEX;
+use wire::rows::PARAMETER_MESSAGE;
+use wire::rows::PARAMETER_SCALE;
+use wire::rows::PARAMETER_TYPE;
+use wire::table::number_at;
+
+const GREATEST_BYTE: u32 = 255;
 
 // The bytes of all message images.
 pub fn image_bytes(parameters: &[u32], count: usize) -> usize
-    ensures { λ r. ⌜ r ≡ heldFrom (now (parameters .entry)) (min count 256) 0 ⌝ }
+    ensures { λ r. ⌜ r ≡ heldFrom (now (parameters .entry)) (min count maxParameters) 0 ⌝ }
 {
-    let rows = smaller(count, 256);
+    let rows = smaller(count, MAX_PARAMETERS);
     let mut row: usize = 0;
     let mut sum: usize = 0;
     while row < rows {
-        sum += number_at(parameters, row * 6 + 5) as usize;
+        sum += number_at(parameters, row * PARAMETER_ROW + PARAMETER_HELD) as usize;
         row += 1;
     }
     sum
@@ -50,7 +60,7 @@ fn size_held(data_type: DataType, held: u32) -> u32
 fn described(code: u32, scale: u32, held: u32, p: usize) -> Parameter
     ensures { λ r. ⌜ parameterIs r ≡ Option·map (withPlace p) (rowFormat (descriptorClass code) (scale % 256) held) ⌝ }
 {
-    if 255 < code {
+    if GREATEST_BYTE < code {
         return Parameter::Nothing;
     }
     let class = descriptor_class(code as u8);
@@ -70,11 +80,11 @@ fn described(code: u32, scale: u32, held: u32, p: usize) -> Parameter
 
 // Whether a row is that of a parameter.
 fn is_row(parameters: &[u32], row: usize, message: MessageNumber, index: u32) -> bool
-    requires { ⌜ row ≤ 256 ⌝ }
+    requires { ⌜ row ≤ maxParameters ⌝ }
     ensures { λ r. ⌜ r ≡ isRow (now (parameters .entry)) (message .0) index row ⌝ }
 {
-    if number_at(parameters, row * 6) == message.0 as u32 {
-        return number_at(parameters, row * 6 + 1) == index;
+    if number_at(parameters, row * PARAMETER_ROW + PARAMETER_MESSAGE) == message.0 as u32 {
+        return number_at(parameters, row * PARAMETER_ROW + PARAMETER_INDEX) == index;
     }
     false
 }
@@ -86,16 +96,16 @@ pub fn parameter_of(
     message: MessageNumber,
     index: u32,
 ) -> Parameter
-    ensures { λ r. ⌜ parameterIs r ≡ parameterFrom (now (parameters .entry)) (message .0) index (min count 256) 0 0 ⌝ }
+    ensures { λ r. ⌜ parameterIs r ≡ parameterFrom (now (parameters .entry)) (message .0) index (min count maxParameters) 0 0 ⌝ }
 {
-    let rows = smaller(count, 256);
+    let rows = smaller(count, MAX_PARAMETERS);
     let mut row: usize = 0;
     let mut p: usize = 0;
     while row < rows {
-        let held = number_at(parameters, row * 6 + 5);
+        let held = number_at(parameters, row * PARAMETER_ROW + PARAMETER_HELD);
         if is_row(parameters, row, message, index) {
-            let code = number_at(parameters, row * 6 + 2);
-            let scale = number_at(parameters, row * 6 + 3);
+            let code = number_at(parameters, row * PARAMETER_ROW + PARAMETER_TYPE);
+            let scale = number_at(parameters, row * PARAMETER_ROW + PARAMETER_SCALE);
             return described(code, scale, held, p);
         }
         p += held as usize;

@@ -2,7 +2,7 @@
 // format and place.
 pub mod images;
 pub mod scope;
-pub mod table;
+mod table;
 
 use dictionary::field::Description;
 

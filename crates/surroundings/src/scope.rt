@@ -1,28 +1,35 @@
-// Contexts in scope by the rows of the context table: number, place, scope start, scope end, relation id. Document 01 has 32 context
-// declarations at most, and rows and slots after those are not looked at.
+// Contexts in scope by the rows of the context table: number, place, scope start, scope end, relation id. Rows and slots after the most that
+// document 01 allows are not looked at.
 ghost use mathlib.Core.Path.{_≡_};
 ghost use Prim.Native.Nat.{_≤_, min};
+ghost use Rattle.wire.specs.Limits.{maxContexts};
 ghost use Rattle.dictionary.specs.Naming.{numbered};
-ghost use Rattle.dictionary.specs.Walk.{relationPlace};
+ghost use Rattle.dictionary.specs.Internal.Walk.{relationPlace};
 ghost use Rattle.surroundings.specs.Slots.{rowHolds, placeOr, slotsFrom};
 ghost use Rattle.surroundings.specs.Around.{slotAt};
 ghost use Rattle.surroundings.specs.Tables.{slotsIn, Laid, foundAnswer};
 use crate::Found;
-use crate::table::number_at;
-use crate::table::put;
 use crate::table::smaller;
 use dictionary::lookup::Place;
 use dictionary::lookup::relation_numbered;
 use wire::bytes::word_at;
+use wire::limits::CONTEXT_ROW;
+use wire::limits::MAX_CONTEXTS;
 use wire::numbers::ContextNumber;
+use wire::rows::CONTEXT_END;
+use wire::rows::CONTEXT_NUMBER;
+use wire::rows::CONTEXT_RELATION;
+use wire::rows::CONTEXT_START;
+use wire::table::number_at;
+use wire::table::put;
 
 // Whether a context row's scope holds a place.
 fn row_holds(contexts: &[u32], at: usize, row: usize) -> bool
-    requires { ⌜ row ≤ 32 ⌝ }
+    requires { ⌜ row ≤ maxContexts ⌝ }
     ensures { λ r. ⌜ r ≡ rowHolds (now (contexts .entry)) at row ⌝ }
 {
-    if number_at(contexts, row * 5 + 2) as usize <= at {
-        return at < number_at(contexts, row * 5 + 3) as usize;
+    if number_at(contexts, row * CONTEXT_ROW + CONTEXT_START) as usize <= at {
+        return at < number_at(contexts, row * CONTEXT_ROW + CONTEXT_END) as usize;
     }
     false
 }
@@ -49,19 +56,26 @@ pub fn in_scope(
     relations: &mut [u32],
 ) -> usize
     ensures { λ r.
-        ⌜ Laid (slotsFrom (now (dictionary .entry)) (now (contexts .entry)) at (min count 32) 0)
+        ⌜ Laid (slotsFrom (now (dictionary .entry)) (now (contexts .entry)) at (min count maxContexts) 0)
         (now (numbers .entry)) (now (relations .entry)) (now (numbers .exit)) (now (relations .exit)) r ⌝ }
 {
-    let rows = smaller(count, 32);
+    let rows = smaller(count, MAX_CONTEXTS);
     let mut row: usize = 0;
     let mut filled: usize = 0;
     while row < rows {
         if row_holds(contexts, at, row) {
-            put(numbers, filled, number_at(contexts, row * 5));
+            put(
+                numbers,
+                filled,
+                number_at(contexts, row * CONTEXT_ROW + CONTEXT_NUMBER),
+            );
             put(
                 relations,
                 filled,
-                entry_of(dictionary, number_at(contexts, row * 5 + 4)),
+                entry_of(
+                    dictionary,
+                    number_at(contexts, row * CONTEXT_ROW + CONTEXT_RELATION),
+                ),
             );
             filled += 1;
         }
@@ -80,9 +94,9 @@ pub fn slot_of(
 ) -> Found
     ensures { λ r.
         ⌜ r ≡ foundAnswer
-        (slotAt (slotsIn (now (numbers .entry)) (now (relations .entry)) (min count 32) 0) (now (records .entry)) 0 (number .0)) ⌝ }
+        (slotAt (slotsIn (now (numbers .entry)) (now (relations .entry)) (min count maxContexts) 0) (now (records .entry)) 0 (number .0)) ⌝ }
 {
-    let slots = smaller(count, 32);
+    let slots = smaller(count, MAX_CONTEXTS);
     let mut k: usize = 0;
     let mut p: usize = 0;
     while k < slots {

@@ -17,7 +17,7 @@ mod orders;
 mod outcomes;
 mod pairs;
 pub mod search;
-pub mod texts;
+mod texts;
 
 // The lent slice that holds a text.
 pub enum Source {

@@ -1,25 +1,14 @@
 // The order of two dates, and the comparisons that an order meets.
 ghost use mathlib.Core.Path.{_≡_};
-ghost use Rattle.decimal.specs.Number.{orderℤ};
+ghost use Rattle.wire.specs.Orders.{orderℕ};
 ghost use Rattle.meaning.specs.Data as Data;
 use crate::Date;
 use wire::codes::Comparison;
 use wire::order::Order;
-
-fn day_order(x: i64, y: i64) -> Order
-    ensures { λ r. ⌜ r ≡ orderℤ x y ⌝ }
-{
-    if x < y {
-        return Order::Less;
-    }
-    if y < x {
-        return Order::Greater;
-    }
-    Order::Equal
-}
+use wire::order::signed_order;
 
 fn fraction_order(x: u32, y: u32) -> Order
-    ensures { λ r. ⌜ r ≡ Data.orderℕ x y ⌝ }
+    ensures { λ r. ⌜ r ≡ orderℕ x y ⌝ }
 {
     if x < y {
         return Order::Less;
@@ -34,7 +23,7 @@ fn fraction_order(x: u32, y: u32) -> Order
 pub(crate) fn date_order(a: Date, b: Date) -> Order
     ensures { λ r. ⌜ r ≡ Data.dateOrder (a .day) (a .fraction) (b .day) (b .fraction) ⌝ }
 {
-    match day_order(a.day, b.day) {
+    match signed_order(a.day, b.day) {
         Order::Less => Order::Less,
         Order::Equal => fraction_order(a.fraction, b.fraction),
         Order::Greater => Order::Greater,

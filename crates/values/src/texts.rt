@@ -38,7 +38,7 @@ fn held_bytes<'a>(request: &'a [u8], images: &'a [u8], records: &'a [u8], held: 
 }
 
 // The text in them.
-pub fn text_operand<'a>(
+pub(crate) fn text_operand<'a>(
     request: &'a [u8],
     images: &'a [u8],
     records: &'a [u8],

@@ -291,8 +291,7 @@ module _ (xs : List Context) (rows rows′ : List ℕ) (w : Alike xs rows rows�
       go none = refl
       go (some k) = placed k (getElem? xs k) refl
 
--- 01, demand 3: "Any two sets of such records that differ only inside fields missing in both sets get the same answer, or the same refusal at
--- the same place."
+-- with two sets of records that differ only inside fields missing in both, every reference gives the same
 pub same-references : (ms : List Message) (sc : Scope) (images rows rows′ : List ℕ) → Alike (sc .contexts) rows rows′ → (x : Reference) →
     fetch ms sc images rows x ≡ fetch ms sc images rows′ x
 unfolding fetch

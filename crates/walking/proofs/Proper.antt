@@ -8,12 +8,12 @@ use native.Mathlib.Omega.{arith}
 use lib.Dec.{eqb, leb, ltb}
 use lib.ListN.{length, getD, take, drop, length-append, length-take, length-drop, take-append-drop, drop-of-length-le}
 use lib.Seq.{getD-take, getD-drop, drop-drop, take-at, drop-at, length-take-le, drop-length}
-use borrow.Author.Tests.{lt-ltb, le-ltb, le-leb, eq-eqb, ltb-true, ltb-false, leb-true, eqb-true}
+use borrow.Author.Tests.{le-ltb, le-leb, eq-eqb, ltb-false, leb-true, eqb-true}
 use Rattle.wire.specs.Words.{byteAt, wordAt}
 use Rattle.dictionary.specs.Dictionary.{Relation}
 use Rattle.dictionary.proofs.Tests.{both-left, both-right}
 use Rattle.records.specs.Record.{fieldCount, missingBytes, recordLength, bitAt, bitsClear, spareClear, properRecord, Run, asDue, wrongAt, nextRecord, records}
-use Rattle.records.proofs.Records.{shortest}
+use Rattle.records.proofs.Records.{shortest, proper-whole}
 use Rattle.grammar.specs.Environment.{Context}
 use Rattle.meaning.specs.Evaluation.{dueRelations}
 use Rattle.grammar.proofs.StepLaws.{absurd-eq}
@@ -115,13 +115,15 @@ due-first x xs r e = rw e
 next-due : (r : Relation) (rs : List Relation) (s : List ℕ) (p : ℕ) → records (r ∷ rs) s p ≡ asDue →
     (p < length s) × (properRecord r s p ≡ true) × (records rs s (p + recordLength r) ≡ asDue)
 unfolding records
-next-due r rs s p e = by (ltb p (length s)) (properRecord r s p) refl refl e
+next-due r rs s p e = by (properRecord r s p) refl e
   where
-    by : (a b : Bool) → ltb p (length s) ≡ a → properRecord r s p ≡ b → nextRecord a b p (records rs s (p + recordLength r)) ≡ asDue →
+    by : (b : Bool) → properRecord r s p ≡ b → nextRecord b p (records rs s (p + recordLength r)) ≡ asDue →
         (p < length s) × (properRecord r s p ≡ true) × (records rs s (p + recordLength r) ≡ asDue)
-    by false b f g e = absurd-eq (cc)
-    by true false f g e = absurd-eq (cc)
-    by true true f g e = (ltb-true p (length s) f, g, e)
+    by false g e = absurd-eq (cc)
+    by true g e =
+        let whole = proper-whole r s p g in
+        let least = shortest r in
+        (omega arith, g, e)
 
 end-due : (s : List ℕ) (p : ℕ) → records [] s p ≡ asDue → length s ≤ p
 unfolding records
@@ -154,8 +156,7 @@ records-due (x ∷ xs) s _ p f h (entry r e rows k w v) =
     let l : length (drop p s) ≡ length e + length rows = ap length f ∙ length-append e rows in
     let c : p + n ≤ length s = let x = shortest r in omega (arith, z, g, l) in
     let q : ProperRecord r (take n (drop p s)) = subst (ProperRecord r) (sym (ap (take n) f ∙ a)) w in
-    let o : p < length s = let x = shortest r in omega (arith, x, c) in
-    rw (k, records, lt-ltb p (length s) o, alone-proper r s p c q)
+    rw (k, records, alone-proper r s p c q)
     (records-due xs s rows (p + n) (sym (drop-drop n p s) ∙ ap (drop n) f ∙ b) c v)
 
 module _ (xs : List Context) (rows : List ℕ) where

@@ -93,13 +93,12 @@ module _ (s d images rows : List ℕ) where
       by true e = let v : q ≡ p = cc in omega (arith, h, v)
       by false e = absurd-eq (cc)
   wrong-within (r ∷ rs) q h p e =
-      by (ltb q (length rows)) (properRecord r rows q) refl e (λ f g. wrong-within rs (q + recordLength r) f p g)
+      by (properRecord r rows q) refl e (λ f g. wrong-within rs (q + recordLength r) f p g)
     where
-      by : (a b : Bool) → properRecord r rows q ≡ b → nextRecord a b q (records rs rows (q + recordLength r)) ≡ wrongAt p →
+      by : (b : Bool) → properRecord r rows q ≡ b → nextRecord b q (records rs rows (q + recordLength r)) ≡ wrongAt p →
           (q + recordLength r ≤ length rows → records rs rows (q + recordLength r) ≡ wrongAt p → p ≤ length rows) → p ≤ length rows
-      by false b f e k = let v : q ≡ p = cc in omega (arith, h, v)
-      by true false f e k = let v : q ≡ p = cc in omega (arith, h, v)
-      by true true f e k = k (proper-within r rows q f) e
+      by false f e k = let v : q ≡ p = cc in omega (arith, h, v)
+      by true f e k = k (proper-within r rows q f) e
 
   -- 23 to 25
   told-fault : (f : Fault) (p : ℕ) → p ≤ length s → RefusedEvaluation s d images rows (refusalOf f) p

@@ -8,6 +8,7 @@ use native.Mathlib.Omega.{arith}
 use lib.Dec.{leb, ltb}
 use lib.ListN.{length, drop, length-append}
 use borrow.Author.Tests.{lt-ltb, le-leb, lt-leb, le-ltb}
+use Rattle.wire.specs.Codes as blr
 use Rattle.dictionary.specs.Dictionary.{Relation}
 use Rattle.grammar.specs.Tree.{Value, literal, reference, arithmetic, negate, Boolean, compare, search, between, connect, not, missing, Keys, noKeys, key, Clauses, noClauses, such, sorted, Stream, Heading, loop, modify, handler, receive, send, store, label, Rse, rse, Statement, assignment, begin, erase, for, headed, leave, if, ifElse, select, Statements, none as nothing, _then_, Receives, last, more, Request}
 use Rattle.grammar.specs.Bytes.{streamBytes, streamsBytes, headBytes, rseBytes, keysBytes, clausesBytes, headingBytes, referenceBytes, valueBytes, booleanBytes, statementBytes, statementsBytes, receivesBytes}
@@ -30,7 +31,7 @@ module _ (d : List Relation) where
   stream-rows : (ss : List Stream) (p start end : ℕ) → streamRows d ss p start end ≡ rowsOf (streamsDeclared d ss p start end)
   unfolding streamRows streamsDeclared rowsOf
   stream-rows [] p start end = refl
-  stream-rows (s ∷ ss) p start end = ap (λ z. contextRow (streamContext d true s) p start end ++ z) (stream-rows ss (p + length (streamBytes s)) start end)
+  stream-rows (s ∷ ss) p start end = ap (λ z. contextRow (streamContext d blr.for s) p start end ++ z) (stream-rows ss (p + length (streamBytes s)) start end)
 
   -- two parts one after another
   both-rows : (x y : List ℕ) (a b : List Declared) → x ≡ rowsOf a → y ≡ rowsOf b → x ++ y ≡ rowsOf (a ++ b)
@@ -163,11 +164,11 @@ none-after q lo hi (x ∷ a) b h =
 
 module _ (d : List Relation) where
   streams-hold : (q start end : ℕ) → start ≤ q → q < end → (ss : List Stream) (p : ℕ) →
-      contextsAt q (streamsDeclared d ss p start end) ≡ map (streamContext d true) ss
+      contextsAt q (streamsDeclared d ss p start end) ≡ map (streamContext d blr.for) ss
   unfolding contextsAt streamsDeclared
   streams-hold q start end h k [] p = refl
   streams-hold q start end h k (s ∷ ss) p =
-      rw (le-leb start q h, lt-ltb q end k) (ap (λ z. streamContext d true s ∷ z) (streams-hold q start end h k ss (p + length (streamBytes s))))
+      rw (le-leb start q h, lt-ltb q end k) (ap (λ z. streamContext d blr.for s ∷ z) (streams-hold q start end h k ss (p + length (streamBytes s))))
 
   streams-between : (lo start end : ℕ) → lo ≤ start → (ss : List Stream) (p : ℕ) → Between lo end (streamsDeclared d ss p start end)
   unfolding streamsDeclared
@@ -413,12 +414,12 @@ module _ (s : List ℕ) (e : Environment) where
   before-parts q lo hi lo₂ hi₂ outer a b w v h k =
       sym (append-nil outer) ∙ ap (λ z. outer ++ z) (sym (none-before q lo hi a w h)) ∙ first-part q lo₂ hi₂ outer a b v k
 
-  clauses-sites : (cs : Clauses) (sc : Scope) (b k : Bool) (p n : ℕ) (post : List ℕ) → clausesDepth cs ≤ n → ClausesAllowed e sc b k cs →
+  clauses-sites : (cs : Clauses) (sc : Scope) (p n : ℕ) (post : List ℕ) → clausesDepth cs ≤ n → ClausesAllowed e sc cs →
       drop p s ≡ clausesBytes cs ++ post →
       All (Holds (p + 1) (p + length (clausesBytes cs)) n (sc .contexts) (clausesDeclared d sc cs p)) (clausesConditions sc cs p)
   unfolding clausesDepth clausesBytes clausesConditions clausesDeclared
-  clauses-sites noClauses sc b k p n post h a f = tt
-  clauses-sites (such x cs) sc b k p n post h a f =
+  clauses-sites noClauses sc p n post h a f = tt
+  clauses-sites (such x cs) sc p n post h a f =
       let z = length-append (booleanBytes x) (clausesBytes cs) in
       let y = boolean-size x in
       let f1 : drop (p + 1) s ≡ booleanBytes x ++ (clausesBytes cs ++ post) = past s p (71 ∷ []) _ f ∙ append-assoc (booleanBytes x) (clausesBytes cs) post in
@@ -433,15 +434,15 @@ module _ (s : List ℕ) (e : Environment) where
           shallow = omega arith;
           rest = clausesBytes cs ++ post;
           stands = f1;
-          allowed = a .1;
+          allowed = a .0;
           scoped = before-parts (p + 1) (p + 1 + 1) q q (q + length (clausesBytes cs)) (sc .contexts) one two w v (omega arith) (omega (arith, y));
         },
         all-map (Holds (q + 1) (q + length (clausesBytes cs)) n (sc .contexts) two) _ (clausesConditions sc cs q)
             (widen (q + 1) (q + length (clausesBytes cs)) n (p + 1) (p + length (clausesBytes (such x cs))) n (sc .contexts) (sc .contexts) two (one ++ two)
             (omega arith) (omega (arith, z)) (omega arith) (λ o i j. second-part o (p + 1 + 1) q (sc .contexts) one two w (omega (arith, i))))
-            (clauses-sites cs sc true k q n post (omega arith) (a .2) (past s (p + 1) (booleanBytes x) _ f1)),
+            (clauses-sites cs sc q n post (omega arith) (a .1) (past s (p + 1) (booleanBytes x) _ f1)),
       )
-  clauses-sites (sorted ks cs) sc b k p n post h a f =
+  clauses-sites (sorted ks cs) sc p n post h a f =
       let z = length-append (keysBytes ks) (clausesBytes cs) in
       let f1 : drop (p + 2) s ≡ keysBytes ks ++ (clausesBytes cs ++ post) = past s p (70 ∷ _ ∷ []) _ f ∙ append-assoc (keysBytes ks) (clausesBytes cs) post in
       let q = p + 2 + length (keysBytes ks) in
@@ -451,7 +452,7 @@ module _ (s : List ℕ) (e : Environment) where
       (widen (q + 1) (q + length (clausesBytes cs)) n (p + 1) (p + length (clausesBytes (sorted ks cs))) n (sc .contexts) (sc .contexts) two (one ++ two)
       (omega arith) (omega (arith, z)) (omega arith)
       (λ o i j. second-part o (p + 2) q (sc .contexts) one two (keys-between d ks sc (p + 2)) (omega (arith, i))))
-      (clauses-sites cs sc b true q n post (omega arith) (a .3) (past s (p + 2) (keysBytes ks) _ f1))
+      (clauses-sites cs sc q n post (omega arith) (a .2) (past s (p + 2) (keysBytes ks) _ f1))
 
   heading-hold : (sc : Scope) (h : Heading) (p end q : ℕ) → p + length (headingBytes h) ≤ q → q < end →
       (underHeading d sc h) .contexts ≡ sc .contexts ++ contextsAt q (headingDeclared d sc h p end)
@@ -511,7 +512,7 @@ module _ (s : List ℕ) (e : Environment) where
         (all-map (Holds (m + 1) (m + length (clausesBytes cs)) n ((underStreams d sc ss) .contexts) below) _ (rseConditions d sc r (p + 1))
         (widen (m + 1) (m + length (clausesBytes cs)) n (p + 1) end n ((underStreams d sc ss) .contexts) (sc .contexts) below (streams ++ below ++ inner)
         (omega arith) (omega (arith, y, z)) (omega arith) in-clauses)
-        (clauses-sites cs (underStreams d sc ss) false false m n _ (omega arith) (a .0 .2) (past s (p + 1) (headBytes ss) _ f1)))
+        (clauses-sites cs (underStreams d sc ss) m n _ (omega arith) (a .0 .3) (past s (p + 1) (headBytes ss) _ f1)))
         (all-map (Holds (o + 1) (o + size t) n ((underRse d sc r) .contexts) inner) _ (conditions d (underRse d sc r) t o)
         (widen (o + 1) (o + size t) n (p + 1) end n ((underRse d sc r) .contexts) (sc .contexts) inner (streams ++ below ++ inner)
         (omega arith) (omega (arith, z)) (omega arith) in-body)
@@ -598,7 +599,7 @@ module _ (s : List ℕ) (e : Environment) where
         all-map (Holds (p + 1) (p + 1 + length (receivesBytes rs)) n (sc .contexts) (receivesDeclared d sc rs (p + 1))) _ (receivesConditions d sc rs (p + 1))
         (widen (p + 1) (p + 1 + length (receivesBytes rs)) n (p + 1) (p + size (select rs)) n (sc .contexts) (sc .contexts)
         (receivesDeclared d sc rs (p + 1)) (receivesDeclared d sc rs (p + 1)) (omega arith) (omega (arith, z)) (omega arith) (λ q i j. refl))
-        (receives-sites rs [] sc (p + 1) n _ (omega arith) a (past s p (13 ∷ []) _ f ∙ append-assoc (receivesBytes rs) (255 ∷ []) post))
+        (receives-sites rs sc (p + 1) n _ (omega arith) (a .1) (past s p (13 ∷ []) _ f ∙ append-assoc (receivesBytes rs) (255 ∷ []) post))
 
     pub all-sites : (ts : Statements) (sc : Scope) (p n : ℕ) (post : List ℕ) → statementsDepth ts ≤ n → StatementsAllowed e sc ts →
         drop p s ≡ statementsBytes ts ++ post →
@@ -622,15 +623,15 @@ module _ (s : List ℕ) (e : Environment) where
         (λ q i j. second-part q (p + 1) (p + size t) (sc .contexts) one two w i))
         (all-sites ts sc (p + size t) n post (omega arith) (a .1) (past s p (statementBytes t) _ f1)))
 
-    receives-sites : (rs : Receives) (before : List ℕ) (sc : Scope) (p n : ℕ) (post : List ℕ) → receivesDepth rs ≤ n → ReceivesAllowed e sc before rs →
+    receives-sites : (rs : Receives) (sc : Scope) (p n : ℕ) (post : List ℕ) → receivesDepth rs ≤ n → ReceivesAllowed e sc rs →
         drop p s ≡ receivesBytes rs ++ post →
         All (Holds p (p + length (receivesBytes rs)) n (sc .contexts) (receivesDeclared d sc rs p)) (receivesConditions d sc rs p)
-    receives-sites (last m t) before sc p n post h a f =
+    receives-sites (last m t) sc p n post h a f =
         all-map (Holds (p + 2 + 1) (p + 2 + size t) n (sc .contexts) (declared d sc t (p + 2))) _ (conditions d sc t (p + 2))
         (widen (p + 2 + 1) (p + 2 + size t) n p (p + length (receivesBytes (last m t))) n (sc .contexts) (sc .contexts)
         (declared d sc t (p + 2)) (declared d sc t (p + 2)) (omega arith) (omega arith) (omega arith) (λ q i j. refl))
         (sites t sc (p + 2) n post (omega arith) (a .1) (past s p (12 ∷ m ∷ []) _ f))
-    receives-sites (more m t rs) before sc p n post h a f =
+    receives-sites (more m t rs) sc p n post h a f =
         let end = p + length (receivesBytes (more m t rs)) in
         let o = p + 2 in
         let one = declared d sc t o in
@@ -647,4 +648,4 @@ module _ (s : List ℕ) (e : Environment) where
         (all-map (Holds (o + size t) (o + size t + length (receivesBytes rs)) n (sc .contexts) two) _ (receivesConditions d sc rs (o + size t))
         (widen (o + size t) (o + size t + length (receivesBytes rs)) n p end n (sc .contexts) (sc .contexts) two (one ++ two) (omega arith) (omega (arith, z)) (omega arith)
         (λ q i j. second-part q (o + 1) (o + size t) (sc .contexts) one two w i))
-        (receives-sites rs _ sc (o + size t) n post (omega arith) (a .2) (past s o (statementBytes t) _ f1)))
+        (receives-sites rs sc (o + size t) n post (omega arith) (a .2) (past s o (statementBytes t) _ f1)))

@@ -19,6 +19,9 @@ returns c =
 word-at-requires : tie.Need-word-at-requires
 word-at-requires c κs = search needs
 
+cast-result : tie.Need-cast-result
+cast-result c = search needs
+
 returns-2 : tie.Need-returns-2
 unfolding wholeNumber
 returns-2 c =
@@ -28,4 +31,4 @@ returns-2 c =
     rw (wholeNumber, sym (is-whole′ .ensures) ∙ not-false (is-whole′ .result) (if1′ .left), ← word-at′ .ensures .0)
 
 pub is-number-spec : {M : Type 1} → statement M
-is-number-spec = tie.close (tie.spec is-whole-requires returns word-at-requires returns-2)
+is-number-spec = tie.close (tie.spec is-whole-requires returns word-at-requires cast-result returns-2)

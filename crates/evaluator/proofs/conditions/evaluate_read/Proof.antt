@@ -13,7 +13,7 @@ use Rattle.evaluator.proofs.booleans.boolean_at.Reads as boolean-at-rea
 use Rattle.records.proofs.proper.records.Reads as records-reads
 use Rattle.surroundings.proofs.images.image_bytes.Reads as image-bytes-reads
 use Rattle.surroundings.proofs.scope.in_scope.Reads as in-scope-reads
-use Rattle.surroundings.proofs.table.number_at.Reads as number-at-reads
+use Rattle.wire.proofs.table.number_at.Reads as number-at-reads
 
 -- src/conditions.rt:29:14
 number-at-requires : tie.Need-number-at-requires

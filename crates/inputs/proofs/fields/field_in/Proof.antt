@@ -1,8 +1,8 @@
 -- `inputs::fields::field_in` meets its contract. Its entry says its format, and its bytes stand at its place or nowhere. Assumes nothing.
 use mathlib.Core.Path.{sym, ap, _∙_}
 use lib.ListN.{getElem?}
-use Rattle.dictionary.specs.Walk.{fieldsOf}
-use Rattle.dictionary.specs.FieldAnswers.{formatIs}
+use Rattle.dictionary.specs.Internal.Walk.{fieldsOf}
+use Rattle.dictionary.specs.Internal.FieldAnswers.{formatIs}
 use Rattle.meaning.specs.declared.Kind.{Kind}
 use Rattle.meaning.specs.Data.{absent}
 use Rattle.meaning.specs.Inputs.{value}

@@ -3,7 +3,7 @@ use Prim.Native.Nat.{_+_, _-_}
 use mathlib.Core.Path.{sym, ap, _∙_}
 use native.Mathlib.Omega.{arith}
 use lib.ListN.{length}
-use Rattle.dictionary.specs.Walk.{relationAt}
+use Rattle.dictionary.specs.Internal.Walk.{relationAt}
 use Rattle.records.specs.Record.{offsetOf}
 use Rattle.records.proofs.Offsets.{found, above}
 use Rattle.inputs.proofs.PastEnd.{past-end, up-to-end}

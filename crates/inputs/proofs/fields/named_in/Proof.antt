@@ -1,6 +1,6 @@
 -- `inputs::fields::named_in` meets its contract. Assumes nothing.
 use mathlib.Core.Path.{sym, _∙_}
-use Rattle.dictionary.specs.Walk.{relationAt}
+use Rattle.dictionary.specs.Internal.Walk.{relationAt}
 use Rattle.dictionary.specs.Naming.{named, fieldOf}
 use Rattle.meaning.specs.Inputs.{fieldIn}
 use Rattle.inputs.proofs.FieldLaws.{field-found, field-unknown}

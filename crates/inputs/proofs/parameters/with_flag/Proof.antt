@@ -1,7 +1,7 @@
 -- `inputs::parameters::with_flag` meets its contract. Assumes nothing.
 use Prim.Native.Nat.{min}
 use mathlib.Core.Path.{ap, _∙_}
-use Rattle.dictionary.specs.FieldAnswers.{formatIs}
+use Rattle.dictionary.specs.Internal.FieldAnswers.{formatIs}
 use Rattle.meaning.specs.Inputs.{Fetched, flagged, unlessFlagged}
 use Rattle.surroundings.specs.Parameters.{parameterFrom}
 use Rattle.surroundings.specs.Around.{rowValue}

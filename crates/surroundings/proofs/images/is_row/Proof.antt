@@ -7,6 +7,9 @@ use Rattle.surroundings.proofs.images.is_row.Tie as tie
 mul-number-at : tie.Need-mul-number-at
 mul-number-at c = search needs
 
+add-number-at : tie.Need-add-number-at
+add-number-at c = search needs
+
 number-at-requires : tie.Need-number-at-requires
 number-at-requires c κs = search needs
 
@@ -16,8 +19,8 @@ cast-if1 c = search needs
 mul-number-at-2 : tie.Need-mul-number-at-2
 mul-number-at-2 c = search needs
 
-add-number-at : tie.Need-add-number-at
-add-number-at c = search needs
+add-number-at-2 : tie.Need-add-number-at-2
+add-number-at-2 c = search needs
 
 number-at-requires-2 : tie.Need-number-at-requires-2
 number-at-requires-2 c κs = search needs
@@ -44,10 +47,11 @@ is-row-spec =
     tie.close
     (tie.spec
     mul-number-at
+    add-number-at
     number-at-requires
     cast-if1
     mul-number-at-2
-    add-number-at
+    add-number-at-2
     number-at-requires-2
     returns
     returns-2)

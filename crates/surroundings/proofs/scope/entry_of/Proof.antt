@@ -1,7 +1,7 @@
 -- `surroundings::scope::entry_of` meets its contract. A place of a dictionary is below 65,536. Assumes nothing.
 use mathlib.Core.Path.{sym, ap, _∙_}
 use Rattle.dictionary.specs.Naming.{numbered}
-use Rattle.dictionary.specs.Walk.{relationPlace}
+use Rattle.dictionary.specs.Internal.Walk.{relationPlace}
 use Rattle.dictionary.proofs.Bounds.{found-below}
 use Rattle.surroundings.specs.Slots.{placeOr}
 use Rattle.surroundings.proofs.ContextLoops.{place-some, place-none}

@@ -3,7 +3,7 @@ use Prim.Native.Nat.{_-_}
 use mathlib.Core.Path.{sym, ap, subst, _∙_}
 use mathlib.Core.Logic.{⊎-elim}
 use Rattle.dictionary.specs.Naming.{numbered}
-use Rattle.dictionary.specs.Walk.{relationPlace}
+use Rattle.dictionary.specs.Internal.Walk.{relationPlace}
 use Rattle.surroundings.specs.Slots.{placeOr, slotsFrom}
 use Rattle.surroundings.specs.Tables.{Laid}
 use Rattle.surroundings.proofs.ContextLoops.{Filling, fill-start, fill-end, fill-skip, fill-put}
@@ -33,6 +33,9 @@ row-holds-requires c κs = search needs
 mul-number-at : tie.Need-mul-number-at Inv-loop μ-loop
 mul-number-at c = search needs
 
+add-number-at : tie.Need-add-number-at Inv-loop μ-loop
+add-number-at c = search needs
+
 number-at-requires : tie.Need-number-at-requires Inv-loop μ-loop
 number-at-requires c κs = search needs
 
@@ -42,8 +45,8 @@ put-requires c κs = search needs
 mul-number-at-2 : tie.Need-mul-number-at-2 Inv-loop μ-loop
 mul-number-at-2 c = search needs
 
-add-number-at : tie.Need-add-number-at Inv-loop μ-loop
-add-number-at c = search needs
+add-number-at-2 : tie.Need-add-number-at-2 Inv-loop μ-loop
+add-number-at-2 c = search needs
 
 number-at-requires-2 : tie.Need-number-at-requires-2 Inv-loop μ-loop
 number-at-requires-2 c κs = search needs
@@ -117,10 +120,11 @@ in-scope-spec =
     loop-holds
     row-holds-requires
     mul-number-at
+    add-number-at
     number-at-requires
     put-requires
     mul-number-at-2
-    add-number-at
+    add-number-at-2
     number-at-requires-2
     entry-of-requires
     put-requires-2

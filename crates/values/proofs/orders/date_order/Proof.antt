@@ -5,8 +5,8 @@ use Rattle.values.proofs.Days.{by-day}
 use Rattle.values.proofs.orders.date_order.Statement.{statement}
 use Rattle.values.proofs.orders.date_order.Tie as tie
 
-day-order-requires : tie.Need-day-order-requires
-day-order-requires c κs = search needs
+signed-order-requires : tie.Need-signed-order-requires
+signed-order-requires c κs = search needs
 
 enum-told : tie.Need-enum-told
 enum-told c = search needs
@@ -25,9 +25,9 @@ returns c =
     let args′ = c .before .before .before .before .before .args in
     let struct-told′ = c .before .before .before .before .struct-told in
     let struct-told2′ = c .before .before .before .struct-told2 in
-    let day-order′ = c .before .before .day-order in
+    let signed-order′ = c .before .before .signed-order in
     let enum-told′ = c .enum-told in
-    by-day (args′ .a) (args′ .b) (struct-told′ .given .0 .1) (struct-told2′ .given .0 .1) (day-order′ .ensures) (enum-told′ .given .1)
+    by-day (args′ .a) (args′ .b) (struct-told′ .given .0 .1) (struct-told2′ .given .0 .1) (signed-order′ .ensures) (enum-told′ .given .1)
 
 returns-2 : tie.Need-returns-2
 returns-2 c =
@@ -35,25 +35,25 @@ returns-2 c =
     let args′ = c .before .before .before .before .before .before .args in
     let struct-told′ = c .before .before .before .before .before .struct-told in
     let struct-told2′ = c .before .before .before .before .struct-told2 in
-    let day-order′ = c .before .before .before .day-order in
+    let signed-order′ = c .before .before .before .signed-order in
     let enum-told2′ = c .before .enum-told2 in
     fraction-order′ .ensures
-    ∙ by-day (args′ .a) (args′ .b) (struct-told′ .given .0 .1) (struct-told2′ .given .0 .1) (day-order′ .ensures) (enum-told2′ .given .1)
+    ∙ by-day (args′ .a) (args′ .b) (struct-told′ .given .0 .1) (struct-told2′ .given .0 .1) (signed-order′ .ensures) (enum-told2′ .given .1)
 
 returns-3 : tie.Need-returns-3
 returns-3 c =
     let args′ = c .before .before .before .before .before .args in
     let struct-told′ = c .before .before .before .before .struct-told in
     let struct-told2′ = c .before .before .before .struct-told2 in
-    let day-order′ = c .before .before .day-order in
+    let signed-order′ = c .before .before .signed-order in
     let enum-told3′ = c .enum-told3 in
-    by-day (args′ .a) (args′ .b) (struct-told′ .given .0 .1) (struct-told2′ .given .0 .1) (day-order′ .ensures) (enum-told3′ .given .1)
+    by-day (args′ .a) (args′ .b) (struct-told′ .given .0 .1) (struct-told2′ .given .0 .1) (signed-order′ .ensures) (enum-told3′ .given .1)
 
 pub date-order-spec : {M : Type 1} → statement M
 date-order-spec =
     tie.close
     (tie.spec
-    day-order-requires
+    signed-order-requires
     enum-told
     enum-told-2
     fraction-order-requires
