@@ -5,7 +5,7 @@
  * traps, and always returns, whatever the bytes are. No argument has to be tested before a call.
  *
  * Stack: the deepest requests that were tried use up to 108 kilobytes on x86-64. That is measured and not proved
- * (docs/PROOFS.md).
+ * (docs/PERFORMANCE.md).
  *
  * A pointer may be anything if its length is 0. The slices of one call must not overlap. Any number of threads may call
  * at once, each with tables of its own.

@@ -20,12 +20,6 @@ fn relation_places(bytes: &[u8]) -> Vec<usize> {
     places
 }
 
-/// The place of a field's entry, after that of its relation.
-fn field_place(bytes: &[u8], relation: usize, field: usize) -> usize {
-    let word = |at: usize| usize::from(u16::from_le_bytes([bytes[at], bytes[at + 1]]));
-    (0..=field).fold(relation, |at, _| at + word(at))
-}
-
 /// The bytes of a dictionary: proper, damaged by a rule, cut, or with some bytes changed.
 fn bytes(rng: &mut Rng) -> Vec<u8> {
     let dictionary = dictionaries::proper(rng, Size::Small);
@@ -142,7 +136,7 @@ fn missing(
     for ((relation, start), entry) in relations.iter().zip(starts).zip(entries) {
         for field in 0..relation.fields.len() {
             let start = *start as usize;
-            let one = proved::field(bytes, start, field_place(bytes, start, field), run, at, field);
+            let one = proved::field(bytes, start, run, at, field);
             let other = (
                 number(record::cause(relation, entry, field)),
                 relation.field_offset(field),

@@ -78,7 +78,6 @@ extern "C" {
         bytes: *const u8,
         length: usize,
         relation: usize,
-        entry: usize,
         run: *const u8,
         run_length: usize,
         place: usize,
@@ -207,7 +206,6 @@ pub fn records(bytes: &[u8], relations: &[u32], run: &[u8]) -> Option<usize> {
 pub fn field(
     bytes: &[u8],
     relation: usize,
-    entry: usize,
     run: &[u8],
     place: usize,
     field: usize,
@@ -215,7 +213,7 @@ pub fn field(
     let (pointer, length) = (bytes.as_ptr(), bytes.len());
     unsafe {
         (
-            house_missing(pointer, length, relation, entry, run.as_ptr(), run.len(), place, field),
+            house_missing(pointer, length, relation, run.as_ptr(), run.len(), place, field),
             house_offset(pointer, length, relation, field),
             house_length(pointer, length, relation),
         )
