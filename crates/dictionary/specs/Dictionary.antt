@@ -38,7 +38,8 @@ nameAt d p = take (byteAt d p) (drop (p + 1) d)
 unfoldable pub goodName : List ℕ → Bool
 goodName n = leb 1 (length n) && leb (length n) maxNameBytes && allOf (λ x. leb firstNameByte x && leb x lastNameByte) n
 
--- 01: "An entry is a length word (the whole entry), a kind word, a body." The counted name, which ends the entry, stands k bytes from its start.
+-- 01: "An entry is a length word (the whole entry), a kind word, a body."
+-- The counted name, which ends the entry, stands k bytes from its start.
 abbrev pub wholeEntry : List ℕ → ℕ → ℕ → Bool
 wholeEntry d p k = eqb (wordAt d p) (k + 1 + byteAt d (p + k)) && leb (p + wordAt d p) (length d)
 

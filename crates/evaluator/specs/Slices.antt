@@ -47,8 +47,8 @@ lentOf g = lent (g .request) (g .images) (g .records)
 -- what references give
 unfoldable pub fetchedBy : Slices → Reference → Fetched
 fetchedBy g =
-    lentAround (g .dictionary) (g .numbers) (g .relations) (length (g .numbers)) (g .parameters) (length (g .parameters) / parameterRowNumbers)
-    (g .images) (g .records)
+    lentAround (g .dictionary) (g .numbers) (g .relations) (length (g .numbers)) (g .parameters)
+    (length (g .parameters) / parameterRowNumbers) (g .images) (g .records)
 
 -- the values and the booleans at a place, with so many levels left
 abbrev pub valuesOf : Slices → ℕ → ℕ → Walked Datum

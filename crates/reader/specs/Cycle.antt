@@ -191,7 +191,8 @@ joined x y = tables (x .statements ++ y .statements) (x .contexts ++ y .contexts
 -- the tables with rows from a cursor on
 abbrev pub laid : Tables → Cursor → Tables → Tables
 laid t c rows =
-    tables (sets (t .statements) (c .statements * statementRowNumbers) (rows .statements)) (sets (t .contexts) (c .contexts * contextRowNumbers) (rows .contexts))
+    tables (sets (t .statements) (c .statements * statementRowNumbers) (rows .statements))
+    (sets (t .contexts) (c .contexts * contextRowNumbers) (rows .contexts))
     (sets (t .conditions) (c .conditions) (rows .conditions))
 
 -- a reading that wrote rows

@@ -33,7 +33,8 @@ toSmall = 32
 unfoldable pub lowerCase : ℕ → ℕ
 lowerCase c = cond (leb firstCapital c && leb c lastCapital) (c + toSmall) c
 
--- the same byte but for ASCII case, as `containing` and `matches` have it and `starting` does not; 01: "53 and 54 ignore ASCII case, 55 does not."
+-- the same byte but for ASCII case, as `containing` and `matches` have it and `starting` does not
+-- 01: "53 and 54 ignore ASCII case, 55 does not."
 abbrev pub sameLetter : ℕ → ℕ → Bool
 sameLetter x y = eqb (lowerCase x) (lowerCase y)
 

@@ -33,7 +33,8 @@ cutAt s (some k) = trimmed s 0 k
 -- the part that is the text, of the bytes that a text holds; 23: "varying length above n, cstring without zero"
 unfoldable pub textPart : TextType → List ℕ → TextPart
 textPart Text s = trimmed s 0 (length s)
-textPart Varying s = cond (leb lengthWord (length s) && leb (wordAt s 0) (length s - lengthWord)) (trimmed s lengthWord (wordAt s 0)) Malformed
+textPart Varying s =
+    cond (leb lengthWord (length s) && leb (wordAt s 0) (length s - lengthWord)) (trimmed s lengthWord (wordAt s 0)) Malformed
 textPart Cstring s = cutAt s (indexOf (λ x. eqb x 0) s)
 
 -- the bytes of a part

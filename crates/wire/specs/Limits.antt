@@ -13,8 +13,8 @@ maxDictionaryBytes = 65535
 abbrev pub maxDepth : ℕ
 maxDepth = 32
 
--- 01: "512 statements, 16 messages, 128 parameters a message, 256 in all, 4,096 bytes a message, 32 context declarations, 32 relations, 64 fields
--- each, 4,096 bytes a record entry."
+-- 01: "512 statements, 16 messages, 128 parameters a message, 256 in all, 4,096 bytes a message, 32 context declarations, 32 relations,
+-- 64 fields each, 4,096 bytes a record entry."
 abbrev pub maxStatements : ℕ
 maxStatements = 512
 
