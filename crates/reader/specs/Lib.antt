@@ -4,3 +4,4 @@ pub mod Headings
 pub mod Cycle
 pub mod Operands
 pub mod Request
+pub mod Readers
