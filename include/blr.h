@@ -4,8 +4,8 @@
  * seen from here: a call takes numbers and pointers with lengths, allocates nothing, keeps no state between calls, never
  * traps, and always returns, whatever the bytes are. No argument has to be tested before a call.
  *
- * Stack: the deepest requests that were tried use up to 108 kilobytes on x86-64. That is measured and not proved
- * (docs/PERFORMANCE.md).
+ * Stack: the requests that were tried use up to 427 kilobytes on x86-64: a long begin deep inside others. That is measured
+ * and not proved (docs/PERFORMANCE.md).
  *
  * A pointer may be anything if its length is 0. The slices of one call must not overlap. Any number of threads may call
  * at once, each with tables of its own.

@@ -108,6 +108,9 @@ pub fn run() {
     let streams: Vec<&[u8]> = streams.iter().map(Vec::as_slice).collect();
     let eight_streams = assemble::for_loop(&streams, &test, &empty);
     let store = [&[wire::STORE], assemble::rid(1, 0).as_slice(), &empty].concat();
+    let block = |count| {
+        [vec![wire::BEGIN], [wire::BEGIN, wire::END].repeat(count), vec![wire::END]].concat()
+    };
     let cases = [
         (
             "begin",
@@ -146,6 +149,11 @@ pub fn run() {
         (
             "loop, then assignment",
             nested(28, assign(assemble::parameter(0, 0)), |_, inner| headed(&[wire::LOOP], inner)),
+        ),
+        ("500 statements in a begin", nested(0, block(500), |_, inner| inner)),
+        (
+            "loop, then 450 in a begin",
+            nested(28, block(450), |_, inner| headed(&[wire::LOOP], inner)),
         ),
     ];
     let own = used(Work::Nothing);
