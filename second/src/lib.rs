@@ -1,6 +1,6 @@
 //! A second, plain reader and evaluator of BLR requests over a house dictionary.
 //!
-//! It is written from document 01 and requests No. 1 and No. 3 of document 02 alone, with vectors
+//! It is written from document 01 and requests No. 1, No. 3 and No. 10 of document 02 alone, with vectors
 //! and 128-bit numbers where they make a rule short, so that its results can be compared with those
 //! of another implementation. Places count bytes from the start of the request or of the dictionary.
 
@@ -28,6 +28,8 @@ pub mod reader;
 pub mod record;
 /// The numbers given back, each with a place.
 pub mod refusal;
+/// Stores: the records of one relation in a lent buffer.
+pub mod store;
 /// Texts: the part that holds the value, order and the three text tests.
 pub mod text;
 /// Little-endian numbers and the codes of blr.h.

@@ -1,4 +1,5 @@
-//! A refusal: a number of document 01's table "Numbers given back" and a place.
+//! A refusal: a number of document 01's table "Numbers given back", or of a request of document 02,
+//! and a place.
 
 /// The first refusal met, with the place that the table gives for it.
 #[derive(Clone, Copy, Debug, PartialEq, Eq)]
@@ -56,3 +57,11 @@ pub const MALFORMED_TEXT: u32 = 23;
 pub const OVERFLOW: u32 = 24;
 /// 25: a zero divisor.
 pub const ZERO_DIVISOR: u32 = 25;
+/// 50: the store is malformed.
+pub const BAD_STORE: u32 = 50;
+/// 51: the store has no such position.
+pub const NO_POSITION: u32 = 51;
+/// 52: the record is not as due.
+pub const BAD_RECORD: u32 = 52;
+/// 53: there are not enough free bytes.
+pub const NO_ROOM: u32 = 53;
