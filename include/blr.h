@@ -88,6 +88,40 @@ static inline unsigned blr_number(uint64_t evaluation) {
 }
 static inline uint64_t blr_place(uint64_t evaluation) { return evaluation >> 16; }
 
+/* Stores: the records of one relation in a lent buffer of at most 65,535 bytes, beside a house dictionary (document 02,
+ * No. 10). A store is a header of ten bytes, the records one after another, and zeros.
+ *
+ * Each function gives 0, or the number of the refusal: 3 the dictionary is not proper, 12 unknown relation, 50 the store is
+ * malformed, 51 no such position, 52 not one proper record of the relation, 53 not enough free bytes. The answer then holds the
+ * place of the refusal, which is one in the dictionary for 3 and otherwise 0, then zeros, and the buffer is unchanged.
+ *
+ * The first four change the store, and the answer of a call that is done holds zeros: an empty store of the relation of an
+ * id, whatever the buffer held; a record at the end; the record at a position, from 0, taken out; another record in its place. A
+ * record that is added or put gets the missing bit of each reading of 65535.
+ *
+ * blr_store_read writes nothing in the buffer; its answer holds the relation's id, the record count and the missing count.
+ * blr_store_find writes nothing there either; its answer holds the place of a record in the buffer, its length, then 0.
+ *
+ * The answer has room for three numbers.
+ */
+uint32_t blr_store_make(const uint8_t *dictionary, size_t dictionary_length,
+                        uint8_t *buffer, size_t buffer_length,
+                        uint32_t relation, size_t answer[3]);
+uint32_t blr_store_add(const uint8_t *dictionary, size_t dictionary_length,
+                       uint8_t *buffer, size_t buffer_length,
+                       const uint8_t *entry, size_t entry_length, size_t answer[3]);
+uint32_t blr_store_erase(const uint8_t *dictionary, size_t dictionary_length,
+                         uint8_t *buffer, size_t buffer_length,
+                         size_t position, size_t answer[3]);
+uint32_t blr_store_replace(const uint8_t *dictionary, size_t dictionary_length,
+                           uint8_t *buffer, size_t buffer_length, size_t position,
+                           const uint8_t *entry, size_t entry_length, size_t answer[3]);
+uint32_t blr_store_read(const uint8_t *dictionary, size_t dictionary_length,
+                        const uint8_t *buffer, size_t buffer_length, size_t answer[3]);
+uint32_t blr_store_find(const uint8_t *dictionary, size_t dictionary_length,
+                        const uint8_t *buffer, size_t buffer_length,
+                        size_t position, size_t answer[3]);
+
 #ifdef __cplusplus
 }
 #endif

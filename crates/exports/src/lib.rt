@@ -3,6 +3,9 @@ ghost use mathlib.Core.Path.{_≡_};
 ghost use Prim.Native.Nat.{min};
 ghost use Rattle.meaning.specs.Evaluation.{evaluation};
 ghost use Rattle.exports.specs.Exports.{Exported, causeGiven, truthGiven, greatestPlace, refusalGiven, outcomeGiven};
+
+pub mod stores;
+
 use grammar::ReadAnswer;
 use grammar::Refusal;
 use grammar::number_of;

@@ -49,14 +49,14 @@ fn type_bytes(t: FieldType, n: u32) -> usize
 }
 
 // The bytes that a field holds.
-pub(crate) fn held_bytes(d: &[u8], q: usize) -> usize
+pub fn held_bytes(d: &[u8], q: usize) -> usize
     ensures { λ r. ⌜ r ≡ held (formatAt (now (d .entry)) q) ⌝ }
 {
     type_bytes(type_at(d, q), word_on(d, q, FIELD_SIZE))
 }
 
 // How many fields a relation has.
-pub(crate) fn field_count(d: &[u8], relation: usize) -> usize
+pub fn field_count(d: &[u8], relation: usize) -> usize
     ensures { λ r. ⌜ r ≡ fieldCount (relationAt (now (d .entry)) relation) ⌝ }
 {
     let mut q = next_place(d, relation);
@@ -69,7 +69,7 @@ pub(crate) fn field_count(d: &[u8], relation: usize) -> usize
 }
 
 // "one missing bit a field": the bytes of n bits.
-pub(crate) fn missing_bytes(n: usize) -> usize
+pub fn missing_bytes(n: usize) -> usize
     ensures { λ r. ⌜ r ≡ (n + 7) / 8 ⌝ }
 {
     n / 8 + (n % 8 + 7) / 8
