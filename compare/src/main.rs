@@ -1,13 +1,15 @@
 //! `compare leaves SEED COUNT` compares the proved leaves with the second program's, `compare dictionaries SEED COUNT` the check of
-//! dictionaries, look-ups and records, `compare requests SEED COUNT` the reader, `compare evaluations SEED COUNT` the evaluator; `compare times` times both, and `compare stack`
+//! dictionaries, look-ups and records, `compare requests SEED COUNT` the reader, `compare evaluations SEED COUNT` the evaluator, `compare stores SEED COUNT` calls on stores; `compare times` times both, and `compare stack`
 //! measures the stack that the reader uses.
 
 mod evaluations;
 mod houses;
 mod leaves;
+mod plain;
 mod proved;
 mod requests;
 mod stack;
+mod stores;
 mod times;
 
 use std::process::ExitCode;
@@ -21,6 +23,7 @@ fn main() -> ExitCode {
             ("dictionaries", Ok(seed), Ok(count)) => houses::run(seed, count),
             ("requests", Ok(seed), Ok(count)) => requests::run(seed, count),
             ("evaluations", Ok(seed), Ok(count)) => evaluations::run(seed, count),
+            ("stores", Ok(seed), Ok(count)) => stores::run(seed, count),
             _ => return usage(),
         },
         ["stack"] => {
@@ -38,7 +41,7 @@ fn main() -> ExitCode {
 
 fn usage() -> ExitCode {
     eprintln!(
-        "usage: compare leaves|dictionaries|requests|evaluations SEED COUNT | compare times|stack"
+        "usage: compare leaves|dictionaries|requests|evaluations|stores SEED COUNT | compare times|stack"
     );
     ExitCode::from(2)
 }

@@ -1,6 +1,7 @@
 //! The proved functions, behind safe ones. Nothing checks these declarations against the Rattle source
-//! `crates/exports/src/lib.rt` and `crates/leaf_exports/src/lib.rt`: they pass numbers and slices only, and every function there is total.
+//! `crates/exports/src/lib.rt`, `crates/exports/src/stores.rt` and `crates/leaf_exports/src/lib.rt`: they pass numbers and slices only, and every function there is total.
 
+use second::store::Call;
 use std::cmp::Ordering;
 
 #[allow(improper_ctypes)]
@@ -29,6 +30,56 @@ extern "C" {
         records: *const u8,
         records_length: usize,
     ) -> u64;
+    fn blr_store_make(
+        dictionary: *const u8,
+        dictionary_length: usize,
+        buffer: *mut u8,
+        buffer_length: usize,
+        relation: u32,
+        answer: *mut usize,
+    ) -> u32;
+    fn blr_store_add(
+        dictionary: *const u8,
+        dictionary_length: usize,
+        buffer: *mut u8,
+        buffer_length: usize,
+        entry: *const u8,
+        entry_length: usize,
+        answer: *mut usize,
+    ) -> u32;
+    fn blr_store_erase(
+        dictionary: *const u8,
+        dictionary_length: usize,
+        buffer: *mut u8,
+        buffer_length: usize,
+        position: usize,
+        answer: *mut usize,
+    ) -> u32;
+    fn blr_store_replace(
+        dictionary: *const u8,
+        dictionary_length: usize,
+        buffer: *mut u8,
+        buffer_length: usize,
+        position: usize,
+        entry: *const u8,
+        entry_length: usize,
+        answer: *mut usize,
+    ) -> u32;
+    fn blr_store_read(
+        dictionary: *const u8,
+        dictionary_length: usize,
+        buffer: *const u8,
+        buffer_length: usize,
+        answer: *mut usize,
+    ) -> u32;
+    fn blr_store_find(
+        dictionary: *const u8,
+        dictionary_length: usize,
+        buffer: *const u8,
+        buffer_length: usize,
+        position: usize,
+        answer: *mut usize,
+    ) -> u32;
     fn leaf_compute(
         operation: u8,
         a: i64,
@@ -300,4 +351,59 @@ fn cause(number: u64) -> String {
         3 => "flag".to_string(),
         other => format!("by {other}"),
     }
+}
+
+/// The answer of a function of a store, or the number and the place of the refusal.
+fn stored(number: u32, answer: [usize; 3]) -> Result<[usize; 3], (u32, usize)> {
+    match number {
+        0 => Ok(answer),
+        _ => Err((number, answer[0])),
+    }
+}
+
+/// A call on the store in a buffer.
+pub fn store_call(dictionary: &[u8], buffer: &mut [u8], call: &Call) -> Result<(), (u32, usize)> {
+    let mut answer = [usize::MAX; 3];
+    let (words, length) = (dictionary.as_ptr(), dictionary.len());
+    let (bytes, room) = (buffer.as_mut_ptr(), buffer.len());
+    let out = answer.as_mut_ptr();
+    // Each slice passes as a pointer and its length, and is borrowed for the call alone.
+    let number = unsafe {
+        match call {
+            Call::Make(id) => blr_store_make(words, length, bytes, room, *id, out),
+            Call::Add(entry) => {
+                blr_store_add(words, length, bytes, room, entry.as_ptr(), entry.len(), out)
+            }
+            Call::Erase(position) => blr_store_erase(words, length, bytes, room, *position, out),
+            Call::Replace(position, entry) => {
+                let (pointer, size) = (entry.as_ptr(), entry.len());
+                blr_store_replace(words, length, bytes, room, *position, pointer, size, out)
+            }
+        }
+    };
+    stored(number, answer).map(|_| ())
+}
+
+/// The relation's id, the record count and the missing count of the store in a buffer.
+pub fn store_read(dictionary: &[u8], buffer: &[u8]) -> Result<[usize; 3], (u32, usize)> {
+    let mut answer = [usize::MAX; 3];
+    let (bytes, room) = (buffer.as_ptr(), buffer.len());
+    let out = answer.as_mut_ptr();
+    let number = unsafe { blr_store_read(dictionary.as_ptr(), dictionary.len(), bytes, room, out) };
+    stored(number, answer)
+}
+
+/// The place and the length of the record at a position, and zero.
+pub fn store_find(
+    dictionary: &[u8],
+    buffer: &[u8],
+    position: usize,
+) -> Result<[usize; 3], (u32, usize)> {
+    let mut answer = [usize::MAX; 3];
+    let (bytes, room) = (buffer.as_ptr(), buffer.len());
+    let out = answer.as_mut_ptr();
+    let number = unsafe {
+        blr_store_find(dictionary.as_ptr(), dictionary.len(), bytes, room, position, out)
+    };
+    stored(number, answer)
 }

@@ -1,5 +1,6 @@
 //! Times of the proved leaves as ratios to the second program's, in one run: below 1 the proved code is faster.
 
+use crate::plain;
 use crate::proved::{self, Computed, Number};
 use second::decimal::{self, Fault};
 use second::dictionary::{Dictionary, Relation};
@@ -7,6 +8,7 @@ use second::evaluator;
 use second::generate::rng::Rng;
 use second::generate::{assemble, dictionaries};
 use second::reader::{self, TABLE_LENGTHS};
+use second::store::{self, Call};
 use second::{text, wire};
 use std::hint::black_box;
 use std::time::Instant;
@@ -391,6 +393,48 @@ fn evaluations() {
 }
 
 /// Prints a line for each leaf: its ratio, and the time of a proved call.
+/// The records of BEDS of document 01 in a full buffer of 65,535 bytes, and one record.
+fn full_store() -> (Vec<u8>, Vec<u8>, Vec<u8>) {
+    let dictionary = [
+        [&[11u8, 0, 1, 0, 1, 0, 4][..], b"BEDS"].concat(),
+        [&[15, 0, 2, 0, 0, 0, 200, 255, 2, 0, 4][..], b"HEAT"].concat(),
+        [&[15, 0, 2, 0, 1, 0, 14, 0, 4, 0, 4][..], b"NAME"].concat(),
+    ]
+    .concat();
+    let record = [&[13u8, 0, 3, 0, 1, 0, 0, 255, 255][..], b"BED1"].concat();
+    let mut buffer = vec![0; 65_535];
+    proved::store_call(&dictionary, &mut buffer, &Call::Make(1)).expect("an empty store");
+    while proved::store_call(&dictionary, &mut buffer, &Call::Add(record.clone())).is_ok() {}
+    (dictionary, buffer, record)
+}
+
+/// Erasing the first record of a full store and adding one at its end, against the second program and against plain Rust in place.
+fn stores() {
+    let (dictionary, full, record) = full_store();
+    let calls = [Call::Erase(0), Call::Add(record.clone())];
+    let (mut one, mut other, mut third) = (full.clone(), full.clone(), full);
+    line(
+        "store, erase and add, second",
+        4,
+        |turn| {
+            proved::store_call(&dictionary, &mut one, &calls[turn % 2]).expect("a call");
+        },
+        |turn| {
+            store::call(&dictionary, &mut other, &calls[turn % 2]).expect("a call");
+        },
+    );
+    line(
+        "store, erase and add, in place",
+        40,
+        |turn| {
+            proved::store_call(&dictionary, &mut one, &calls[turn % 2]).expect("a call");
+        },
+        |turn| {
+            plain::call(&dictionary, &mut third, &calls[turn % 2]).expect("a call");
+        },
+    );
+}
+
 pub fn run() {
     let mut rng = Rng::new(1);
     println!("{:<32} {:>8}", "leaf", "ratio");
@@ -401,4 +445,5 @@ pub fn run() {
     dictionary_check();
     readings();
     evaluations();
+    stores();
 }
