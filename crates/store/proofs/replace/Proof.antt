@@ -44,7 +44,10 @@ returns-2 c =
     let args′ = c .before .before .before .before .before .before .before .before .before .before .before .before .before .before .before .args in
     let octets : Octets (args′ .buffer .now) = λ p. omega (arith, c .before .before .before .before .before .before .before .before .before .before .before .before .before .slice-known .given p) in
     let entry-octets : Octets (args′ .entry .now) = λ p. omega (arith, c .before .before .before .before .before .before .before .before .before .before .before .before .shared-slice-known2 .given p) in
-    replace-called (args′ .dictionary .now) (args′ .buffer .now) (c .before .before .before .before .before .before .s .given .0 .0) (sym (c .before .before .before .before .before .before .s .given .1) ∙ c .before .before .before .before .before .before .before .before .before .open-store .ensures .opened) octets (args′ .position) _ (args′ .entry .now) _ _ (c .before .before .before .before .before .before .before .before .before .open-store .ensures .laid) entry-octets (c .before .before .replace-at .ensures)
+    let open-store′ = c .before .before .before .before .before .before .before .before .before .open-store in
+    let s′ = c .before .before .before .before .before .before .s in
+    let replace-at′ = c .before .before .replace-at in
+    replace-called (args′ .dictionary .now) (args′ .buffer .now) (s′ .given .0 .0) (sym (s′ .given .1) ∙ open-store′ .ensures .opened) octets (args′ .position) _ (args′ .entry .now) _ _ (open-store′ .ensures .laid) entry-octets (replace-at′ .ensures)
 
 pub replace-spec : {M : Type 1} → statement M
 replace-spec =

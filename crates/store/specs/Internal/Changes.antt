@@ -87,7 +87,8 @@ abbrev pub bitsAt : Store → List ℕ → ℕ → ℕ
 bitsAt s b p = onesAt b (p + recordBits) (s .layout .bits)
 
 abbrev pub addRefusal : Store → List ℕ → List ℕ → Option Refusal
-addRefusal s b x = refuseIf (not (oneBy (s .layout) x)) WrongRecord (refuseIf (ltb (length b) (placeOf s (s .count) + length x)) NoRoom none)
+addRefusal s b x =
+    refuseIf (not (oneBy (s .layout) x)) WrongRecord (refuseIf (ltb (length b) (placeOf s (s .count) + length x)) NoRoom none)
 
 unfoldable pub addBytes : Store → List ℕ → List ℕ → List ℕ → List ℕ
 addBytes s t b x =

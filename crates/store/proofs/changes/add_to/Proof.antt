@@ -56,7 +56,9 @@ put-counts-requires c κs =
     let args′ = c .before .before .before .before .before .before .before .before .before .before .before .before .before .before .args in
     let long = one-long (args′ .s .layout) (args′ .x .now) (sym (c .before .before .before .before .before .before .before .before .before .before .is-one .ensures) ∙ not-false (c .before .before .before .before .before .before .before .before .before .before .is-one .result) (c .before .before .before .before .before .before .before .before .before .if1 .left)) in
     let room : placeOf (args′ .s) (args′ .s .count) + length (args′ .x .now) ≤ length (args′ .b .now) = omega (arith, c .before .before .before .before .before .before .before .if2 .left, c .before .before .before .before .before .before .before .before .before .before .before .before .before .before .pre .inside) in
-    (search needs, (omega (arith, few-records (args′ .s) (args′ .b .now) (c .before .before .before .before .before .before .before .before .before .before .before .before .before .before .pre), c .before .before .before .before .before .before .before .before .before .before .before .before .before .before .pre .short), more-missing (args′ .s) (args′ .b .now) (c .before .before .before .before .before .before .before .before .before .before .before .before .before .before .pre) (placeOf (args′ .s) (args′ .s .count)) (c .before .before .before .before .before .write .result) refl (omega (arith, room, long)) (c .before .before .before .before .before .write .ensures .ones-few)))
+    let pre′ = c .before .before .before .before .before .before .before .before .before .before .before .before .before .before .pre in
+    let write′ = c .before .before .before .before .before .write in
+    (search needs, (omega (arith, few-records (args′ .s) (args′ .b .now) (pre′), pre′ .short), more-missing (args′ .s) (args′ .b .now) (pre′) (placeOf (args′ .s) (args′ .s .count)) (write′ .result) refl (omega (arith, room, long)) (write′ .ensures .ones-few)))
 
 same-length : tie.Need-same-length
 same-length c = search needs

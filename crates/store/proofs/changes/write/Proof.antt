@@ -10,7 +10,11 @@ copy-requires : tie.Need-copy-requires
 copy-requires c κs = omega (arith, c .before .before .before .before .pre .1 .0, c .before .before .before .before .pre .1 .1 .0)
 
 mark-requires : tie.Need-mark-requires
-mark-requires c κs = (c .before .before .before .before .before .before .before .before .pre .0, rw (c .before .before .before .copy .ensures, length-over (c .before .before .before .before .before .before .before .before .args .b .now) (c .before .before .before .before .before .before .before .before .args .p) (c .before .before .before .before .before .before .before .before .args .x .now) (omega (arith, c .before .before .before .before .before .before .before .before .pre .1 .0, c .before .before .before .before .before .before .before .before .pre .1 .1 .0))) (c .before .before .before .before .before .before .before .before .pre .1 .1 .0))
+mark-requires c κs =
+    let args′ = c .before .before .before .before .before .before .before .before .args in
+    let pre′ = c .before .before .before .before .before .before .before .before .pre in
+    let copy′ = c .before .before .before .copy in
+    (pre′ .0, rw (copy′ .ensures, length-over (args′ .b .now) (args′ .p) (args′ .x .now) (omega (arith, pre′ .1 .0, pre′ .1 .1 .0))) (pre′ .1 .1 .0))
 
 add-count-ones : tie.Need-add-count-ones
 add-count-ones c = search needs

@@ -53,7 +53,13 @@ returns-6 : tie.Need-returns-6
 returns-6 c =
     let args′ = c .before .before .before .before .before .before .before .before .before .before .before .before .before .before .args in
     let whole : args′ .p + args′ .l .size ≤ length (args′ .s .now) = omega (arith, c .before .before .before .before .before .before .before .before .if3 .left, c .before .before .before .before .before .before .before .before .before .before .if2 .left) in
-    id-other (args′ .l) (args′ .s .now) (args′ .p) (c .before .before .before .before .before .before .before .before .before .before .before .if1 .left) whole (c .before .before .before .before .before .before .before .word-at .result) (c .before .before .before .before .before .before .before .word-at .ensures .0) (c .before .before .before .before .before .if4 .left) (c .before .before .before .before .word-on .result) (c .before .before .before .before .word-on .ensures .0) (c .before .before .before .if5 .left) (c .before .before .word-on2 .result) (c .before .before .word-on2 .ensures .0) (c .if6 .taken)
+    let if1′ = c .before .before .before .before .before .before .before .before .before .before .before .if1 in
+    let word-at′ = c .before .before .before .before .before .before .before .word-at in
+    let if4′ = c .before .before .before .before .before .if4 in
+    let word-on′ = c .before .before .before .before .word-on in
+    let if5′ = c .before .before .before .if5 in
+    let word-on2′ = c .before .before .word-on2 in
+    id-other (args′ .l) (args′ .s .now) (args′ .p) (if1′ .left) whole (word-at′ .result) (word-at′ .ensures .0) (if4′ .left) (word-on′ .result) (word-on′ .ensures .0) (if5′ .left) (word-on2′ .result) (word-on2′ .ensures .0) (c .if6 .taken)
 
 is-spare-clear-requires : tie.Need-is-spare-clear-requires
 is-spare-clear-requires c κs = search needs
@@ -62,7 +68,14 @@ returns-7 : tie.Need-returns-7
 returns-7 c =
     let args′ = c .before .before .before .before .before .before .before .before .before .before .before .before .before .before .before .args in
     let whole : args′ .p + args′ .l .size ≤ length (args′ .s .now) = omega (arith, c .before .before .before .before .before .before .before .before .before .if3 .left, c .before .before .before .before .before .before .before .before .before .before .before .if2 .left) in
-    spare-left (args′ .l) (args′ .s .now) (args′ .p) (c .before .before .before .before .before .before .before .before .before .before .before .before .if1 .left) whole (c .before .before .before .before .before .before .before .before .word-at .result) (c .before .before .before .before .before .before .before .before .word-at .ensures .0) (c .before .before .before .before .before .before .if4 .left) (c .before .before .before .before .before .word-on .result) (c .before .before .before .before .before .word-on .ensures .0) (c .before .before .before .before .if5 .left) (c .before .before .before .word-on2 .result) (c .before .before .before .word-on2 .ensures .0) (c .before .if6 .left) (c .is-spare-clear .result) (c .is-spare-clear .ensures)
+    let if1′ = c .before .before .before .before .before .before .before .before .before .before .before .before .if1 in
+    let word-at′ = c .before .before .before .before .before .before .before .before .word-at in
+    let if4′ = c .before .before .before .before .before .before .if4 in
+    let word-on′ = c .before .before .before .before .before .word-on in
+    let if5′ = c .before .before .before .before .if5 in
+    let word-on2′ = c .before .before .before .word-on2 in
+    let if6′ = c .before .if6 in
+    spare-left (args′ .l) (args′ .s .now) (args′ .p) (if1′ .left) whole (word-at′ .result) (word-at′ .ensures .0) (if4′ .left) (word-on′ .result) (word-on′ .ensures .0) (if5′ .left) (word-on2′ .result) (word-on2′ .ensures .0) (if6′ .left) (c .is-spare-clear .result) (c .is-spare-clear .ensures)
 
 pub is-proper-spec : {M : Type 1} → statement M
 is-proper-spec =

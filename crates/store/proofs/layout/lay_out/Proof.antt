@@ -60,7 +60,9 @@ add-at-2 : tie.Need-add-at-2 Inv-loop μ-loop
 add-at-2 c =
     let args′ = c .before .before .before .before .before .before .before .before .before .before .before .before .before .before .before .args in
     let e = sym (c .before .before .before .before .before .before .before .before .is-field .ensures) ∙ c .before .before .before .before .before .before .before .if1 .taken in
-    omega (arith, lay-inside (args′ .d .now) (args′ .relation) (args′ .table .now) (c .before .before .before .before .before .before .before .before .before .loop .table) (c .before .before .before .before .before .before .before .before .before .loop .q) (c .before .before .before .before .before .before .before .before .before .loop .at) (c .before .before .before .before .before .before .before .before .before .loop .i) (c .before .before .before .before .before .before .before .before .before .loop .inv .1) (c .held-bytes .result) e (c .held-bytes .ensures), c .before .before .before .before .before .before .before .before .before .before .before .before .before .before .before .pre)
+    let pre′ = c .before .before .before .before .before .before .before .before .before .before .before .before .before .before .before .pre in
+    let loop′ = c .before .before .before .before .before .before .before .before .before .loop in
+    omega (arith, lay-inside (args′ .d .now) (args′ .relation) (args′ .table .now) (loop′ .table) (loop′ .q) (loop′ .at) (loop′ .i) (loop′ .inv .1) (c .held-bytes .result) e (c .held-bytes .ensures), pre′)
 
 add-i : tie.Need-add-i Inv-loop μ-loop
 add-i c =
@@ -86,7 +88,9 @@ loop-again c =
     let place = x .ensures ∙ ap (λ z. readingPlace z (loop′ .at)) (c .before .before .before .before .before .before .type-at .ensures ∙ type-is (args′ .d .now) (loop′ .q)) in
     rw (c .next-place2 .ensures, c .before .before .before .before .put .ensures) (
       length-set (loop′ .table) (loop′ .i) (x .result) ∙ loop′ .inv .0,
-      lay-next (args′ .d .now) (args′ .relation) (args′ .table .now) (c .before .before .before .before .before .before .before .before .before .before .loop .table) (c .before .before .before .before .before .before .before .before .before .before .loop .q) (c .before .before .before .before .before .before .before .before .before .before .loop .at) (c .before .before .before .before .before .before .before .before .before .before .loop .i) (c .before .before .before .before .before .before .before .before .before .before .loop .inv .1) (x .result) (c .before .held-bytes .result) e place (c .before .held-bytes .ensures),
+      let loop-2′ = c .before .before .before .before .before .before .before .before .before .before .loop in
+          let held-bytes′ = c .before .held-bytes in
+          lay-next (args′ .d .now) (args′ .relation) (args′ .table .now) (loop-2′ .table) (loop-2′ .q) (loop-2′ .at) (loop-2′ .i) (loop-2′ .inv .1) (x .result) (held-bytes′ .result) e place (held-bytes′ .ensures),
     )
 
 same-length : tie.Need-same-length Inv-loop μ-loop
