@@ -1,7 +1,7 @@
 -- Laws that belong to no one function.
 pub mod Places
 pub mod Tests
-pub mod Ranges
+pub mod InRange
 pub mod Entry
 pub mod Bytes
 pub mod Checked

@@ -4,7 +4,7 @@ ghost use mathlib.Core.Bool.{Bool};
 ghost use Prim.Native.Nat.{_+_, _≤_, _<_};
 ghost use lib.ListN.{length};
 ghost use Rattle.wire.specs.Lists.{anyOf};
-ghost use Rattle.dictionary.specs.Format.{scaleInRange, sizeInRange, fitting};
+ghost use Rattle.dictionary.specs.Format.{fitting};
 ghost use Rattle.dictionary.specs.Dictionary.{wholeEntry, dictionary};
 ghost use Rattle.wire.specs.Words.{byteAt, wordAt};
 ghost use Rattle.wire.specs.Limits.{maxDictionaryBytes};
@@ -19,9 +19,10 @@ use crate::format::width_bytes;
 use crate::names::good_name;
 use crate::names::name_at;
 use crate::names::same_bytes;
+use crate::ranges::scale_in_range;
+use crate::ranges::size_in_range;
 use classes::FieldClass;
 use wire::bytes::byte_at;
-use wire::bytes::signed_byte;
 use wire::bytes::word_at;
 use wire::codes::DataType;
 use wire::codes::FieldType;
@@ -39,8 +40,6 @@ use wire::limits::DATE_SIZE;
 use wire::limits::MAX_DICTIONARY_BYTES;
 use wire::limits::MAX_FIELDS;
 use wire::limits::MAX_RELATIONS;
-use wire::limits::MAX_TEXT_BYTES;
-use wire::limits::MIN_SCALE;
 use wire::limits::READING_SIZE;
 
 // A dictionary is proper, or has a fault at the start of an entry.
@@ -72,30 +71,6 @@ fn whole_entry(d: &[u8], p: usize, k: usize) -> bool
         p + n <= d.len()
     } else {
         false
-    }
-}
-
-// "Scales -9 to 0"
-pub fn scale_in_range(b: u8) -> bool
-    ensures { λ r. ⌜ r ≡ scaleInRange b ⌝ }
-{
-    let scale = signed_byte(b);
-    if MIN_SCALE <= scale {
-        scale <= 0
-    } else {
-        false
-    }
-}
-
-// "Text n 1–255."
-pub fn size_in_range(n: u32) -> bool
-    ensures { λ r. ⌜ r ≡ sizeInRange n ⌝ }
-{
-    let size = n as usize;
-    if size < 1 {
-        false
-    } else {
-        size <= MAX_TEXT_BYTES
     }
 }
 

@@ -1,12 +1,10 @@
 // Looking up the fields of a relation, which is given by the place of its entry, in a dictionary of any bytes.
 ghost use mathlib.Core.Path.{_≡_};
-ghost use Prim.Native.Nat.{_+_, _<_};
+ghost use Prim.Native.Nat.{_<_};
 ghost use lib.ListN.{length, getElem?};
-ghost use Rattle.wire.specs.Lists.{sameBytes};
-ghost use Rattle.wire.specs.Entries.{fieldName};
-ghost use Rattle.dictionary.specs.Dictionary.{nameAt};
+ghost use Rattle.wire.specs.Lists.{find};
 ghost use Rattle.dictionary.specs.Naming.{named, fieldOf};
-ghost use Rattle.dictionary.specs.Internal.Walk.{fieldsOf, relationAt, entryField};
+ghost use Rattle.dictionary.specs.Internal.Walk.{fieldsOf, hasName, relationAt, entryField};
 ghost use Rattle.dictionary.specs.Internal.Answers.{placeAnswer};
 ghost use Rattle.dictionary.specs.Internal.FieldAnswers.{indexAnswer, formatIs};
 use crate::entries::is_field;
@@ -38,7 +36,7 @@ pub struct Description {
 // Whether the field of the entry at q has a name.
 fn has_name(d: &[u8], q: usize, name: &[u8]) -> bool
     requires { ⌜ q < length (now d) ⌝ }
-    ensures { λ r. ⌜ r ≡ sameBytes (nameAt (now (d .entry)) (q + fieldName)) (now (name .entry)) ⌝ }
+    ensures { λ r. ⌜ r ≡ hasName (now (d .entry)) (now (name .entry)) q ⌝ }
 {
     if d.len() - q <= FIELD_NAME {
         return same_bytes(name_at(d, d.len()), name);
@@ -60,6 +58,20 @@ pub fn field_named(d: &[u8], relation: usize, name: &[u8]) -> Index
         q = next_place(d, q);
     }
     Index::Unknown
+}
+
+// The place of the entry of the field of a name.
+pub fn named_entry(d: &[u8], relation: usize, name: &[u8]) -> Place
+    ensures { λ r. ⌜ r ≡ placeAnswer (find (hasName (now (d .entry)) (now (name .entry))) (fieldsOf (now (d .entry)) relation)) ⌝ }
+{
+    let mut q = next_place(d, relation);
+    while is_field(d, q) {
+        if has_name(d, q, name) {
+            return Place::At(q);
+        }
+        q = next_place(d, q);
+    }
+    Place::Unknown
 }
 
 // The place of the entry of the field of an id.

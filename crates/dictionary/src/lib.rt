@@ -5,3 +5,4 @@ pub mod field;
 pub mod format;
 pub mod lookup;
 pub mod names;
+pub mod ranges;

@@ -206,7 +206,7 @@ unfolding Statements.stream Statements.streams Statements.countByte Statements.r
 openStatements = tt
 
 unfoldable pub openStatements2 : Unit {0}
-unfolding Statements.numberedBoolean Statements.clausesUnder Statements.clauses Statements.exchanged Statements.modifyHeading
+unfolding Statements.clausesUnder Statements.clauses Statements.exchanged Statements.modifyHeading
 openStatements2 = tt
 
 unfoldable pub openStatements3 : Unit {0}

@@ -107,9 +107,9 @@ module _ (s : List ℕ) where
   unfolding opened number
   opened-stays p i c h = by-test (ltb (c .contexts) 32) (λ t. went h) (stopped refl i)
 
-  pub noted-stays : Stays s noted
+  pub noted-stays : (n : ℕ) → Stays s (noted n)
   unfolding noted
-  noted-stays c h = went h
+  noted-stays n c h = went h
 
   -- ---- messages
 

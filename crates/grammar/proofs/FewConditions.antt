@@ -14,7 +14,7 @@ use Rattle.grammar.specs.Rows.{statementsStart}
 use Rattle.grammar.specs.Conditions.{clausesConditions, rseConditions, conditions, statementsConditions, receivesConditions, requestConditions}
 
 -- one for each boolean
-clauses-count : (sc : Scope) (cs : Clauses) (p : ℕ) → length (clausesConditions sc cs p) ≡ booleansCount cs
+pub clauses-count : (sc : Scope) (cs : Clauses) (p : ℕ) → length (clausesConditions sc cs p) ≡ booleansCount cs
 unfolding clausesConditions booleansCount
 clauses-count sc noClauses p = refl
 clauses-count sc (such x cs) p = omega (arith, clauses-count sc cs (p + 1 + length (booleanBytes x)))

@@ -14,7 +14,7 @@ use Rattle.wire.specs.Classes.{Class}
 use Rattle.grammar.specs.declared.Refusal.{Refusal}
 use Rattle.grammar.specs.declared.Cursor.{Cursor}
 use Rattle.grammar.specs.Bytes as Bytes
-use Rattle.grammar.specs.Reader.{read, Reader, on, taken, byte, word, long, bytes, peek, name, tested, code, coded, withStatement, withContext, withCondition, countStatement, opened, noted}
+use Rattle.grammar.specs.Reader.{read, Reader, on, taken, byte, word, long, bytes, peek, name, tested, code, coded, withStatement, withContext, countStatement, opened}
 
 -- the reader gives a at the cursor c of the request s, `rest` stands after it, and n statements and k contexts are counted
 pub record Found {A : Type 0} (m : Reader A) (s : List ℕ) (c : Cursor) (a : A) (n k : ℕ) (rest : List ℕ) : Type 0 where
@@ -131,10 +131,6 @@ module _ (s : List ℕ) (c : Cursor) {rest : List ℕ} (h : drop (c .at) s ≡ r
   opened-found p l =
       let e = lt-ltb (c .contexts) 32 l in
       record { after = withContext c; is = rw (opened, e); stands = h; statements = omega arith; contexts = refl }
-
-  pub noted-found : Found noted s c tt 0 0 rest
-  unfolding noted
-  noted-found = record { after = withCondition c; is = refl; stands = h; statements = omega arith; contexts = omega arith }
 
 -- a counted name
 pub name-found : (s : List ℕ) (c : Cursor) {rest : List ℕ} (xs : List ℕ) → drop (c .at) s ≡ Bytes.countedBytes xs ++ rest →

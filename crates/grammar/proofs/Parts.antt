@@ -11,8 +11,8 @@ use Rattle.wire.specs.Words.{wordBytes, longBytes}
 use Rattle.grammar.specs.declared.Refusal.{Refusal}
 use Rattle.grammar.specs.declared.Cursor.{Cursor}
 use Rattle.grammar.specs.Bytes as Bytes
-use Rattle.grammar.specs.Reader.{read, Reader, byte, word, long, bytes, name, tested, code, coded, countStatement, opened, noted}
-use Rattle.grammar.proofs.Found.{Found, along, inside, byte-found, word-found, long-found, bytes-found, name-found, tested-found, code-found, coded-found, counted-found, opened-found, noted-found}
+use Rattle.grammar.specs.Reader.{read, Reader, _>>_, byte, word, long, bytes, name, tested, code, coded, withConditions, countStatement, opened, noted}
+use Rattle.grammar.proofs.Found.{Found, along, inside, byte-found, word-found, long-found, bytes-found, name-found, tested-found, code-found, coded-found, counted-found, opened-found}
 
 -- wherever the bytes xs stand in the request s and there is room for n statements and k contexts, the reader gives a and counts so many
 pub record Reads {A : Type 0} (s : List ℕ) (m : Reader A) (xs : List ℕ) (a : A) (n k : ℕ) : Type 0 where
@@ -108,5 +108,10 @@ module _ {s : List ℕ} where
   pub opened-reads : (p : ℕ) → Reads s (opened p) [] tt 0 1
   opened-reads p = record { from = λ c u v h. opened-found s c h p (omega arith) }
 
-  pub noted-reads : Reads s noted [] tt 0 0
-  noted-reads = plain (λ c rest h. noted-found s c h)
+  -- i conditions more, and then what m reads
+  pub noted-reads : {A : Type 0} {m : Reader A} {xs : List ℕ} {a : A} {n k : ℕ} (i : ℕ) → Reads s m xs a n k →
+      Reads s (noted i >> m) xs a n k
+  unfolding noted
+  noted-reads i f = record {
+    from = λ c u v h. let a = f .from (withConditions c i) u v h in along {q = withConditions c i} a (a .is) refl refl;
+  }

@@ -1,9 +1,9 @@
 -- Streams, rses and headings that were read: their bytes are those of the grammar, and the rules allow them.
-use Prim.Native.Nat.{ℕ, zero, suc, _+_, _*_, _<_, _≤_}
-use mathlib.Core.Path.{_≡_, refl, sym, ap, _∙_}
+use Prim.Native.Nat.{ℕ, zero, suc, _≤_}
+use mathlib.Core.Path.{_≡_, refl, sym, ap}
 use mathlib.Core.Bool.{Bool, true, false, not as negation}
 use mathlib.Core.List.{List, [], _∷_, _++_}
-use native.Mathlib.Nat.{zero-add, add-comm, mul-zero, mul-suc}
+use native.Mathlib.Nat.{zero-add}
 use native.Mathlib.Omega.{arith}
 use lib.ListN.{length, drop}
 use borrow.Author.Tests.{not-true}
@@ -23,13 +23,12 @@ use Rattle.grammar.specs.Environment.{Environment, Scope, underStreams}
 use Rattle.grammar.specs.Scope.{inScope, ofFor, declared, updating, StreamScoped, StreamsScoped, Exchanged, HeadingScoped}
 use Rattle.grammar.specs.Sizes.{valueDepth, booleanDepth, keysDepth, clausesDepth, rseDepth, valueContexts, booleanContexts, keysContexts, clausesContexts, rseContexts, headingContexts, countInRange, StreamsInRange, SortInRange, booleansCount, sortsCount}
 use Rattle.grammar.specs.Rules.{ValueAllowed, BooleanAllowed, KeysAllowed, ClausesAllowed, RseAllowed}
-use Rattle.grammar.specs.Conditions.{clausesConditions, rseConditions}
-use Rattle.grammar.specs.Reader.{read, Reader, byte, tested, code, coded, opened, noted}
+use Rattle.grammar.specs.Reader.{read, Reader, byte, tested, code, coded, opened}
 use Rattle.grammar.specs.Values.{contextByte}
-use Rattle.grammar.specs.Rses.{naming, stream, streams, countByte, rseHead, keys, sort, numberedBoolean, clausesUnder, clauses}
+use Rattle.grammar.specs.Rses.{naming, stream, streams, countByte, rseHead, keys, sort, clausesUnder, clauses}
 use Rattle.grammar.specs.Statements.{exchanged, modifyHeading, receiveHeading, sendHeading, storeHeading, labelHeading}
 use Rattle.grammar.specs.Demands.{Octets}
-use Rattle.grammar.proofs.Went.{Went, Passed, never, undo, same, needed, tested-read, stayed, onward, went-as, coded-onward, byte-went, code-went, opened-went, noted-went}
+use Rattle.grammar.proofs.Went.{Went, Passed, never, undo, same, needed, tested-read, stayed, onward, went-as, coded-onward, byte-went, code-went, opened-went}
 use Rattle.grammar.proofs.Implied.{free}
 use Rattle.grammar.proofs.Unique.{Grown, grown-scoped}
 use Rattle.grammar.proofs.Codes.{statementCode, streamCode, clauseCode, stream-due, clause-due, direction-due, coded-went}
@@ -47,15 +46,14 @@ pub record ValueSound (l : ℕ) (e : Environment) (sc : Scope) (s : List ℕ) (c
 abbrev pub ReadsValues : ℕ → Environment → Scope → List ℕ → Reader Value → Type 0
 ReadsValues l e sc s reader = (c : Cursor) (v : Value) (c′ : Cursor) → reader s c ≡ read v c′ → ValueSound l e sc s c v c′
 
--- a boolean; n is 1 if it has a number, and 0 if it has none
-pub record BooleanSound (n l : ℕ) (e : Environment) (sc : Scope) (s : List ℕ) (c : Cursor) (b : Boolean) (c′ : Cursor) : Type 0 where
-  pub went : Went s c (booleanBytes b) 0 (booleanContexts b) n c′
+pub record BooleanSound (l : ℕ) (e : Environment) (sc : Scope) (s : List ℕ) (c : Cursor) (b : Boolean) (c′ : Cursor) : Type 0 where
+  pub went : Went s c (booleanBytes b) 0 (booleanContexts b) 0 c′
   pub depth : booleanDepth b ≤ l
   pub allowed : BooleanAllowed e sc b
   pub few : c .contexts ≤ 32 → c′ .contexts ≤ 32
 
-abbrev pub ReadsBooleans : ℕ → ℕ → Environment → Scope → List ℕ → Reader Boolean → Type 0
-ReadsBooleans n l e sc s reader = (c : Cursor) (b : Boolean) (c′ : Cursor) → reader s c ≡ read b c′ → BooleanSound n l e sc s c b c′
+abbrev pub ReadsBooleans : ℕ → Environment → Scope → List ℕ → Reader Boolean → Type 0
+ReadsBooleans l e sc s reader = (c : Cursor) (b : Boolean) (c′ : Cursor) → reader s c ≡ read b c′ → BooleanSound l e sc s c b c′
 
 -- ---- streams
 
@@ -143,9 +141,6 @@ module _ (s : List ℕ) (octets : Octets s) (d : List Relation) where
 
 -- ---- keys and clauses
 
-one-more : (n m : ℕ) → n + n * m ≡ n * suc m
-one-more n m = add-comm n (n * m) ∙ sym (mul-suc n m)
-
 module _ (l : ℕ) (e : Environment) (sc : Scope) (s : List ℕ) where
   pub record KeysSound (n : ℕ) (c : Cursor) (ks : Keys) (c′ : Cursor) : Type 0 where
     pub went : Went s c (keysBytes ks) 0 (keysContexts ks) 0 c′
@@ -162,19 +157,17 @@ module _ (l : ℕ) (e : Environment) (sc : Scope) (s : List ℕ) where
     pub allowed : KeysAllowed e sc ks
     pub few : c .contexts ≤ 32 → c′ .contexts ≤ 32
 
-  -- clauses whose conditions count n each
-  pub record ClausesSound (n : ℕ) (boolean sort : Bool) (c : Cursor) (cs : Clauses) (c′ : Cursor) : Type 0 where
+  pub record ClausesSound (boolean sort : Bool) (c : Cursor) (cs : Clauses) (c′ : Cursor) : Type 0 where
     pub booleans : booleansCount cs ≤ free boolean
     pub sorts : sortsCount cs ≤ free sort
-    pub went : Went s c (clausesBytes cs) 0 (clausesContexts cs) (n * length (clausesConditions sc cs (c .at))) c′
+    pub went : Went s c (clausesBytes cs) 0 (clausesContexts cs) 0 c′
     pub depth : clausesDepth cs ≤ l
     pub allowed : ClausesAllowed e sc cs
     pub few : c .contexts ≤ 32 → c′ .contexts ≤ 32
 
-  -- after the code k, which stands at p
-  pub record ClausesUnderSound (n : ℕ) (boolean sort : Bool) (k : ClauseCode) (p : ℕ) (c : Cursor) (cs : Clauses) (c′ : Cursor)
-      : Type 0 where
-    pub went : Went s c (drop 1 (clausesBytes cs)) 0 (clausesContexts cs) (n * length (clausesConditions sc cs p)) c′
+  -- after the code k
+  pub record ClausesUnderSound (boolean sort : Bool) (k : ClauseCode) (c : Cursor) (cs : Clauses) (c′ : Cursor) : Type 0 where
+    pub went : Went s c (drop 1 (clausesBytes cs)) 0 (clausesContexts cs) 0 c′
     pub starts : clausesBytes cs ≡ clauseCode k ∷ drop 1 (clausesBytes cs)
     pub booleans : booleansCount cs ≤ free boolean
     pub sorts : sortsCount cs ≤ free sort
@@ -218,33 +211,19 @@ module _ (l : ℕ) (e : Environment) (sc : Scope) (s : List ℕ) where
           few = λ f. j .few (omega (arith, t .0 .declared));
         })
 
-  -- a boolean that has a number
-  pub numbered-sound : (condition : Reader Boolean) → ReadsBooleans 0 l e sc s condition → ReadsBooleans 1 l e sc s (numberedBoolean condition)
-  unfolding numberedBoolean
-  numbered-sound condition booleans c b c′ h = undo (noted s c) _ h (λ u q e₁ w.
-      let i = booleans q b c′ w in
-      let g = noted-went s c e₁ in
-      record {
-        went = went-as (onward g (i .went)) refl (zero-add _) refl;
-        depth = i .depth;
-        allowed = i .allowed;
-        few = λ f. i .few (omega (arith, g .declared));
-      })
-
-  module _ (n : ℕ) (condition : Reader Boolean) (operand : Reader Value) where
-    module _ (booleans : ReadsBooleans n l e sc s condition) (values : ReadsValues l e sc s operand) where
+  module _ (condition : Reader Boolean) (operand : Reader Value) where
+    module _ (booleans : ReadsBooleans l e sc s condition) (values : ReadsValues l e sc s operand) where
       pub clauses-under-sound : (rest : Bool → Bool → Reader Clauses) →
-          ((b t : Bool) (c : Cursor) (cs : Clauses) (c′ : Cursor) → rest b t s c ≡ read cs c′ → ClausesSound n b t c cs c′) →
-          (b t : Bool) (p : ℕ) (k : ClauseCode) (c : Cursor) → c .at ≡ p + 1 → (cs : Clauses) (c′ : Cursor) →
-          clausesUnder rest condition operand b t p k s c ≡ read cs c′ → ClausesUnderSound n b t k p c cs c′
-      unfolding clausesUnder clausesBytes clausesDepth clausesConditions clausesContexts booleansCount sortsCount
-      clauses-under-sound rest more b t p Clause.Boolean c a cs c′ h = needed (negation b) _ _ _ _ _ h (λ z w.
+          ((b t : Bool) (c : Cursor) (cs : Clauses) (c′ : Cursor) → rest b t s c ≡ read cs c′ → ClausesSound b t c cs c′) →
+          (b t : Bool) (p : ℕ) (k : ClauseCode) (c : Cursor) (cs : Clauses) (c′ : Cursor) →
+          clausesUnder rest condition operand b t p k s c ≡ read cs c′ → ClausesUnderSound b t k c cs c′
+      unfolding clausesUnder clausesBytes clausesDepth clausesContexts booleansCount sortsCount
+      clauses-under-sound rest more b t p Clause.Boolean c cs c′ h = needed (negation b) _ _ _ _ _ h (λ z w.
           undo (condition s c) _ w (λ x q e₁ w₁. undo (rest true t s q) _ w₁ (λ cs q₁ e₂ w₂.
           let i = booleans c x q e₁ in
           let j = more true t q cs q₁ e₂ in
-          let there : q .at ≡ p + 1 + length (booleanBytes x) = omega (arith, i .went .place) in
-          same w₂ (λ cs c′. ClausesUnderSound n b t Clause.Boolean p c cs c′) (record {
-            went = went-as (onward (i .went) (j .went)) refl refl (rw there (one-more n _));
+          same w₂ (λ cs c′. ClausesUnderSound b t Clause.Boolean c cs c′) (record {
+            went = onward (i .went) (j .went);
             starts = refl;
             depth = omega (arith, i .depth, j .depth);
             booleans = omega (arith, ap free (not-true b z), j .booleans);
@@ -252,13 +231,12 @@ module _ (l : ℕ) (e : Environment) (sc : Scope) (s : List ℕ) where
             allowed = (i .allowed, j .allowed);
             few = λ f. j .few (i .few f);
           }))))
-      clauses-under-sound rest more b t p Clause.Sort c a cs c′ h = needed (negation t) _ _ _ _ _ h (λ z w.
+      clauses-under-sound rest more b t p Clause.Sort c cs c′ h = needed (negation t) _ _ _ _ _ h (λ z w.
           undo (sort operand s c) _ w (λ ks q e₁ w₁. undo (rest b true s q) _ w₁ (λ cs q₁ e₂ w₂.
           let i = sort-sound operand values c ks q e₁ in
           let j = more b true q cs q₁ e₂ in
-          let there : q .at ≡ p + 2 + length (keysBytes ks) = omega (arith, i .went .place) in
-          same w₂ (λ cs c′. ClausesUnderSound n b t Clause.Sort p c cs c′) (record {
-            went = went-as (onward (i .went) (j .went)) refl refl (rw there (zero-add _));
+          same w₂ (λ cs c′. ClausesUnderSound b t Clause.Sort c cs c′) (record {
+            went = onward (i .went) (j .went);
             starts = refl;
             depth = omega (arith, i .depth, j .depth);
             booleans = j .booleans;
@@ -266,8 +244,8 @@ module _ (l : ℕ) (e : Environment) (sc : Scope) (s : List ℕ) where
             allowed = (i .ranged, i .allowed, j .allowed);
             few = λ f. j .few (i .few f);
           }))))
-      clauses-under-sound rest more b t p Clause.End c a cs c′ h = same h (λ cs c′. ClausesUnderSound n b t Clause.End p c cs c′) (record {
-        went = went-as (stayed s c) refl refl (sym (mul-zero n));
+      clauses-under-sound rest more b t p Clause.End c cs c′ h = same h (λ cs c′. ClausesUnderSound b t Clause.End c cs c′) (record {
+        went = stayed s c;
         starts = refl;
         booleans = omega arith;
         sorts = omega arith;
@@ -277,12 +255,12 @@ module _ (l : ℕ) (e : Environment) (sc : Scope) (s : List ℕ) where
       })
 
       pub clauses-sound : (m : ℕ) (b t : Bool) (c : Cursor) (cs : Clauses) (c′ : Cursor) →
-          clauses m condition operand b t s c ≡ read cs c′ → ClausesSound n b t c cs c′
+          clauses m condition operand b t s c ≡ read cs c′ → ClausesSound b t c cs c′
       unfolding clauses
       clauses-sound zero b t c cs c′ h = never h
       clauses-sound (suc m) b t c cs c′ h = undo (coded _ s c) _ h (λ k q e₁ w.
           let g = coded-went clause-due s c e₁ in
-          let i = clauses-under-sound (λ b t. clauses m condition operand b t) (clauses-sound m) b t (c .at) k q (g .place) cs c′ w in
+          let i = clauses-under-sound (λ b t. clauses m condition operand b t) (clauses-sound m) b t (c .at) k q cs c′ w in
           record {
             went = coded-onward g (i .starts) (i .went);
             booleans = i .booleans;
@@ -292,22 +270,22 @@ module _ (l : ℕ) (e : Environment) (sc : Scope) (s : List ℕ) where
             few = λ f. i .few (omega (arith, g .declared));
           })
 
--- ---- a whole rse, whose conditions count n each
+-- ---- a whole rse
 
-pub record RseSound (n l : ℕ) (e : Environment) (sc : Scope) (s : List ℕ) (c : Cursor) (r : Rse) (c′ : Cursor) : Type 0 where
-  pub went : Went s c (rseBytes r) 0 (rseContexts r) (n * length (rseConditions (e .relations) sc r (c .at))) c′
+pub record RseSound (l : ℕ) (e : Environment) (sc : Scope) (s : List ℕ) (c : Cursor) (r : Rse) (c′ : Cursor) : Type 0 where
+  pub went : Went s c (rseBytes r) 0 (rseContexts r) 0 c′
   pub depth : rseDepth r ≤ l
   pub allowed : RseAllowed e sc r
   pub few : c .contexts ≤ 32 → c′ .contexts ≤ 32
 
 -- its head, and its clauses under the contexts of its streams
-pub rse-sound : (n l : ℕ) (e : Environment) (sc : Scope) (s : List ℕ) (c : Cursor) (ss : List Stream) (q : Cursor)
+pub rse-sound : (l : ℕ) (e : Environment) (sc : Scope) (s : List ℕ) (c : Cursor) (ss : List Stream) (q : Cursor)
     (cs : Clauses) (c′ : Cursor) →
-    HeadSound (e .relations) sc s c ss q → ClausesSound l e (underStreams (e .relations) sc ss) s n false false q cs c′ →
-    RseSound n l e sc s c (rse ss cs) c′
-unfolding rseBytes rseContexts rseConditions rseDepth
-rse-sound n l e sc s c ss q cs c′ i j = record {
-  went = went-as (onward (i .went) (j .went)) refl refl (rw (i .went .place) (zero-add _));
+    HeadSound (e .relations) sc s c ss q → ClausesSound l e (underStreams (e .relations) sc ss) s false false q cs c′ →
+    RseSound l e sc s c (rse ss cs) c′
+unfolding rseBytes rseContexts rseDepth
+rse-sound l e sc s c ss q cs c′ i j = record {
+  went = onward (i .went) (j .went);
   depth = j .depth;
   allowed = (i .ranged, i .scoped, (j .booleans, j .sorts), j .allowed);
   few = λ f. j .few (i .few f);

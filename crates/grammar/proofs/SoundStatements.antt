@@ -15,23 +15,24 @@ use Rattle.wire.specs.declared.codes.StatementCode.the-variants.{Assignment, Be
 use Rattle.grammar.specs.declared.Cursor.{Cursor}
 use Rattle.grammar.specs.declared.Refusal.the-variants.{NotDue, BadMessage}
 use Rattle.grammar.specs.Tree.{Heading, loop, handler, rse, Statement, assignment, begin, erase, for, headed, leave, if, ifElse, select}
-use Rattle.grammar.specs.Bytes.{headingBytes, rseBytes, booleanBytes, statementBytes}
+use Rattle.grammar.specs.Bytes.{headBytes, headingBytes, rseBytes, booleanBytes, statementBytes}
 use Rattle.grammar.specs.Environment.{Environment, Scope, underStreams, underRse, underHeading}
 use Rattle.grammar.specs.Scope.{ofFor, declared, updating, Exchanged, selectedMessages}
 use Rattle.grammar.specs.Kinds.{kindOf, referenceKind, oneKind}
-use Rattle.grammar.specs.Sizes.{statementDepth, statementCount, contextCount, headingContexts}
+use Rattle.grammar.specs.Sizes.{booleansCount, statementDepth, statementCount, contextCount, headingContexts}
 use Rattle.grammar.specs.Rules.{StatementAllowed}
-use Rattle.grammar.specs.Conditions.{conditions, rseConditions}
-use Rattle.grammar.specs.Reader.{read, Reader, byte, peek, tested, code, coded, countStatement}
+use Rattle.grammar.specs.Conditions.{conditions, clausesConditions, rseConditions}
+use Rattle.grammar.specs.Reader.{read, Reader, byte, peek, tested, code, coded, countStatement, noted}
 use Rattle.grammar.specs.Values.{contextByte, readTarget}
-use Rattle.grammar.specs.Statements.{Inner, inner, rseHead, clauses, numberedBoolean, many, manyReceives, modifyHeading, receiveHeading, sendHeading, storeHeading, labelHeading, assignmentUnder, eraseUnder, forUnder, headedUnder, leaveUnder, ifUnder, selectUnder, beginUnder, statementUnder, receiveUnder, readStatement, readReceive}
+use Rattle.grammar.specs.Statements.{Inner, inner, rseHead, clauses, many, manyReceives, modifyHeading, receiveHeading, sendHeading, storeHeading, labelHeading, assignmentUnder, eraseUnder, forUnder, headedUnder, leaveUnder, ifUnder, selectUnder, beginUnder, statementUnder, receiveUnder, readStatement, readReceive}
 use Rattle.grammar.specs.Demands.{Octets}
-use Rattle.grammar.proofs.Went.{Went, Passed, Within, never, undo, same, needed, either, both, tested-read, peek-read, onward, went-as, went-by, within-onward, within-one, within-none, byte-went, code-went, peeked-went, counted-went}
+use Rattle.grammar.proofs.Went.{Went, Passed, Within, never, undo, same, needed, either, both, tested-read, peek-read, onward, went-as, went-by, within-onward, within-one, within-none, byte-went, code-went, peeked-went, counted-went, noted-went}
 use Rattle.grammar.proofs.Unique.{fresh-unique}
 use Rattle.grammar.proofs.Codes.{statementCode, statement-due, coded-went}
 use Rattle.grammar.proofs.SoundReferences.{target-sound, context-went}
 use Rattle.grammar.proofs.SoundValues.{value-sound, boolean-sound}
-use Rattle.grammar.proofs.SoundRses.{ReadsValues, ReadsBooleans, HeadingSound, head-sound, numbered-sound, clauses-sound, rse-sound, plain-heading-sound, receive-heading-sound, send-heading-sound, label-heading-sound, modify-heading-sound, store-heading-sound}
+use Rattle.grammar.proofs.SoundRses.{ReadsValues, ReadsBooleans, HeadingSound, head-sound, clauses-sound, rse-sound, plain-heading-sound, receive-heading-sound, send-heading-sound, label-heading-sound, modify-heading-sound, store-heading-sound}
+use Rattle.grammar.proofs.FewConditions.{clauses-count}
 use Rattle.grammar.proofs.SoundSequences.{ReadsStatements, ReadsReceives, many-sound, many-receives-sound}
 
 -- after the code k, which stands at p, with l levels left below it
@@ -65,7 +66,7 @@ first-drop (y ∷ a) b x e = refl
 pub record InnerSound (l : ℕ) (e : Environment) (s : List ℕ) (below : Inner) : Type 0 where
   pub statement : (sc : Scope) → ReadsStatements l e sc s (below .statement sc)
   pub receive : (sc : Scope) (before : List ℕ) → ReadsReceives l e sc s before (below .receive sc before)
-  pub boolean : (sc : Scope) → ReadsBooleans 0 l e sc s (below .boolean sc)
+  pub boolean : (sc : Scope) → ReadsBooleans l e sc s (below .boolean sc)
   pub value : (sc : Scope) → ReadsValues l e sc s (below .value sc)
 
 module _ (s : List ℕ) (octets : Octets s) (e : Environment) (sc : Scope) (p : ℕ) where
@@ -160,53 +161,56 @@ module _ (s : List ℕ) (octets : Octets s) (e : Environment) (sc : Scope) (p : 
           })))
 
       pub for-sound : (t : Statement) (c′ : Cursor) → forUnder below e sc s c ≡ read t c′ → StatementUnderSound l e sc For p s c t c′
-      unfolding forUnder underRse statementBytes statementCount contextCount conditions statementDepth
+      unfolding forUnder underRse statementBytes statementCount contextCount conditions rseConditions statementDepth
       for-sound t c′ h = undo (rseHead (e .relations) sc s c) _ h (λ ss q e₁ w.
           let sc₁ = underStreams (e .relations) sc ss in
-          undo (clauses 3 (numberedBoolean (below .boolean sc₁)) (below .value sc₁) false false s q) _ w (λ cs q₁ e₂ w₁.
-          undo (below .statement sc₁ s q₁) _ w₁ (λ a q₂ e₃ w₂.
-          let i = rse-sound 1 l e sc s c ss q cs q₁ (head-sound s octets (e .relations) sc c ss q e₁)
-          (clauses-sound l e sc₁ s 1 (numberedBoolean (below .boolean sc₁)) (below .value sc₁)
-          (numbered-sound l e sc₁ s (below .boolean sc₁) (sound .boolean sc₁)) (sound .value sc₁) 3 false false q cs q₁ e₂) in
-          let j = sound .statement sc₁ q₁ a q₂ e₃ in
-          let there : q₁ .at ≡ p + 1 + length (rseBytes (rse ss cs)) = omega (arith, i .went .place) in
-          same w₂ (λ t c′. StatementUnderSound l e sc For p s c t c′) (record {
-            went = went-as (onward (i .went) (j .went)) (omega arith) refl
-                (rw (here, there, length-append (rseConditions (e .relations) sc (rse ss cs) (p + 1))) (omega arith));
+          undo (clauses 3 (below .boolean sc₁) (below .value sc₁) false false s q) _ w (λ cs q₁ e₂ w₁.
+          undo (noted (booleansCount cs) s q₁) _ w₁ (λ u q₂ e₃ w₂. undo (below .statement sc₁ s q₂) _ w₂ (λ a q₃ e₄ w₃.
+          let i = rse-sound l e sc s c ss q cs q₁ (head-sound s octets (e .relations) sc c ss q e₁)
+          (clauses-sound l e sc₁ s (below .boolean sc₁) (below .value sc₁) (sound .boolean sc₁) (sound .value sc₁)
+          3 false false q cs q₁ e₂) in
+          let g = noted-went (booleansCount cs) s q₁ e₃ in
+          let j = sound .statement sc₁ q₂ a q₃ e₄ in
+          let there : q₂ .at ≡ p + 1 + length (rseBytes (rse ss cs)) = omega (arith, i .went .place, g .place) in
+          same w₃ (λ t c′. StatementUnderSound l e sc For p s c t c′) (record {
+            went = went-as (onward (i .went) (onward g (j .went))) (omega arith) (omega arith)
+                (rw (there, length-append (clausesConditions sc₁ cs (p + 1 + length (headBytes ss))), clauses-count) (omega arith));
             starts = refl;
             depth = omega (arith, i .depth, j .depth);
             allowed = (i .allowed, j .allowed);
-            within = within-onward (within-one (i .went) (i .few)) (j .within);
-          }))))
+            within = within-onward (within-one (i .went) (i .few)) (within-onward (within-none g) (j .within));
+          })))))
 
       pub if-sound : (t : Statement) (c′ : Cursor) → ifUnder below sc s c ≡ read t c′ → StatementUnderSound l e sc If p s c t c′
       unfolding ifUnder statementBytes statementCount contextCount conditions statementDepth
-      if-sound t c′ h = undo (numberedBoolean (below .boolean sc) s c) _ h (λ b q e₁ w. undo (below .statement sc s q) _ w (λ a q₁ e₂ w₁.
-          undo (peek s q₁) _ w₁ (λ x q₂ e₃ w₂.
-          let i = numbered-sound l e sc s (below .boolean sc) (sound .boolean sc) c b q e₁ in
-          let j = sound .statement sc q a q₁ e₂ in
-          let o = onward (i .went) (j .went) in
-          let there : q .at ≡ p + 1 + length (booleanBytes b) = omega (arith, i .went .place) in
-          let beyond : q₁ .at ≡ p + 1 + length (booleanBytes b) + length (statementBytes a) = omega (arith, j .went .place) in
-          either (eqb x blr.end) _ _ s q₂ w₂
-          (λ z v. undo (byte s q₂) _ v (λ y q₃ e₄ v₁.
-          let g = peeked-went s q₁ x blr.end e₃ z e₄ in
+      if-sound t c′ h = undo (below .boolean sc s c) _ h (λ b q e₁ w. undo (noted 1 s q) _ w (λ u q₁ e₂ w₁.
+          undo (below .statement sc s q₁) _ w₁ (λ a q₂ e₃ w₂. undo (peek s q₂) _ w₂ (λ x q₃ e₄ w₃.
+          let i = sound .boolean sc c b q e₁ in
+          let n = noted-went 1 s q e₂ in
+          let j = sound .statement sc q₁ a q₂ e₃ in
+          let o = onward (i .went) (onward n (j .went)) in
+          let m = within-onward (within-one (i .went) (i .few)) (within-onward (within-none n) (j .within)) in
+          let there : q₁ .at ≡ p + 1 + length (booleanBytes b) = omega (arith, i .went .place, n .place) in
+          let beyond : q₂ .at ≡ p + 1 + length (booleanBytes b) + length (statementBytes a) = omega (arith, j .went .place) in
+          either (eqb x blr.end) _ _ s q₃ w₃
+          (λ z v. undo (byte s q₃) _ v (λ y q₄ e₅ v₁.
+          let g = peeked-went s q₂ x blr.end e₄ z e₅ in
           same v₁ (λ t c′. StatementUnderSound l e sc If p s c t c′) (record {
             went = went-as (onward o g) (omega arith) (omega arith) (rw there (omega arith));
             starts = refl;
             depth = omega (arith, i .depth, j .depth);
             allowed = (i .allowed, j .allowed);
-            within = within-onward (within-one (i .went) (i .few)) (within-onward (j .within) (within-none g));
+            within = within-onward m (within-none g);
           })))
-          (λ z v. undo (below .statement sc s q₂) _ v (λ d q₃ e₄ v₁.
-          let m = sound .statement sc q₁ d q₃ (rw (peek-read s q₁ e₃ .0) at e₄) in
+          (λ z v. undo (below .statement sc s q₃) _ v (λ d q₄ e₅ v₁.
+          let k = sound .statement sc q₂ d q₄ (rw (peek-read s q₂ e₄ .0) at e₅) in
           same v₁ (λ t c′. StatementUnderSound l e sc If p s c t c′) (record {
-            went = went-as (onward o (m .went)) (omega arith) (omega arith) (rw (there, beyond, length-append) (omega arith));
+            went = went-as (onward o (k .went)) (omega arith) (omega arith) (rw (there, beyond, length-append) (omega arith));
             starts = refl;
-            depth = omega (arith, i .depth, j .depth, m .depth);
-            allowed = (i .allowed, j .allowed, m .allowed);
-            within = within-onward (within-one (i .went) (i .few)) (within-onward (j .within) (m .within));
-          }))))))
+            depth = omega (arith, i .depth, j .depth, k .depth);
+            allowed = (i .allowed, j .allowed, k .allowed);
+            within = within-onward m (k .within);
+          })))))))
 
       pub statement-under-sound : (k : StatementCode) (t : Statement) (c′ : Cursor) → statementUnder below e sc p k s c ≡ read t c′ →
           StatementUnderSound l e sc k p s c t c′

@@ -19,7 +19,7 @@ use Rattle.grammar.specs.Environment.{Environment, Scope}
 use Rattle.grammar.specs.Kinds.{kindOf, oneKind, bothText, allOneKind}
 use Rattle.grammar.specs.Sizes.{valueDepth, booleanDepth, valueContexts, booleanContexts}
 use Rattle.grammar.specs.Rules.{ValueAllowed, BooleanAllowed}
-use Rattle.grammar.specs.Reader.{read, onRead, Reader, need, coded}
+use Rattle.grammar.specs.Reader.{read, onRead, need, coded}
 use Rattle.grammar.specs.Values.{readLiteral, readReference, Operands, operands, valueUnder, readValue, booleanUnder, readBoolean}
 use Rattle.grammar.specs.Demands.{Octets}
 use Rattle.grammar.proofs.Went.{Went, never, undo, same, needed, onward, coded-onward}
@@ -29,7 +29,7 @@ use Rattle.grammar.proofs.SoundRses.{ReadsValues, ReadsBooleans}
 
 -- readers of booleans and values, one level down, that are sound
 pub record OperandsSound (l : ℕ) (e : Environment) (s : List ℕ) (below : Operands) : Type 0 where
-  pub boolean : (sc : Scope) → ReadsBooleans 0 l e sc s (below .boolean sc)
+  pub boolean : (sc : Scope) → ReadsBooleans l e sc s (below .boolean sc)
   pub value : (sc : Scope) → ReadsValues l e sc s (below .value sc)
 
 -- what stands after the code k, with l levels left below it
@@ -176,7 +176,7 @@ module _ (s : List ℕ) (octets : Octets s) (e : Environment) where
   abbrev atLevel : ℕ → Operands
   atLevel l = operands (λ x. readBoolean l e x) (λ x. readValue l e x)
 
-  both-sound : (l : ℕ) → ((sc : Scope) → ReadsBooleans 0 l e sc s (readBoolean l e sc)) →
+  both-sound : (l : ℕ) → ((sc : Scope) → ReadsBooleans l e sc s (readBoolean l e sc)) →
       ((sc : Scope) → ReadsValues l e sc s (readValue l e sc)) → OperandsSound l e s (atLevel l)
   both-sound l booleans values = record { boolean = booleans; value = values }
 
@@ -196,7 +196,7 @@ module _ (s : List ℕ) (octets : Octets s) (e : Environment) where
           few = λ f. i .few (omega (arith, g .declared));
         })
 
-    pub boolean-sound : (sc : Scope) (l : ℕ) → ReadsBooleans 0 l e sc s (readBoolean l e sc)
+    pub boolean-sound : (sc : Scope) (l : ℕ) → ReadsBooleans l e sc s (readBoolean l e sc)
     boolean-sound sc zero c b c′ h = undo (coded _ s c) _ h (λ k q e₁ w. never w)
     boolean-sound sc (suc l) c b c′ h = undo (coded _ s c) _ h (λ k q e₁ w.
         let below = both-sound l (λ x c b c′ h. boolean-sound x l c b c′ h) (λ x c v c′ h. value-sound x l c v c′ h) in

@@ -276,9 +276,9 @@ module _ (p : ℕ) (s : List ℕ) (c : Cursor) {u : Unit {0}} {c′ : Cursor} wh
         omega (arith, ltb-true (c .contexts) 32 (t .0)),
       )
 
-pub noted-went : (s : List ℕ) (c : Cursor) {u : Unit {0}} {c′ : Cursor} → noted s c ≡ read u c′ → Went s c [] 0 0 1 c′
+pub noted-went : (n : ℕ) (s : List ℕ) (c : Cursor) {u : Unit {0}} {c′ : Cursor} → noted n s c ≡ read u c′ → Went s c [] 0 0 n c′
 unfolding noted
-noted-went s c e = same e (λ u c′. Went s c [] 0 0 1 c′) (record {
+noted-went n s c e = same e (λ u c′. Went s c [] 0 0 n c′) (record {
   place = sym (add-zero _);
   rest = refl;
   counted = sym (add-zero _);

@@ -102,15 +102,15 @@ coded class = do
 
 -- ---- what is counted, with 01's greatest sizes
 
--- the cursor with a statement, a context or a condition more
+-- the cursor with a statement, a context or n conditions more
 abbrev pub withStatement : Cursor → Cursor
 withStatement c = record { at = c .at; statements = c .statements + 1; contexts = c .contexts; conditions = c .conditions }
 
 abbrev pub withContext : Cursor → Cursor
 withContext c = record { at = c .at; statements = c .statements; contexts = c .contexts + 1; conditions = c .conditions }
 
-abbrev pub withCondition : Cursor → Cursor
-withCondition c = record { at = c .at; statements = c .statements; contexts = c .contexts; conditions = c .conditions + 1 }
+abbrev pub withConditions : Cursor → ℕ → Cursor
+withConditions c n = record { at = c .at; statements = c .statements; contexts = c .contexts; conditions = c .conditions + n }
 
 -- 01: "512 statements": one more, whose code stands at p
 unfoldable pub countStatement : ℕ → Reader (Unit {0})
@@ -120,6 +120,6 @@ countStatement p s c = cond (ltb (c .statements) maxStatements) (read tt (withSt
 unfoldable pub opened : ℕ → Reader (Unit {0})
 opened p s c = cond (ltb (c .contexts) maxContexts) (read tt (withContext c)) (refused TooGreat p)
 
--- one condition more
-unfoldable pub noted : Reader (Unit {0})
-noted s c = read tt (withCondition c)
+-- n conditions more
+unfoldable pub noted : ℕ → Reader (Unit {0})
+noted n s c = read tt (withConditions c n)

@@ -4,8 +4,8 @@ ghost use Prim.Native.Nat.{_+_};
 ghost use Rattle.wire.specs.Words.{longAt};
 ghost use Rattle.inputs.specs.Answers.{integerAt, numberOf};
 use decimal::Number;
-use scopes::kinds::scale_of;
 use wire::bytes::long_at;
+use wire::bytes::signed_byte;
 use wire::bytes::signed_long_at;
 use wire::bytes::signed_word_at;
 use wire::bytes::word_at;
@@ -39,7 +39,7 @@ pub(crate) fn number_at(sign: Sign, w: Width, scale: u8, s: &[u8], p: usize) -> 
 {
     Number {
         value: integer_at(sign, w, s, p),
-        scale: scale_of(scale),
+        scale: signed_byte(scale),
     }
 }
 

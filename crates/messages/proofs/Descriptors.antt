@@ -1,15 +1,16 @@
--- Reading descriptors, each way through it, and what a descriptor that was read holds. Assumes nothing.
+-- Reading descriptors, each way through it, their rows, and what the array holds of them. Assumes nothing.
 use Prim.Native.Nat.{ℕ, zero, suc, _+_, _-_, _*_, _≤_, _<_}
-use mathlib.Core.Path.{_≡_, refl, sym, _∙_}
+use mathlib.Core.Path.{_≡_, refl, sym, ap₂, _∙_}
 use mathlib.Core.Bool.{Bool, true, false, cond}
 use mathlib.Core.List.{List, _∷_}
 use native.Mathlib.Numerals.{sub-one}
 use native.Mathlib.Omega.{arith}
-use borrow.Author.Tests.{le-leb, lt-leb, leb-true}
+use borrow.Author.Tests.{le-leb, lt-leb, leb-true, lt-ltb}
 use lib.Dec.{leb}
-use lib.ListN.{length}
-use lib.Seq.{sets}
+use lib.ListN.{length, getD, length-set}
+use lib.Seq.{sets, getD-set-same, getD-set-other}
 use Rattle.wire.specs.Words.{byteAt}
+use Rattle.wire.specs.Limits.{maxParameters, parameterRowNumbers}
 use Rattle.wire.specs.Classes.{Class, descriptorClass}
 use Rattle.wire.specs.declared.codes.Width.{Width}
 use Rattle.wire.specs.declared.codes.Width.the-variants.{Short, Long}
@@ -36,7 +37,11 @@ use Rattle.grammar.proofs.Codes.{dataCode, descriptor-due}
 use Rattle.messages.specs.declared.reading.Parameter.{Parameter}
 use Rattle.messages.specs.declared.descriptor.FormatStep.the-variants as FormatStep
 use Rattle.messages.specs.declared.descriptor.DescriptorStep.the-variants as DescriptorStep
+use Rattle.scopes.specs.Scopes.{eachFrom}
+use Rattle.messages.specs.Internal.Columns.{descriptorsFrom, aroundNumbers}
+use Rattle.messages.specs.Entries.{packed, descriptorAt, withDescriptor}
 use Rattle.messages.specs.Declaring.{formatStep, descriptorStep, rowOf, parameterAfter, Described}
+use Rattle.messages.proofs.Parameters.{numberOf, packed-descriptor}
 
 -- ---- a field that is not read ends early
 
@@ -150,35 +155,74 @@ module _ (size : ℕ) (s : List ℕ) (c : Cursor) where
 
 -- ---- the descriptors of a message, with their rows
 
-module _ (x : Parameter) (s : List ℕ) (c : Cursor) (table : List ℕ) where
-  pub none-described : (left : ℕ) → left ≡ 0 → Described (descriptors left (x .offset) s c) x table table (Step.Next NoKind c)
-  unfolding descriptors descriptorRows
-  none-described left e = rw e (record { answer = refl; filled = refl })
+module _ (x : Parameter) (s : List ℕ) (c : Cursor) (table a : List ℕ) where
+  pub none-described : (left : ℕ) → left ≡ 0 → Described (descriptors left (x .offset) s c) x table table a a (Step.Next NoKind c)
+  unfolding descriptors descriptorRows eachFrom
+  none-described left e = rw e (record { answer = refl; filled = refl; held = refl; same = λ k h. refl; whole = refl })
 
   pub descriptors-refused : (left : ℕ) → (left ≡ 0 → ⊥) → {r : Refusal} {p : ℕ} → descriptor (x .offset) s c ≡ refused r p →
-      (table′ : List ℕ) → Described (descriptors left (x .offset) s c) x table table′ (Step.Refused r p)
-  unfolding descriptors
-  descriptors-refused zero z e table′ = absurd (z refl)
-  descriptors-refused (suc left) z e table′ = record { answer = rw (descriptors, e); filled = rw (descriptors, e) }
+      Described (descriptors left (x .offset) s c) x table table a a (Step.Refused r p)
+  unfolding descriptors eachFrom
+  descriptors-refused zero z e = absurd (z refl)
+  descriptors-refused (suc left) z e =
+      rw (descriptors, e) (record { answer = refl; filled = refl; held = refl; same = λ k h. refl; whole = refl })
 
-  -- one that was read, its row, and those after it
-  described-more : (d : Tree.Descriptor) (y : Read (List Tree.Descriptor)) {table′ : List ℕ} {r : Step} →
-      Described y (parameterAfter x (held (descriptorFormat d)))
-      (sets table (x .row * 6) (rowOf x (byteAt (descriptorBytes d) 0) (descriptorFormat d .scale) (held (descriptorFormat d)))) table′ r →
-      Described (onRead y (λ ds q. read (d ∷ ds) q)) x table table′ r
-  unfolding descriptorRows
-  described-more d (read ds q) h =
-      let e : (x .row + 1) * 6 ≡ suc (suc (suc (suc (suc (suc (x .row * 6)))))) = omega arith in
-      record { answer = h .answer; filled = rw e at (h .filled) }
-  described-more d (refused r p) h = record { answer = h .answer; filled = refl }
+  module _ (within : x .row < maxParameters) (all : length a ≡ aroundNumbers) (d : Tree.Descriptor)
+      (scale : descriptorFormat d .scale < 256) where
+    -- the array with the row
+    abbrev put : List ℕ
+    put = withDescriptor a (x .row) (numberOf d)
+
+    -- the row, where it stays
+    row-held : (a′ : List ℕ) → getD a′ (descriptorsFrom + x .row) 0 ≡ getD put (descriptorsFrom + x .row) 0 → descriptorAt a′ (x .row) ≡ d
+    unfolding descriptorAt
+    row-held a′ s =
+        let l : descriptorsFrom + x .row < length a = omega arith in
+        let e = getD-set-same a (descriptorsFrom + x .row) (numberOf d) 0 l in
+        rw (lt-ltb (x .row) maxParameters within, s, e) (packed-descriptor d scale)
+
+    -- what the array held before the row
+    stays : (a′ : List ℕ) → ((k : ℕ) → k < descriptorsFrom + (x .row + 1) → getD a′ k 0 ≡ getD put k 0) →
+        (k : ℕ) → k < descriptorsFrom + x .row → getD a′ k 0 ≡ getD a k 0
+    stays a′ s k h = s k (omega arith) ∙ getD-set-other a (descriptorsFrom + x .row) k (numberOf d) 0 (λ e. omega arith)
+
+    -- one that was read, its row, and those after it
+    described-more : (y : Read (List Tree.Descriptor)) {table′ a′ : List ℕ} {r : Step} →
+        Described y (parameterAfter x (held (descriptorFormat d)))
+        (sets table (x .row * parameterRowNumbers)
+        (rowOf x (byteAt (descriptorBytes d) 0) (descriptorFormat d .scale) (held (descriptorFormat d))))
+        table′ put a′ r →
+        Described (onRead y (λ ds q. read (d ∷ ds) q)) x table table′ a a′ r
+    unfolding descriptorRows eachFrom
+    described-more (read ds q) {a′ = a′} h =
+        let k : (x .row + 1) * 6 ≡ suc (suc (suc (suc (suc (suc (x .row * 6)))))) = omega arith in
+        record {
+          answer = h .answer;
+          filled = rw k at (h .filled);
+          held = ap₂ _∷_ (row-held a′ (h .same (descriptorsFrom + x .row) (omega arith))) (h .held);
+          same = stays a′ (h .same);
+          whole = h .whole ∙ length-set a (descriptorsFrom + x .row) (numberOf d);
+        }
+    described-more (refused r p) {a′ = a′} h =
+        record {
+          answer = h .answer;
+          filled = refl;
+          held = refl;
+          same = stays a′ (h .same);
+          whole = h .whole ∙ length-set a (descriptorsFrom + x .row) (numberOf d);
+        }
 
   pub descriptors-read : (left : ℕ) → (left ≡ 0 → ⊥) → {d : Tree.Descriptor} {q : Cursor} → descriptor (x .offset) s c ≡ read d q →
       {code scale n : ℕ} → code ≡ byteAt (descriptorBytes d) 0 → scale ≡ descriptorFormat d .scale → n ≡ held (descriptorFormat d) →
-      {table₁ table′ : List ℕ} {next : Parameter} {r : Step} → table₁ ≡ sets table (x .row * 6) (rowOf x code scale n) →
-      next ≡ parameterAfter x n → Described (descriptors (left - 1) (next .offset) s q) next table₁ table′ r →
-      Described (descriptors left (x .offset) s c) x table table′ r
+      scale < 256 → x .row < maxParameters → length a ≡ aroundNumbers →
+      {table₁ table′ a₁ a′ : List ℕ} {next : Parameter} {r : Step} →
+      table₁ ≡ sets table (x .row * parameterRowNumbers) (rowOf x code scale n) →
+      a₁ ≡ withDescriptor a (x .row) (packed code scale n) → next ≡ parameterAfter x n →
+      Described (descriptors (left - 1) (next .offset) s q) next table₁ table′ a₁ a′ r →
+      Described (descriptors left (x .offset) s c) x table table′ a a′ r
   unfolding descriptors
-  descriptors-read zero z e a b n k w h = absurd (z refl)
-  descriptors-read (suc left) z {d} {q} e a b n k w h =
+  descriptors-read zero z e f g i j k l t u w h = absurd (z refl)
+  descriptors-read (suc left) z {d} {q} e f g i j k l t u w h =
       rw (descriptors, e)
-      (described-more d (descriptors left (x .offset + held (descriptorFormat d)) s q) (rw (w, k, a, b, n, sub-one (suc left)) at h))
+      (described-more k l d (rw g at j) (descriptors left (x .offset + held (descriptorFormat d)) s q)
+      (rw (t, u, w, f, g, i, sub-one (suc left)) at h))

@@ -1,159 +1,217 @@
--- The table and the array hold the messages that were read. Assumes nothing.
-use Prim.Native.Nat.{ℕ, zero, suc, _+_, _-_, _*_, _≤_, _<_}
+-- Messages in the array: what stays where its numbers stay, none, and one more. Assumes nothing.
+use Prim.Native.Nat.{ℕ, zero, suc, _+_, _≤_, _<_}
 use mathlib.Core.Path.{_≡_, refl, sym, ap, ap₂, _∙_}
-use mathlib.Core.List.{List, [], _∷_, _++_, map, append-assoc}
-use mathlib.Core.Bool.{not, _&&_}
-use native.Mathlib.Nat.{mod-eq-of-lt}
+use mathlib.Core.Bool.{Bool, true, false}
+use mathlib.Core.Logic.{_≢_}
+use mathlib.Core.List.{List, [], _∷_, _++_, map}
 use native.Mathlib.Omega.{arith}
-use borrow.Author.Tests.{lt-ltb}
-use lib.Dec.{eqb, leb}
-use lib.ListN.{length, drop, getD}
-use lib.Seq.{sets, getD-drop, drop-drop}
-use Rattle.wire.specs.Codes as blr
-use Rattle.wire.specs.Words.{byteAt}
-use Rattle.wire.specs.Lists.{anyOf, sumOf}
-use Rattle.wire.specs.declared.codes.Width.the-variants.{Short, Long}
-use Rattle.wire.specs.declared.codes.TextType.the-variants.{Text, Varying, Cstring}
-use Rattle.wire.specs.declared.codes.DataType.{DataType}
-use Rattle.wire.specs.declared.codes.DataType.the-variants.{Number, Date, Chars}
-use Rattle.wire.specs.Classes.{descriptorClass}
-use Rattle.dictionary.specs.Format.{held, scaleInRange}
-use Rattle.grammar.specs.declared.Cursor.{Cursor}
+use borrow.Author.Tests.{leb-true, leb-false}
+use lib.Dec.{leb}
+use lib.ListN.{length, take, set, getD, replicate, length-set, length-replicate}
+use lib.Seq.{getD-set-same, getD-set-other}
+use Rattle.wire.specs.Lists.{sumOf}
+use Rattle.wire.specs.Limits.{maxMessages, maxParameters}
 use Rattle.grammar.specs.Tree as Tree
-use Rattle.grammar.specs.Bytes.{descriptorBytes}
-use Rattle.grammar.specs.Environment.{descriptorFormat}
 use Rattle.grammar.specs.Sizes.{parameterCount}
-use Rattle.grammar.specs.Rows.{descriptorRows, parameterRows}
-use Rattle.grammar.specs.Reader.{read, byte, word, peek, tested, coded}
-use Rattle.grammar.specs.Messages.{scaleByte, sizeWord, descriptorUnder, descriptor, descriptors, message, messages}
-use Rattle.grammar.specs.Demands.{Octets}
-use Rattle.grammar.proofs.Went.{undo, same, needed, either, taken-read, tested-read}
-use Rattle.messages.specs.declared.declared.Messages.{Messages}
-use Rattle.messages.specs.Entries.{declaredIn, descriptorOf, descriptorAt, descriptorsAt, messageIn, messagesOf, entriesFrom}
-use Rattle.grammar.proofs.RowCounts.{parameter-rows}
-use Rattle.messages.proofs.Tables.{sets-first}
+use Rattle.scopes.specs.Scopes.{eachFrom}
+use Rattle.scopes.proofs.Runs.{each-length, each-same, each-first, each-more}
+use Rattle.messages.specs.Internal.Columns.{messageCount, rowCount, numbersFrom, countsFrom, firstsFrom}
+use Rattle.messages.specs.Internal.Columns.{descriptorsFrom, aroundNumbers}
+use Rattle.messages.specs.Entries.{messagesHeld, rowsHeld, messageIn, descriptorAt, descriptorsAt, messageOf, messagesIn}
+use Rattle.messages.specs.Entries.{withColumns, withMessage}
+use Rattle.messages.specs.Declaring.{Holds}
+use Rattle.messages.proofs.Tables.{count-more}
+use Rattle.messages.proofs.Found.{nothing-declared}
 
--- ---- scales that are bytes
+-- ---- messages by their indices
 
-abbrev pub ScaleByte : Tree.Descriptor → Type 0
-ScaleByte (Tree.Descriptor.number w scale) = scale < 256
-ScaleByte Tree.Descriptor.date = Unit {0}
-ScaleByte (Tree.Descriptor.text t n) = Unit {0}
+each-map : {A B : Type 0} (f : ℕ → A) (g : A → B) (i n k : ℕ) → map g (take n (eachFrom f i k)) ≡ take n (eachFrom (λ j. g (f j)) i k)
+unfolding eachFrom
+each-map f g i zero k = refl
+each-map f g i (suc n) zero = refl
+each-map f g i (suc n) (suc k) = ap (λ l. g (f i) ∷ l) (each-map f g (i + 1) n k)
 
-abbrev pub ScaleBytes : List Tree.Descriptor → Type 0
-ScaleBytes [] = Unit {0}
-ScaleBytes (d ∷ ds) = ScaleByte d × ScaleBytes ds
+-- the message of an index, with its descriptors
+abbrev messageNumbered : List ℕ → ℕ → Tree.Message
+messageNumbered a i = messageOf a (messageIn a i)
 
-abbrev pub MessageScales : List Tree.Message → Type 0
-MessageScales [] = Unit {0}
-MessageScales (m ∷ ms) = ScaleBytes (m .descriptors) × MessageScales ms
+messages-each : (a : List ℕ) → messagesIn a ≡ take (messagesHeld a) (eachFrom (messageNumbered a) 0 maxMessages)
+unfolding messagesIn
+messages-each a = each-map (messageIn a) (messageOf a) 0 (messagesHeld a) maxMessages
 
--- ---- a row is its descriptor
+-- ---- what stays
 
-row-of : (d : Tree.Descriptor) → ScaleByte d →
-    descriptorOf (byteAt (descriptorBytes d) 0) (descriptorFormat d .scale) (held (descriptorFormat d)) ≡ d
-unfolding descriptorOf descriptorBytes descriptorFormat held
-row-of (Tree.Descriptor.number Short scale) h = ap (Tree.Descriptor.number Short) (mod-eq-of-lt h)
-row-of (Tree.Descriptor.number Long scale) h = ap (Tree.Descriptor.number Long) (mod-eq-of-lt h)
-row-of Tree.Descriptor.date h = refl
-row-of (Tree.Descriptor.text Text n) h = refl
-row-of (Tree.Descriptor.text Varying n) h = ap (Tree.Descriptor.text Varying) (omega arith)
-row-of (Tree.Descriptor.text Cstring n) h = refl
+module _ (a a′ : List ℕ) where
+  abbrev Same : ℕ → Type 0
+  Same k = getD a′ k 0 ≡ getD a k 0
 
-module _ (table : List ℕ) where
-  -- a number of the table, from a place on
-  at-place : (p k : ℕ) {l : List ℕ} → drop p table ≡ l → getD table (p + k) 0 ≡ getD l k 0
-  at-place p k e = sym (getD-drop p table k 0) ∙ ap (λ l. getD l k 0) e
+  descriptors-same : (row n : ℕ) → ((k : ℕ) → k < row + n → Same (descriptorsFrom + k)) → descriptorsAt a′ row n ≡ descriptorsAt a row n
+  unfolding descriptorAt
+  descriptors-same row n s = each-same (descriptorAt a) (descriptorAt a′) row n (λ j h k. rw (s j k))
 
-  after-row : (row : ℕ) {a b c d e f : ℕ} {l : List ℕ} → drop (row * 6) table ≡ a ∷ b ∷ c ∷ d ∷ e ∷ f ∷ l → drop ((row + 1) * 6) table ≡ l
-  after-row row e =
-      let k : row * 6 + 6 ≡ (row + 1) * 6 = omega arith in
-      ap (λ n. drop n table) (sym k) ∙ sym (drop-drop 6 (row * 6) table) ∙ ap (drop 6) e
+  abbrev SameMessage : ℕ → Type 0
+  SameMessage i = Same (numbersFrom + i) × Same (countsFrom + i) × Same (firstsFrom + i)
 
-  -- descriptors whose rows the table holds, and what the table holds after them
-  held-descriptors : (ds : List Tree.Descriptor) (m i offset row : ℕ) (rest : List ℕ) →
-      drop (row * 6) table ≡ descriptorRows m i offset ds ++ rest → row + length ds ≤ 256 → ScaleBytes ds →
-      (descriptorsAt table row (length ds) ≡ ds) × (drop ((row + length ds) * 6) table ≡ rest)
-  unfolding descriptorRows descriptorsAt descriptorAt
-  held-descriptors [] m i offset row rest e h k = let z : row + 0 ≡ row = omega arith in (refl, rw z e)
-  held-descriptors (d ∷ ds) m i offset row rest e h k =
-      let a = held-descriptors ds m (i + 1) (offset + held (descriptorFormat d)) (row + 1) rest (after-row row e) (omega arith) (k .1) in
-      let z : row + 1 + length ds ≡ row + suc (length ds) = omega arith in
-      let l : row < 256 = omega arith in
-      let t = at-place (row * 6) 2 e in
-      let u = at-place (row * 6) 3 e in
-      let v = at-place (row * 6) 5 e in
-      (ap₂ _∷_ (rw (lt-ltb row 256 l, t, u, v) (row-of d (k .0))) (a .0), rw z at (a .1))
+  message-same : (i rows : ℕ) → SameMessage i → messageIn a i .first + messageIn a i .parameters ≤ rows →
+      ((k : ℕ) → k < rows → Same (descriptorsFrom + k)) → messageNumbered a′ i ≡ messageNumbered a i
+  message-same i rows e h s =
+      rw (e .0, e .1, e .2)
+      (ap (λ (ds : List Tree.Descriptor). record { number = messageIn a i .number; descriptors = ds })
+      (descriptors-same (messageIn a i .first) (messageIn a i .parameters) (λ k l. s k (omega arith))))
 
-  held-messages : (ms : List Tree.Message) (row : ℕ) (rest : List ℕ) → drop (row * 6) table ≡ parameterRows ms ++ rest →
-      row + parameterCount ms ≤ 256 → MessageScales ms → map (messageIn table) (entriesFrom row ms) ≡ ms
-  unfolding parameterRows entriesFrom sumOf
-  held-messages [] row rest e h k = refl
-  held-messages (m ∷ ms) row rest e h k =
-      let rows = descriptorRows (m .number) 0 0 (m .descriptors) in
-      let a = held-descriptors (m .descriptors) (m .number) 0 0 row (parameterRows ms ++ rest)
-      (e ∙ append-assoc rows (parameterRows ms) rest) (omega arith) (k .0) in
-      let b = held-messages ms (row + length (m .descriptors)) rest (a .1) (omega arith) (k .1) in
-      let first : List Tree.Descriptor → List Tree.Message → List Tree.Message =
-      λ ds ms. record { number = m .number; descriptors = ds } ∷ ms in
-      ap₂ first (a .0) b
+  module _ (holds : Holds a) (same : (k : ℕ) → k < descriptorsFrom + rowsHeld a → Same k) (whole : length a′ ≡ length a) where
+    message-stays : (i : ℕ) → i < messagesHeld a → SameMessage i
+    message-stays i h =
+        let k = holds .count in
+        (same (numbersFrom + i) (omega arith), same (countsFrom + i) (omega arith), same (firstsFrom + i) (omega arith))
 
--- the array and the table of messages stand for them
-pub messages-held : (ms : List Tree.Message) (x : Messages) (table : List ℕ) → declaredIn x ≡ entriesFrom 0 ms → 1536 ≤ length table →
-    parameterCount ms ≤ 256 → MessageScales ms → messagesOf (sets table 0 (parameterRows ms)) x ≡ ms
-unfolding messagesOf
-messages-held ms x table e l h k =
-    let few : length (parameterRows ms) ≤ length table = omega (arith, parameter-rows ms) in
-    rw e (held-messages (sets table 0 (parameterRows ms)) ms 0 (drop (length (parameterRows ms)) table)
-    (sets-first (parameterRows ms) table few) (omega arith) k)
+    -- what is written past the rows in use leaves the messages
+    pub messages-kept : messagesIn a′ ≡ messagesIn a
+    messages-kept =
+        messages-each a′ ∙ ap (λ n. take n (eachFrom (messageNumbered a′) 0 maxMessages)) (same messageCount (omega arith)) ∙
+        each-first (messageNumbered a) (messageNumbered a′) 0 maxMessages (messagesHeld a) (λ j h k.
+        let l : j < messagesHeld a = omega arith in
+        message-same j (rowsHeld a) (message-stays j l) (holds .within j l) (λ k m. same (descriptorsFrom + k) (omega arith))) ∙
+        sym (messages-each a)
 
--- ---- the scales of messages that were read from bytes are bytes
+    pub holds-kept : Holds a′
+    holds-kept =
+        let e : messagesHeld a′ ≡ messagesHeld a = same messageCount (omega arith) in
+        let f : rowsHeld a′ ≡ rowsHeld a = same rowCount (omega arith) in
+        record {
+          whole = whole ∙ holds .whole;
+          count = omega (arith, holds .count);
+          within = λ i h.
+              let k : i < messagesHeld a = omega arith in
+              let s = message-stays i k in
+              omega (arith, s .1, s .2, holds .within i k);
+          rows = f ∙ holds .rows ∙ ap parameterCount (sym messages-kept);
+          few = omega (arith, holds .few);
+        }
 
-module _ (s : List ℕ) (octets : Octets s) where
-  scale-read : (c : Cursor) {x : ℕ} {q : Cursor} → scaleByte s c ≡ read x q → x < 256
-  unfolding scaleByte
-  scale-read c e =
-      let t = taken-read s c 1 byteAt (tested-read s c byte scaleInRange _ e .0) in
-      omega (arith, t .1, octets (c .at))
+-- ---- none
 
-  under-scale : (t : DataType) (c : Cursor) {d : Tree.Descriptor} {q : Cursor} → descriptorUnder t s c ≡ read d q → ScaleByte d
-  unfolding descriptorUnder
-  under-scale (Number w) c e = undo (scaleByte s c) _ e (λ x q h v. same v (λ d q. ScaleByte d) (scale-read c h))
-  under-scale Date c e = same e (λ d q. ScaleByte d) tt
-  under-scale (Chars t) c e = undo (sizeWord s c) _ e (λ x q h v. same v (λ d q. ScaleByte d) tt)
+zero-at : (n i : ℕ) → _≡_ {A = ℕ} (getD (replicate n 0) i 0) 0
+zero-at zero i = refl
+zero-at (suc n) zero = refl
+zero-at (suc n) (suc i) = zero-at n i
 
-  descriptor-scale : (size : ℕ) (c : Cursor) {d : Tree.Descriptor} {q : Cursor} → descriptor size s c ≡ read d q → ScaleByte d
-  unfolding descriptor
-  descriptor-scale size c e = undo (coded descriptorClass s c) _ e (λ t q h v. undo (descriptorUnder t s q) _ v (λ d q₁ h₁ v₁.
-      needed (leb (size + held (descriptorFormat d)) 4096) _ _ _ _ _ v₁ (λ b v₂. same v₂ (λ d q. ScaleByte d) (under-scale t q h₁))))
+pub no-rows : (n : ℕ) → rowsHeld (replicate n 0) ≡ 0
+no-rows n = zero-at n rowCount
 
-  descriptors-scales : (n size : ℕ) (c : Cursor) {ds : List Tree.Descriptor} {q : Cursor} → descriptors n size s c ≡ read ds q →
-      ScaleBytes ds
-  unfolding descriptors
-  descriptors-scales zero size c e = same e (λ ds q. ScaleBytes ds) tt
-  descriptors-scales (suc n) size c e = undo (descriptor size s c) _ e (λ d q h v.
-      undo (descriptors n (size + held (descriptorFormat d)) s q) _ v (λ ds q₁ h₁ v₁.
-      same v₁ (λ ds q. ScaleBytes ds) (descriptor-scale size c h, descriptors-scales n (size + held (descriptorFormat d)) q h₁)))
+pub no-messages : (n : ℕ) → messagesIn (replicate n 0) ≡ []
+no-messages n = nothing-declared (replicate n 0) (zero-at n messageCount)
 
-  message-scales : (before : List Tree.Message) (c : Cursor) {m : Tree.Message} {q : Cursor} → message before s c ≡ read m q →
-      ScaleBytes (m .descriptors)
-  unfolding message
-  message-scales before c e =
-      undo (tested byte (λ m. not (anyOf (λ x. eqb (x .number) m) before)) _ s c) _ e (λ k q h v.
-      undo (tested word (λ n. leb n 128 && leb (parameterCount before + n) 256) _ s q) _ v (λ n q₁ h₁ v₁.
-      undo (descriptors n 0 s q₁) _ v₁ (λ ds q₂ h₂ v₂. same v₂ (λ m q. ScaleBytes (m .descriptors)) (descriptors-scales n 0 q₁ h₂))))
+pub holds-none : Holds (replicate aroundNumbers 0)
+unfolding sumOf
+holds-none = record {
+  whole = length-replicate {A = ℕ} aroundNumbers 0;
+  count = omega (arith, zero-at aroundNumbers messageCount);
+  within = λ i h. absurd (omega (arith, zero-at aroundNumbers messageCount));
+  rows = rw (no-rows aroundNumbers, no-messages aroundNumbers);
+  few = omega (arith, no-rows aroundNumbers);
+}
 
-  scales-more : (ms : List Tree.Message) (m : Tree.Message) → MessageScales ms → ScaleBytes (m .descriptors) →
-      MessageScales (ms ++ (m ∷ []))
-  scales-more [] m k h = (h, tt)
-  scales-more (x ∷ ms) m k h = (k .0, scales-more ms m (k .1) h)
+-- ---- one more
 
-  pub messages-scales : (few : ℕ) (before : List Tree.Message) (c : Cursor) {ms : List Tree.Message} {q : Cursor} →
-      messages few before s c ≡ read ms q → MessageScales before → MessageScales ms
-  unfolding messages
-  messages-scales zero before c e k = undo (tested peek _ _ s c) _ e (λ x q h v. same v (λ ms q. MessageScales ms) k)
-  messages-scales (suc few) before c e k = undo (peek s c) _ e (λ x q h v.
-      either (eqb x blr.message) _ _ s q v
-      (λ t w. undo (byte s q) _ w (λ y q₁ h₁ w₁. undo (message before s q₁) _ w₁ (λ m q₂ h₂ w₂.
-      messages-scales few (before ++ (m ∷ [])) q₂ w₂ (scales-more before m k (message-scales before q₁ h₂)))))
-      (λ t w. same w (λ ms q. MessageScales ms) k))
+module _ (a : List ℕ) (m n : ℕ) where
+  abbrev more : List ℕ
+  more = withMessage a m n
+
+  more-other : (j : ℕ) → j ≢ numbersFrom + messagesHeld a → j ≢ countsFrom + messagesHeld a → j ≢ firstsFrom + messagesHeld a →
+      j ≢ messageCount → j ≢ rowCount → Same a more j
+  more-other j p q r s t = simp getD-set-other
+
+  more-descriptor : (k : ℕ) → messagesHeld a < maxMessages → Same a more (descriptorsFrom + k)
+  more-descriptor k h =
+      more-other (descriptorsFrom + k) (λ e. omega arith) (λ e. omega arith) (λ e. omega arith) (λ e. omega arith) (λ e. omega arith)
+
+  more-before : (i : ℕ) → messagesHeld a < maxMessages → i < messagesHeld a → SameMessage a more i
+  more-before i h k = (
+    more-other (numbersFrom + i) (λ e. omega arith) (λ e. omega arith) (λ e. omega arith) (λ e. omega arith) (λ e. omega arith),
+    more-other (countsFrom + i) (λ e. omega arith) (λ e. omega arith) (λ e. omega arith) (λ e. omega arith) (λ e. omega arith),
+    more-other (firstsFrom + i) (λ e. omega arith) (λ e. omega arith) (λ e. omega arith) (λ e. omega arith) (λ e. omega arith),
+  )
+
+  more-length : length more ≡ length a
+  more-length = simp length-set
+
+  module _ (whole : length a ≡ aroundNumbers) (h : messagesHeld a < maxMessages) where
+    pub more-count : messagesHeld more ≡ messagesHeld a + 1
+    more-count =
+        let p : messageCount ≢ rowCount = λ e. omega arith in
+        let l : messageCount < length (withColumns a m n) = simp length-set (omega arith) in
+        simp (getD-set-other, getD-set-same)
+
+    more-rows : rowsHeld more ≡ rowsHeld a + n
+    more-rows =
+        let l : rowCount < length (set (withColumns a m n) messageCount (messagesHeld a + 1)) = simp length-set (omega arith) in
+        simp getD-set-same
+
+    more-number : getD more (numbersFrom + messagesHeld a) 0 ≡ m
+    more-number =
+        let l : numbersFrom + messagesHeld a < length a = omega arith in
+        let p : numbersFrom + messagesHeld a ≢ countsFrom + messagesHeld a = λ e. omega arith in
+        let q : numbersFrom + messagesHeld a ≢ firstsFrom + messagesHeld a = λ e. omega arith in
+        let r : numbersFrom + messagesHeld a ≢ messageCount = λ e. omega arith in
+        let s : numbersFrom + messagesHeld a ≢ rowCount = λ e. omega arith in
+        simp (getD-set-other, getD-set-same)
+
+    more-parameters : getD more (countsFrom + messagesHeld a) 0 ≡ n
+    more-parameters =
+        let l : countsFrom + messagesHeld a < length (set a (numbersFrom + messagesHeld a) m) = simp length-set (omega arith) in
+        let p : countsFrom + messagesHeld a ≢ firstsFrom + messagesHeld a = λ e. omega arith in
+        let q : countsFrom + messagesHeld a ≢ messageCount = λ e. omega arith in
+        let r : countsFrom + messagesHeld a ≢ rowCount = λ e. omega arith in
+        simp (getD-set-other, getD-set-same)
+
+    more-first : getD more (firstsFrom + messagesHeld a) 0 ≡ rowsHeld a
+    more-first =
+        let l : firstsFrom + messagesHeld a < length (set (set a (numbersFrom + messagesHeld a) m) (countsFrom + messagesHeld a) n) =
+        simp length-set (omega arith) in
+        let p : firstsFrom + messagesHeld a ≢ messageCount = λ e. omega arith in
+        let q : firstsFrom + messagesHeld a ≢ rowCount = λ e. omega arith in
+        simp (getD-set-other, getD-set-same)
+
+    more-message : messageNumbered more (messagesHeld a) ≡ record { number = m; descriptors = descriptorsAt a (rowsHeld a) n }
+    more-message =
+        rw (more-number, more-parameters, more-first)
+        (ap (λ (ds : List Tree.Descriptor). record { number = m; descriptors = ds })
+        (descriptors-same a more (rowsHeld a) n (λ k l. more-descriptor k h)))
+
+    module _ (holds : Holds a) where
+      pub messages-more : messagesIn more ≡ messagesIn a ++ (record { number = m; descriptors = descriptorsAt a (rowsHeld a) n } ∷ [])
+      messages-more =
+          let z : 0 + messagesHeld a ≡ messagesHeld a = omega arith in
+          messages-each more ∙ ap (λ k. take k (eachFrom (messageNumbered more) 0 maxMessages)) more-count ∙
+          each-more (messageNumbered a) (messageNumbered more) 0 maxMessages (messagesHeld a) h (λ j k l.
+          let i : j < messagesHeld a = omega arith in
+          message-same a more j (rowsHeld a) (more-before j h i) (holds .within j i) (λ k l. more-descriptor k h)) ∙
+          rw (z, more-message, messages-each a)
+
+      more-counted : rowsHeld a + n ≡ parameterCount (messagesIn more)
+      more-counted =
+          sym (ap parameterCount messages-more ∙
+          count-more (messagesIn a) (record { number = m; descriptors = descriptorsAt a (rowsHeld a) n }) ∙
+          ap₂ _+_ (sym (holds .rows)) (each-length (descriptorAt a) (rowsHeld a) n))
+
+      more-within : (i : ℕ) → i < messagesHeld a + 1 → messageIn more i .first + messageIn more i .parameters ≤ rowsHeld a + n
+      more-within i k = by (leb (messagesHeld a) i) refl
+        where
+          by : (t : Bool) → leb (messagesHeld a) i ≡ t → messageIn more i .first + messageIn more i .parameters ≤ rowsHeld a + n
+          by true e =
+              let z : i ≡ messagesHeld a = omega (arith, leb-true (messagesHeld a) i e) in
+              rw z (omega (arith, more-parameters, more-first))
+          by false e =
+              let l : i < messagesHeld a = leb-false (messagesHeld a) i e in
+              let s = more-before i h l in
+              omega (arith, s .1, s .2, holds .within i l)
+
+      pub holds-more : rowsHeld a + n ≤ maxParameters → Holds more
+      holds-more few = record {
+        whole = more-length ∙ whole;
+        count = omega (arith, more-count);
+        within = λ i k. rw more-rows (more-within i (rw more-count at k));
+        rows = more-rows ∙ more-counted;
+        few = omega (arith, more-rows);
+      }

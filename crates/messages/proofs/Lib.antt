@@ -1,8 +1,7 @@
 -- Laws that belong to no one function.
-pub mod Searches
+pub mod Found
 pub mod Tables
 pub mod Parameters
+pub mod Held
 pub mod Descriptors
 pub mod Readings
-pub mod Held
-pub mod Found

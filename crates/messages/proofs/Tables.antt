@@ -1,11 +1,11 @@
 -- Rows of the parameter table: runs of stores, and one message more.
-use Prim.Native.Nat.{ℕ, suc, _+_, _*_, _≤_}
-use mathlib.Core.Path.{_≡_, refl, sym, ap, _∙_}
+use Prim.Native.Nat.{ℕ, suc, _+_, _*_}
+use mathlib.Core.Path.{_≡_, sym, ap, _∙_}
 use mathlib.Core.List.{List, [], _∷_, _++_, append-assoc, append-nil}
 use native.Mathlib.Nat.{add-zero, add-suc, suc-add}
 use native.Mathlib.Omega.{arith}
-use lib.ListN.{length, set, drop}
-use lib.Seq.{sets, sets-eq}
+use lib.ListN.{length, set}
+use lib.Seq.{sets}
 use Rattle.wire.specs.Lists.{sumOf}
 use Rattle.grammar.specs.Tree as Tree
 use Rattle.grammar.specs.Sizes.{parameterCount}
@@ -18,10 +18,6 @@ sets-append (x ∷ xs) ys l i =
     sets-append xs ys (set l i x) (suc i) ∙
     ap (λ k. sets (sets (set l i x) (suc i) xs) k ys) (suc-add i (length xs) ∙ sym (add-suc i (length xs)))
 
--- a run from the start, and the rest of the table after it
-pub sets-first : (vs l : List ℕ) → length vs ≤ length l → sets l 0 vs ≡ vs ++ drop (length vs) l
-sets-first vs l h = let e : 0 + length vs ≡ length vs = omega arith in rw e at (sets-eq vs l 0 (omega arith))
-
 -- ---- one message more
 
 pub count-more : (ms : List Tree.Message) (m : Tree.Message) → parameterCount (ms ++ (m ∷ [])) ≡ parameterCount ms + length (m .descriptors)
@@ -29,7 +25,7 @@ unfolding sumOf
 count-more [] m = omega arith
 count-more (x ∷ ms) m = omega (arith, count-more ms m)
 
-pub rows-more : (ms : List Tree.Message) (m : Tree.Message) →
+rows-more : (ms : List Tree.Message) (m : Tree.Message) →
     parameterRows (ms ++ (m ∷ [])) ≡ parameterRows ms ++ descriptorRows (m .number) 0 0 (m .descriptors)
 unfolding parameterRows
 rows-more [] m = append-nil _

@@ -1,37 +1,27 @@
 -- What the readers of messages promise.
-use Prim.Native.Nat.{ℕ, _+_, _*_}
+use Prim.Native.Nat.{ℕ, _+_, _*_, _≤_, _<_}
 use mathlib.Core.Path.{_≡_}
-use mathlib.Core.Bool.{not, _&&_}
-use mathlib.Core.List.{List, [], _∷_}
-use lib.Dec.{eqb, leb}
-use lib.ListN.{length, replicate}
+use mathlib.Core.List.{List, [], _∷_, _++_}
+use lib.ListN.{length, replicate, getD}
 use lib.Seq.{sets}
-use Rattle.wire.specs.Limits.{maxMessageParameters, maxParameters, parameterRowNumbers}
+use Rattle.wire.specs.Limits.{maxMessages, maxParameters, parameterRowNumbers}
 use Rattle.wire.specs.Words.{byteAt}
-use Rattle.wire.specs.Lists.{anyOf}
 use Rattle.dictionary.specs.Format.{held}
-use Rattle.grammar.specs.declared.Cursor.{Cursor}
-use Rattle.grammar.specs.declared.Refusal.the-variants.{BadMessage, TooGreat}
 use Rattle.grammar.specs.declared.Step.{Step}
 use Rattle.grammar.specs.Tree as Tree
 use Rattle.grammar.specs.Bytes.{descriptorBytes}
 use Rattle.grammar.specs.Environment.{descriptorFormat}
 use Rattle.grammar.specs.Sizes.{parameterCount}
 use Rattle.grammar.specs.Rows.{descriptorRows, parameterRows}
-use Rattle.grammar.specs.Reader.{Read, read, refused, Reader, _>>=_, return, byte, word, tested}
-use Rattle.grammar.specs.Messages.{descriptors}
+use Rattle.grammar.specs.Reader.{Read, read, refused}
 use Rattle.grammar.specs.Internal.Steps.{stepOf, noKind}
-use Rattle.messages.specs.declared.declared.Message.{Message}
-use Rattle.messages.specs.declared.declared.Messages.{Messages}
 use Rattle.messages.specs.declared.descriptor.FormatStep.{FormatStep}
 use Rattle.messages.specs.declared.descriptor.FormatStep.the-variants as FormatStep
 use Rattle.messages.specs.declared.descriptor.DescriptorStep.{DescriptorStep}
 use Rattle.messages.specs.declared.descriptor.DescriptorStep.the-variants as DescriptorStep
 use Rattle.messages.specs.declared.reading.Parameter.{Parameter}
-use Rattle.messages.specs.declared.reading.DeclaredStep.{DeclaredStep}
-use Rattle.messages.specs.declared.reading.DeclaredStep.the-variants as DeclaredStep
-use Rattle.messages.specs.declared.reading.Declaration.{Declaration}
-use Rattle.messages.specs.Entries.{declaredIn, messageFrom, entriesFrom}
+use Rattle.messages.specs.Internal.Columns.{descriptorsFrom, aroundNumbers}
+use Rattle.messages.specs.Entries.{messagesHeld, rowsHeld, messageIn, messagesIn, descriptorsAt}
 
 abbrev pub formatStep : Read Tree.Descriptor → FormatStep
 formatStep (read d c) = FormatStep.Is (descriptorFormat d .scale) (held (descriptorFormat d)) c
@@ -53,41 +43,46 @@ rowOf x code scale held = x .message .0 ∷ x .index ∷ code ∷ scale ∷ x .o
 abbrev pub parameterAfter : Parameter → ℕ → Parameter
 parameterAfter x held = record { message = x .message; index = x .index + 1; row = x .row + 1; offset = x .offset + held }
 
--- descriptors that were read from a parameter on, and their rows; after a refusal the table is free
-pub record Described (y : Read (List Tree.Descriptor)) (x : Parameter) (table table′ : List ℕ) (r : Step) : Type 0 where
+-- what is so of the array while messages are read: they are 16 at most, each with rows below those in use, which are as many as all have
+-- parameters, 256 at most
+pub record Holds (a : List ℕ) : Type 0 where
+  pub whole : length a ≡ aroundNumbers
+  pub count : messagesHeld a ≤ maxMessages
+  pub within : (i : ℕ) → i < messagesHeld a → messageIn a i .first + messageIn a i .parameters ≤ rowsHeld a
+  pub rows : rowsHeld a ≡ parameterCount (messagesIn a)
+  pub few : rowsHeld a ≤ maxParameters
+
+-- descriptors that were read from a parameter on, their rows, and what the array holds of them; what it held before those rows stays.
+-- After a refusal the table is free
+pub record Described (y : Read (List Tree.Descriptor)) (x : Parameter) (table table′ a a′ : List ℕ) (r : Step) : Type 0 where
   pub answer : r ≡ stepOf noKind y
   pub filled :
       table′ ≡ after (λ ds. sets table (x .row * parameterRowNumbers) (descriptorRows (x .message .0) (x .index) (x .offset) ds)) table′ y
+  pub held : descriptorsAt a′ (x .row) (after length 0 y) ≡ after (λ ds. ds) [] y
+  pub same : (k : ℕ) → k < descriptorsFrom + x .row → getD a′ k 0 ≡ getD a k 0
+  pub whole : length a′ ≡ length a
 
--- a message after its code, beside the numbers and the parameters of those before it
-unfoldable pub messageBeside : List Message → ℕ → Reader Tree.Message
-messageBeside before rows = do
-  m ← tested byte (λ m. not (anyOf (λ x. eqb (x .number .0) m) before)) BadMessage
-  n ← tested word (λ n. leb n maxMessageParameters && leb (rows + n) maxParameters) TooGreat
-  ds ← descriptors n 0
-  return (record { number = m; descriptors = ds })
-
-abbrev pub declaredStep : ℕ → Read Tree.Message → DeclaredStep
-declaredStep row (read m c) = DeclaredStep.Is (messageFrom row m) c
-declaredStep row (refused r p) = DeclaredStep.Refused r p
-
--- a message that was read, and its rows; after a refusal the table is free
-pub record Told (s : List ℕ) (c : Cursor) (before : Messages) (table table′ : List ℕ) (r : DeclaredStep) : Type 0 where
-  pub answer : r ≡ declaredStep (before .rows) (messageBeside (declaredIn before) (before .rows) s c)
+-- a message that was read beside those in the array, its rows, and the array with it. A refusal adds no message, and after it the table
+-- is free
+pub record Told (x : Read Tree.Message) (table table′ a a′ : List ℕ) (r : Step) : Type 0 where
+  pub answer : r ≡ stepOf noKind x
   pub filled :
-      table′ ≡ after (λ m. sets table (before .rows * parameterRowNumbers) (descriptorRows (m .number) 0 0 (m .descriptors))) table′
-      (messageBeside (declaredIn before) (before .rows) s c)
+      table′ ≡ after (λ m. sets table (rowsHeld a * parameterRowNumbers) (descriptorRows (m .number) 0 0 (m .descriptors))) table′ x
+  pub held : messagesIn a′ ≡ after (λ m. messagesIn a ++ (m ∷ [])) (messagesIn a) x
+  pub count : messagesHeld a′ ≡ after (λ m. messagesHeld a + 1) (messagesHeld a) x
+  pub holds : Holds a′
 
--- all messages of a request, and their rows; after a refusal table and messages are free
-pub record ReadEach (x : Read (List Tree.Message)) (table table′ : List ℕ) (r : Declaration) : Type 0 where
-  pub answer : r .step ≡ stepOf noKind x
+-- all messages of a request, their rows, and the array with them; after a refusal table and array are free
+pub record ReadEach (x : Read (List Tree.Message)) (table table′ a′ : List ℕ) (r : Step) : Type 0 where
+  pub answer : r ≡ stepOf noKind x
   pub filled : table′ ≡ after (λ ms. sets table 0 (parameterRows ms)) table′ x
-  pub entries : declaredIn (r .messages) ≡ after (λ ms. entriesFrom 0 ms) (declaredIn (r .messages)) x
-  pub rows : r .messages .rows ≡ after parameterCount (r .messages .rows) x
+  pub held : messagesIn a′ ≡ after (λ ms. ms) (messagesIn a′) x
+  pub rows : rowsHeld a′ ≡ after parameterCount (rowsHeld a′) x
 
--- all messages of a request, and their rows at the start of the table; after a refusal zeros alone, and no message
-pub record Declares (x : Read (List Tree.Message)) (table table′ : List ℕ) (r : Declaration) : Type 0 where
-  pub answer : r .step ≡ stepOf noKind x
+-- all messages of a request, with their rows at the start of the table; after a refusal zeros alone, and no message. Of the array's
+-- numbers it says what they stand for, and no more
+pub record Declares (x : Read (List Tree.Message)) (table table′ a′ : List ℕ) (r : Step) : Type 0 where
+  pub answer : r ≡ stepOf noKind x
   pub filled : table′ ≡ after (λ ms. sets table 0 (parameterRows ms)) (replicate (length table) 0) x
-  pub entries : declaredIn (r .messages) ≡ after (λ ms. entriesFrom 0 ms) [] x
-  pub rows : r .messages .rows ≡ after parameterCount 0 x
+  pub held : messagesIn a′ ≡ after (λ ms. ms) [] x
+  pub rows : rowsHeld a′ ≡ after parameterCount 0 x

@@ -1,2 +1,3 @@
+pub mod Internal
 pub mod Entries
 pub mod Declaring

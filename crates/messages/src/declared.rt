@@ -1,110 +1,133 @@
-// The messages that a request has declared, and their parameters, which the parameter table holds.
+// What stands around all statements: the messages that a request has declared, and what describes their parameters, in a lent array.
 ghost use mathlib.Core.Path.{_≡_};
 ghost use mathlib.Core.Option.{some};
+ghost use Prim.Native.Nat.{_≤_, _<_};
+ghost use Rattle.wire.specs.Limits.{maxMessages, maxParameters, maxMessageBytes};
 ghost use Rattle.grammar.specs.Kinds.{formatKind};
 ghost use Rattle.grammar.specs.Environment.{descriptorFormat};
 ghost use Rattle.grammar.specs.Internal.Steps.{fitOf};
-ghost use Rattle.messages.specs.Entries.{declaredIn, foundOf, withMessage, parameterKind, descriptorOf};
+ghost use Rattle.messages.specs.Entries.{messagesHeld, rowsHeld, declaredIn, foundOf, messageAt, parameterKind};
+ghost use Rattle.messages.specs.Entries.{packed, descriptorOf, withDescriptor, withMessage};
 use grammar::Fit;
-use scopes::kinds::scale_of;
 use wire::blr::CSTRING;
 use wire::blr::LONG;
 use wire::blr::SHORT;
 use wire::blr::TEXT;
 use wire::blr::VARYING;
+use wire::bytes::signed_byte;
 use wire::limits::MAX_MESSAGES;
 use wire::limits::MAX_PARAMETERS;
-use wire::limits::PARAMETER_ROW;
 use wire::numbers::MessageNumber;
-use wire::rows::PARAMETER_HELD;
-use wire::rows::PARAMETER_SCALE;
-use wire::rows::PARAMETER_TYPE;
-use wire::table::number_at;
 
-// A message: the row of its first parameter, its number, and how many parameters it has. Messages go by value through every level, so that one
-// is kept small.
-pub struct Message {
-    pub first: u16,
-    pub number: MessageNumber,
-    pub parameters: u8,
-}
+// The columns of the array: how many messages there are, and the rows of all their parameters; then for each message its number, how many
+// parameters it has, and the row of its first; then for each row of the parameter table the type's code, the scale byte and the bytes held
+// of its descriptor, in one number.
+const MESSAGE_COUNT: usize = 0;
 
-// The messages in the order of their declarations, and the rows of all their parameters.
-pub struct Messages {
-    pub all: [Message; MAX_MESSAGES],
-    pub count: usize,
-    pub rows: usize,
-}
+const ROW_COUNT: usize = 1;
 
-// The message of a number, or that none is declared.
+const NUMBERS: usize = 2;
+
+const COUNTS: usize = 18;
+
+const FIRSTS: usize = 34;
+
+const DESCRIPTORS: usize = 50;
+
+pub const AROUND: usize = 306;
+
+// The index of the message of a number, or that none is declared.
 pub enum FoundMessage {
-    Is(Message),
+    At(usize),
     Nothing,
 }
 
-impl Messages {
-    pub fn find(self, m: MessageNumber) -> FoundMessage
-        ensures { λ r. ⌜ r ≡ foundOf (declaredIn self) (m .0) ⌝ }
-    {
-        let all = self.all;
-        let count = self.count;
-        let mut i: usize = 0;
-        while i < MAX_MESSAGES {
-            if i == count {
-                return FoundMessage::Nothing;
-            }
-            let x = all[i];
-            if x.number.0 == m.0 {
-                return FoundMessage::Is(x);
-            }
-            i += 1;
+pub fn find(around: &[u32; AROUND], m: MessageNumber) -> FoundMessage
+    ensures { λ r. ⌜ r ≡ foundOf (declaredIn (now (around .entry))) (m .0) ⌝ }
+{
+    let count = around[MESSAGE_COUNT];
+    let mut i: usize = 0;
+    while i < MAX_MESSAGES {
+        if i as u32 == count {
+            return FoundMessage::Nothing;
         }
-        FoundMessage::Nothing
+        if around[NUMBERS + i] == m.0 as u32 {
+            return FoundMessage::At(i);
+        }
+        i += 1;
+    }
+    FoundMessage::Nothing
+}
+
+// A number of the array as an index.
+fn wide(x: u32) -> usize
+    ensures { λ r. ⌜ (r ≡ x) × (r < 4294967296) ⌝ }
+{
+    x as usize
+}
+
+// The rows of all parameters.
+pub fn row_count(around: &[u32; AROUND]) -> usize
+    ensures { λ r. ⌜ r ≡ rowsHeld (now (around .entry)) ⌝ }
+{
+    wide(around[ROW_COUNT])
+}
+
+// The kind of a descriptor in one number.
+fn descriptor_fit(x: u32) -> Fit
+    ensures { λ r. ⌜ r ≡ fitOf (some (formatKind (descriptorFormat (descriptorOf x)))) ⌝ }
+{
+    let code = (x % 256) as u8;
+    let scale = (x / 256 % 256) as u8;
+    match code {
+        SHORT | LONG => Fit::Number(signed_byte(scale)),
+        TEXT | VARYING | CSTRING => Fit::Text,
+        _ => Fit::Date,
     }
 }
 
-// The kind of the parameter of a row's type and scale.
-fn row_fit(code: u32, scale: u32, held: u32) -> Fit
-    ensures { λ r. ⌜ r ≡ fitOf (some (formatKind (descriptorFormat (descriptorOf code scale held)))) ⌝ }
+// The kind of a parameter of the message of an index, or that it has no such parameter.
+pub fn parameter_fit(around: &[u32; AROUND], message: usize, i: u32) -> Fit
+    ensures { λ r. ⌜ r ≡ fitOf (parameterKind (now (around .entry)) (messageAt (now (around .entry)) message) i) ⌝ }
 {
-    if code == SHORT as u32 {
-        return Fit::Number(scale_of((scale % 256) as u8));
-    }
-    if code == LONG as u32 {
-        return Fit::Number(scale_of((scale % 256) as u8));
-    }
-    if code == TEXT as u32 {
-        return Fit::Text;
-    }
-    if code == VARYING as u32 {
-        return Fit::Text;
-    }
-    if code == CSTRING as u32 {
-        return Fit::Text;
-    }
-    Fit::Date
-}
-
-// The kind of a parameter of a message, or that it has no such parameter.
-pub fn parameter_fit(parameters: &[u32], x: Message, i: u32) -> Fit
-    ensures { λ r. ⌜ r ≡ fitOf (parameterKind (now (parameters .entry)) x i) ⌝ }
-{
-    let n = i as usize;
-    if x.parameters as usize <= n {
+    if MAX_MESSAGES <= message {
         return Fit::NoKind;
     }
-    let first = x.first as usize;
-    if MAX_PARAMETERS <= first {
-        return Fit::Date;
+    if around[COUNTS + message] <= i {
+        return Fit::NoKind;
     }
-    let row = first + n;
+    let row = wide(around[FIRSTS + message]) + i as usize;
     if MAX_PARAMETERS <= row {
         return Fit::Date;
     }
-    let at = row * PARAMETER_ROW;
-    row_fit(
-        number_at(parameters, at + PARAMETER_TYPE),
-        number_at(parameters, at + PARAMETER_SCALE),
-        number_at(parameters, at + PARAMETER_HELD),
-    )
+    descriptor_fit(around[DESCRIPTORS + row])
+}
+
+// The descriptor of a row.
+pub(crate) fn put_descriptor(
+    around: &mut [u32; AROUND],
+    row: usize,
+    code: u8,
+    scale: u8,
+    held: usize,
+)
+    requires { ⌜ (row < maxParameters) × (held ≤ maxMessageBytes) ⌝ }
+    ensures { λ _. ⌜ now (around .exit) ≡ withDescriptor (now (around .entry)) row (packed code scale held) ⌝ }
+{
+    around[DESCRIPTORS + row] = code as u32 + 256 * scale as u32 + 65536 * held as u32;
+}
+
+// One message more, of so many parameters, which have the next rows.
+pub(crate) fn add_message(around: &mut [u32; AROUND], m: MessageNumber, parameters: u32)
+    requires { ⌜ (messagesHeld (now around) < maxMessages) ×
+        ((rowsHeld (now around) ≤ maxParameters) × (parameters ≤ maxParameters)) ⌝ }
+    ensures { λ _. ⌜ now (around .exit) ≡ withMessage (now (around .entry)) (m .0) parameters ⌝ }
+{
+    let i = around[MESSAGE_COUNT] as usize;
+    let rows = around[ROW_COUNT];
+    around[NUMBERS + i] = m.0 as u32;
+    around[COUNTS + i] = parameters;
+    around[FIRSTS + i] = rows;
+    around[MESSAGE_COUNT] = i as u32 + 1;
+    around[ROW_COUNT] = rows + parameters;
 }

@@ -1,17 +1,21 @@
 // Reading messages: each descriptor becomes a row of the parameter table.
 ghost use mathlib.Core.Path.{_≡_};
-ghost use mathlib.Core.List.{[], _∷_};
-ghost use Prim.Native.Nat.{_≤_, _+_, _*_};
-ghost use lib.ListN.{replicate};
+ghost use mathlib.Core.List.{[]};
+ghost use Prim.Native.Nat.{_<_, _≤_, _+_, _*_};
+ghost use lib.ListN.{length};
 ghost use lib.Seq.{sets};
 ghost use Rattle.wire.specs.Limits.{maxMessages, maxMessageParameters, maxParameters, maxMessageBytes, parameterRowNumbers};
-ghost use Rattle.grammar.specs.Messages.{descriptors, messages};
+ghost use Rattle.grammar.specs.Messages.{descriptors, message, messages};
 ghost use Rattle.grammar.specs.Internal.Steps.{stepOf, noKind};
-ghost use Rattle.messages.specs.Declaring.{rowOf, parameterAfter, Described, Told, ReadEach, Declares};
-ghost use Rattle.messages.specs.Entries.{withMessage, noMessage};
+ghost use Rattle.messages.specs.Internal.Columns.{aroundNumbers};
+ghost use Rattle.messages.specs.Declaring.{rowOf, parameterAfter, Holds, Described, Told, ReadEach, Declares};
+ghost use Rattle.messages.specs.Entries.{messagesHeld, messagesIn};
+use crate::declared::AROUND;
 use crate::declared::FoundMessage;
-use crate::declared::Message;
-use crate::declared::Messages;
+use crate::declared::add_message;
+use crate::declared::find;
+use crate::declared::put_descriptor;
+use crate::declared::row_count;
 use crate::descriptor::DescriptorStep;
 use crate::descriptor::read_descriptor;
 use grammar::ByteStep;
@@ -47,21 +51,10 @@ pub(crate) struct Parameter {
     pub offset: usize,
 }
 
-// A message that was read.
-pub(crate) enum DeclaredStep {
-    Is(Message, Cursor),
-    Refused(Refusal, usize),
-}
-
-// The messages of a request, and how reading them went.
-pub struct Declaration {
-    pub step: Step,
-    pub messages: Messages,
-}
-
 // A row of the parameter table.
 fn put_row(table: &mut [u32], x: Parameter, code: u8, scale: u8, held: usize)
-    requires { ⌜ (x .index ≤ maxMessageParameters) × ((x .row ≤ maxParameters) × ((x .offset ≤ maxMessageBytes) × (held ≤ maxMessageBytes))) ⌝ }
+    requires { ⌜ (x .index ≤ maxMessageParameters) × ((x .row ≤ maxParameters) ×
+        ((x .offset ≤ maxMessageBytes) × (held ≤ maxMessageBytes))) ⌝ }
     ensures { λ _. ⌜ now (table .exit) ≡ sets (now (table .entry)) (x .row * parameterRowNumbers) (rowOf x code scale held) ⌝ }
 {
     let at = x.row * PARAMETER_ROW;
@@ -75,7 +68,8 @@ fn put_row(table: &mut [u32], x: Parameter, code: u8, scale: u8, held: usize)
 
 // The parameter after one that holds so many bytes.
 fn parameter_after(x: Parameter, held: usize) -> Parameter
-    requires { ⌜ (x .index ≤ maxMessageParameters) × ((x .row ≤ maxParameters) × ((x .offset ≤ maxMessageBytes) × (held ≤ maxMessageBytes))) ⌝ }
+    requires { ⌜ (x .index ≤ maxMessageParameters) × ((x .row ≤ maxParameters) ×
+        ((x .offset ≤ maxMessageBytes) × (held ≤ maxMessageBytes))) ⌝ }
     ensures { λ r. ⌜ r ≡ parameterAfter x held ⌝ }
 {
     let mut next = x;
@@ -86,9 +80,18 @@ fn parameter_after(x: Parameter, held: usize) -> Parameter
 }
 
 // The descriptors of a message from a parameter on, so many.
-fn read_descriptors(request: &[u8], table: &mut [u32], c: Cursor, x: Parameter, left: usize) -> Step
-    requires { ⌜ (x .index + left ≤ maxMessageParameters) × ((x .row + left ≤ maxParameters) × (x .offset ≤ maxMessageBytes)) ⌝ }
-    ensures { λ r. ⌜ Described (descriptors left (x .offset) (now (request .entry)) c) x (now (table .entry)) (now (table .exit)) r ⌝ }
+fn read_descriptors(
+    request: &[u8],
+    table: &mut [u32],
+    around: &mut [u32; AROUND],
+    c: Cursor,
+    x: Parameter,
+    left: usize,
+) -> Step
+    requires { ⌜ (x .index + left ≤ maxMessageParameters) × ((x .row + left ≤ maxParameters) ×
+        ((x .offset ≤ maxMessageBytes) × (length (now around) ≡ aroundNumbers))) ⌝ }
+    ensures { λ r. ⌜ Described (descriptors left (x .offset) (now (request .entry)) c) x (now (table .entry)) (now (table .exit))
+        (now (around .entry)) (now (around .exit)) r ⌝ }
 {
     if left == 0 {
         return Step::Next(Fit::NoKind, c);
@@ -96,7 +99,15 @@ fn read_descriptors(request: &[u8], table: &mut [u32], c: Cursor, x: Parameter, 
     match read_descriptor(request, c, x.offset) {
         DescriptorStep::Is(code, scale, held, after) => {
             put_row(table, x, code, scale, held);
-            read_descriptors(request, table, after, parameter_after(x, held), left - 1)
+            put_descriptor(around, x.row, code, scale, held);
+            read_descriptors(
+                request,
+                table,
+                around,
+                after,
+                parameter_after(x, held),
+                left - 1,
+            )
         }
         DescriptorStep::Refused(r, p) => Step::Refused(r, p),
     }
@@ -114,83 +125,35 @@ fn first_parameter(message: MessageNumber, row: usize) -> Parameter
     }
 }
 
-// A message of its number, its first row and its parameters.
-fn message_of(number: MessageNumber, first: usize, parameters: usize) -> Message
-    requires { ⌜ (first ≤ maxParameters) × (parameters ≤ maxMessageParameters) ⌝ }
-    ensures { λ r. ⌜ r ≡ record { first = first; number = number; parameters = parameters } ⌝ }
-{
-    let row = first as u16;
-    let count = parameters as u8;
-    Message {
-        first: row,
-        number: number,
-        parameters: count,
-    }
-}
-
 // A message after its code, beside the messages before it.
-fn read_message(request: &[u8], table: &mut [u32], c: Cursor, before: Messages) -> DeclaredStep
-    requires { ⌜ before .rows ≤ maxParameters ⌝ }
-    ensures { λ r. ⌜ Told (now (request .entry)) c before (now (table .entry)) (now (table .exit)) r ⌝ }
+fn read_message(request: &[u8], table: &mut [u32], around: &mut [u32; AROUND], c: Cursor) -> Step
+    requires { ⌜ Holds (now around) × (messagesHeld (now around) < maxMessages) ⌝ }
+    ensures { λ r. ⌜ Told (message (messagesIn (now (around .entry))) (now (request .entry)) c) (now (table .entry)) (now (table .exit))
+        (now (around .entry)) (now (around .exit)) r ⌝ }
 {
     let MessageStep::Is(m, first) = next_message(request, c) else {
-        return DeclaredStep::Refused(Refusal::EndsEarly, request.len());
+        return Step::Refused(Refusal::EndsEarly, request.len());
     };
-    if let FoundMessage::Is(_) = before.find(m) {
-        return DeclaredStep::Refused(Refusal::BadMessage, c.at);
+    if let FoundMessage::At(_) = find(around, m) {
+        return Step::Refused(Refusal::BadMessage, c.at);
     }
     let WordStep::Is(n, second) = next_word(request, first) else {
-        return DeclaredStep::Refused(Refusal::EndsEarly, request.len());
+        return Step::Refused(Refusal::EndsEarly, request.len());
     };
+    let rows = row_count(around);
     let parameters = n as usize;
     if MAX_MESSAGE_PARAMETERS < parameters {
-        return DeclaredStep::Refused(Refusal::TooGreat, first.at);
+        return Step::Refused(Refusal::TooGreat, first.at);
     }
-    if MAX_PARAMETERS < before.rows + parameters {
-        return DeclaredStep::Refused(Refusal::TooGreat, first.at);
+    if MAX_PARAMETERS < rows + parameters {
+        return Step::Refused(Refusal::TooGreat, first.at);
     }
-    let x = first_parameter(m, before.rows);
-    match read_descriptors(request, table, second, x, parameters) {
-        Step::Next(_, after) => DeclaredStep::Is(message_of(m, before.rows, parameters), after),
-        Step::Refused(r, p) => DeclaredStep::Refused(r, p),
+    let x = first_parameter(m, rows);
+    let r = read_descriptors(request, table, around, second, x, parameters);
+    if let Step::Next(_, _) = r {
+        add_message(around, m, n);
     }
-}
-
-// One message more.
-fn with_message(x: Messages, m: Message) -> Messages
-    requires { ⌜ x .rows + m .parameters ≤ maxParameters ⌝ }
-    ensures { λ r. ⌜ r ≡ withMessage x m ⌝ }
-{
-    let at = x.count;
-    let mut next = x;
-    if at < MAX_MESSAGES {
-        next.all[at] = m;
-        next.count = at + 1;
-        next.rows = x.rows + m.parameters as usize;
-    }
-    next
-}
-
-// No message yet.
-fn no_messages() -> Messages
-    ensures { λ r. ⌜ r ≡ record { all = replicate maxMessages noMessage; count = 0; rows = 0 } ⌝ }
-{
-    let none = message_of(MessageNumber(0), 0, 0);
-    Messages {
-        all: [none; MAX_MESSAGES],
-        count: 0,
-        rows: 0,
-    }
-}
-
-// The messages that were read, and how reading went.
-fn declared_with(step: Step, messages: Messages) -> Declaration
-    ensures { λ r. ⌜ r ≡ record { step = step; messages = messages } ⌝ }
-{
-    Declaration {
-        step: step,
-        messages: messages,
-    }
+    r
 }
 
 // What stands after as many messages as there may be: another code.
@@ -207,44 +170,46 @@ fn no_more(request: &[u8], c: Cursor) -> Step
 }
 
 // The messages up to the first other code, with what was written before a refusal.
-fn read_each(request: &[u8], table: &mut [u32], c: Cursor) -> Declaration
-    ensures { λ r. ⌜ ReadEach (messages maxMessages [] (now (request .entry)) c) (now (table .entry)) (now (table .exit)) r ⌝ }
+fn read_each(request: &[u8], table: &mut [u32], around: &mut [u32; AROUND], c: Cursor) -> Step
+    ensures { λ r. ⌜ ReadEach (messages maxMessages [] (now (request .entry)) c) (now (table .entry)) (now (table .exit))
+        (now (around .exit)) r ⌝ }
 {
-    let mut messages = no_messages();
+    clear(around);
     let mut at = c;
-    while messages.count < MAX_MESSAGES {
+    let mut left = MAX_MESSAGES;
+    while 0 < left {
         let ByteStep::Is(x, _) = peek_byte(request, at) else {
-            return declared_with(Step::Refused(Refusal::EndsEarly, request.len()), messages);
+            return Step::Refused(Refusal::EndsEarly, request.len());
         };
         if x != MESSAGE {
-            return declared_with(Step::Next(Fit::NoKind, at), messages);
+            return Step::Next(Fit::NoKind, at);
         }
         let mut after = at;
         after.at = at.at + 1;
-        match read_message(request, table, after, messages) {
-            DeclaredStep::Is(m, next) => {
-                messages = with_message(messages, m);
-                at = next;
-            }
-            DeclaredStep::Refused(r, p) => {
-                return declared_with(Step::Refused(r, p), messages);
-            }
-        }
+        let r = read_message(request, table, around, after);
+        let Step::Next(_, next) = r else {
+            return r;
+        };
+        at = next;
+        left -= 1;
     }
-    declared_with(no_more(request, at), messages)
+    no_more(request, at)
 }
 
 // The messages up to the first other code. A refusal leaves zeros alone in the table, and no message.
-pub fn read_messages(request: &[u8], table: &mut [u32], c: Cursor) -> Declaration
-    ensures { λ r. ⌜ Declares (messages maxMessages [] (now (request .entry)) c) (now (table .entry)) (now (table .exit)) r ⌝ }
+pub fn read_messages(
+    request: &[u8],
+    table: &mut [u32],
+    around: &mut [u32; AROUND],
+    c: Cursor,
+) -> Step
+    ensures { λ r. ⌜ Declares (messages maxMessages [] (now (request .entry)) c) (now (table .entry)) (now (table .exit))
+        (now (around .exit)) r ⌝ }
 {
-    let found = read_each(request, table, c);
-    let step = found.step;
-    match step {
-        Step::Next(_, _) => found,
-        Step::Refused(r, p) => {
-            clear(table);
-            declared_with(Step::Refused(r, p), no_messages())
-        }
+    let r = read_each(request, table, around, c);
+    if let Step::Refused(_, _) = r {
+        clear(table);
+        clear(around);
     }
+    r
 }

@@ -1,179 +1,192 @@
--- What the readers are given stays so along the way.
-use Prim.Native.Nat.{ℕ, _≤_}
-use mathlib.Core.Path.{_≡_, refl, sym, _∙_, subst}
+-- What the readers of statements are given stays so along the way.
+use Prim.Native.Nat.{ℕ, zero, suc, _+_, _-_, _<_, _≤_}
+use mathlib.Core.Path.{_≡_, refl, sym, ap, _∙_}
+use mathlib.Core.Bool.{false}
 use mathlib.Core.List.{List}
 use native.Mathlib.Omega.{arith}
 use lib.ListN.{length}
+use Rattle.wire.specs.Limits.{maxStatements, maxContexts}
 use Rattle.grammar.specs.declared.Cursor.{Cursor}
 use Rattle.grammar.specs.declared.Fit.{Fit}
 use Rattle.grammar.specs.declared.Step.{Step}
 use Rattle.grammar.specs.declared.Step.the-variants as Step
-use Rattle.grammar.specs.Environment as Grammar
-use Rattle.grammar.specs.Environment.{Environment}
-use mathlib.Core.Bool.{Bool}
-use Rattle.wire.specs.Classes.{directionClass}
-use Rattle.grammar.specs.Reader.{Read, read, coded}
+use Rattle.grammar.specs.Environment.{Environment, Scope}
+use Rattle.grammar.specs.Reader.{Read, read}
 use Rattle.grammar.specs.Values.{readValue, readBoolean}
-use Rattle.grammar.specs.Statements.{keys, numberedBoolean, clauses, readStatement}
-use Rattle.grammar.specs.Demands.{Octets}
+use Rattle.grammar.specs.Statements.{clauses, readStatement}
+use Rattle.grammar.specs.Internal.Steps.{noKind}
 use Rattle.grammar.proofs.StepLaws.{step-read}
-use Rattle.grammar.proofs.Went.{Went, Passed, inside}
+use Rattle.grammar.proofs.Went.{Went, Within, inside, within-one}
+use Rattle.grammar.proofs.FewConditions.{conditions-few}
 use Rattle.grammar.proofs.SoundValues.{value-sound, boolean-sound}
-use Rattle.grammar.proofs.SoundRses.{keys-sound, numbered-sound, clauses-sound}
+use Rattle.grammar.proofs.SoundRses.{clauses-sound}
 use Rattle.grammar.proofs.SoundStatements.{statement-sound}
-use Rattle.grammar.proofs.Codes.{direction-due, coded-went}
-use Rattle.reader.proofs.Laid.{clauses-few, conditions-within}
-use Rattle.scopes.specs.declared.scope.Scope.{Scope}
-use Rattle.reader.specs.declared.cycle.Construct.{Construct}
-use Rattle.reader.specs.declared.cycle.Construct.the-variants as Construct
-use Rattle.reader.specs.Cycle.{Tables, Wrote, From, Given, GivenAfter, Descended}
-use Rattle.reader.proofs.Steps.{not-both, same-cursor}
+use Rattle.scopes.specs.Scopes.{contextsHeld}
+use Rattle.tables.specs.Tables.{Tables}
+use Rattle.tables.specs.Written.{listed, numbered}
+use Rattle.tables.proofs.Rows.{numbered-is}
+use Rattle.references.specs.Promises.{environmentOf}
+use Rattle.openings.specs.declared.heads.Coded.{Coded}
+use Rattle.openings.specs.declared.heads.StatementHead.{StatementHead}
+use Rattle.openings.specs.declared.heads.StatementHead.the-variants as StatementHead
+use Rattle.openings.specs.Heads.{statementCoded, statementHead}
+use Rattle.openings.specs.Streams.{relations}
+use Rattle.openings.specs.Openings.{Prepared, Opens}
+use Rattle.expressions.specs.declared.clauses.Clauses.{Clauses}
+use Rattle.expressions.specs.Promises.{BooleanRead, ClausesRead}
+use Rattle.reader.specs.declared.statements.Level.{Level}
+use Rattle.reader.specs.Given.{Given, Inside, Below}
+use Rattle.reader.specs.Readers.{levelBelow, StatementRead}
+use Rattle.reader.proofs.Heads.{entered}
 
--- the cursor of a reading
+-- a cursor within 01's sizes
 pub record Fine (s : List ℕ) (c : Cursor) : Type 0 where
   pub inside : c .at ≤ length s
-  pub statements-few : c .statements ≤ 512
-  pub contexts-few : c .contexts ≤ 32
-  pub conditions-few : c .conditions ≤ c .at
+  pub statements-few : c .statements ≤ maxStatements
+  pub contexts-few : c .contexts ≤ maxContexts
+  pub conditions-few : c .conditions ≤ c .statements
 
-pub record Onward (s : List ℕ) (c q : Cursor) : Type 0 where
-  pub fine : Fine s q
-  pub more : c .contexts ≤ q .contexts
-
--- a reader whose cursors stay fine
-abbrev pub Onwards : {A : Type 0} → List ℕ → (Cursor → Read A) → Type 0
-Onwards {A} s reader = (c : Cursor) (a : A) (q : Cursor) → Fine s c → reader c ≡ read a q → Onward s c q
-
-pub passed-onward : {s : List ℕ} {c q : Cursor} {bs : List ℕ} → Passed s c bs q → Fine s c → Onward s c q
-passed-onward w f = record {
-  fine = record {
-    inside = inside w (f .inside);
-    statements-few = omega (arith, w .counted, f .statements-few);
-    contexts-few = omega (arith, w .declared, f .contexts-few);
-    conditions-few = omega (arith, w .noted, w .place, f .conditions-few);
-  };
-  more = omega (arith, w .declared);
+-- after a way with no more conditions than statements
+pub fine-went : {s bs : List ℕ} {c q : Cursor} {n k m : ℕ} → Fine s c → Went s c bs n k m q → Within c q → m ≤ n → Fine s q
+fine-went f w h few = record {
+  inside = inside w (f .inside);
+  statements-few = h .statements (f .statements-few);
+  contexts-few = h .contexts (f .contexts-few);
+  conditions-few = omega (arith, w .counted, w .noted, f .conditions-few);
 }
 
--- with contexts opened, and no statement or condition
-pub opened-onward : {s : List ℕ} {c q : Cursor} {bs : List ℕ} {n : ℕ} → Went s c bs 0 n 0 q → (c .contexts ≤ 32 → q .contexts ≤ 32) → Fine s c → Onward s c q
-opened-onward w few f = record {
-  fine = record {
-    inside = inside w (f .inside);
-    statements-few = omega (arith, w .counted, f .statements-few);
-    contexts-few = few (f .contexts-few);
-    conditions-few = omega (arith, w .noted, w .place, f .conditions-few);
-  };
-  more = omega (arith, w .declared);
-}
+-- one condition more, in a statement that has none yet
+pub fine-noted : {s : List ℕ} {c q : Cursor} (p : ℕ) → Fine s c → c .conditions < c .statements → q ≡ numbered c p → Fine s q
+fine-noted {s} {c} {q} p f h e = rw (e ∙ numbered-is c (omega (arith, f .statements-few)) p) (record {
+  inside = f .inside;
+  statements-few = f .statements-few;
+  contexts-few = f .contexts-few;
+  conditions-few = omega (arith, one-listed p);
+})
+  where
+    one-listed : (p : ℕ) → length (listed p) ≤ 1
+    one-listed zero = omega arith
+    one-listed (suc p) = omega arith
 
-module _ (s : List ℕ) (octets : Octets s) (e : Environment) (sc : Grammar.Scope) (l : ℕ) where
-  pub value-onward : Onwards s (readValue l e sc s)
-  value-onward c v q f h = let i = value-sound s octets e sc l c v q h in opened-onward (i .went) (i .few) f
-
-  pub boolean-onward : Onwards s (readBoolean l e sc s)
-  boolean-onward c b q f h = let i = boolean-sound s octets e sc l c b q h in opened-onward (i .went) (i .few) f
-
-pub direction-onward : (s : List ℕ) → Onwards s (coded directionClass s)
-direction-onward s c k q f h = passed-onward (coded-went direction-due s c h) f
-
-module _ (s : List ℕ) (octets : Octets s) (e : Environment) (sc : Grammar.Scope) (l : ℕ) where
-  pub keys-onward : (n : ℕ) → Onwards s (keys n (readValue l e sc) s)
-  keys-onward n c ks q f h =
-      let i = keys-sound l e sc s (readValue l e sc) (value-sound s octets e sc l) n c ks q h in opened-onward (i .went) (i .few) f
-
-  pub clauses-onward : (n : ℕ) (such sorted : Bool) → Onwards s (clauses n (numberedBoolean (readBoolean l e sc)) (readValue l e sc) such sorted s)
-  clauses-onward n such sorted c cs q f h =
-      let i = clauses-sound l e sc s 1 (numberedBoolean (readBoolean l e sc)) (readValue l e sc)
-      (numbered-sound l e sc s (readBoolean l e sc) (boolean-sound s octets e sc l)) (value-sound s octets e sc l) n such sorted c cs q h in
-      let w = i .went in
-      record {
-        fine = record {
-          inside = inside w (f .inside);
-          statements-few = omega (arith, w .counted, f .statements-few);
-          contexts-few = i .few (f .contexts-few);
-          conditions-few = omega (arith, w .noted, w .place, f .conditions-few, clauses-few sc cs (c .at));
-        };
-        more = omega (arith, w .declared);
-      }
-
-  pub statement-onward : Onwards s (readStatement l e sc s)
-  statement-onward c t q f h =
-      let i = statement-sound s octets e l sc c t q h in
-      let w = i .went in
-      record {
-        fine = record {
-          inside = inside w (f .inside);
-          statements-few = i .within .statements (f .statements-few);
-          contexts-few = i .within .contexts (f .contexts-few);
-          conditions-few = omega (arith, w .noted, w .place, f .conditions-few, conditions-within (e .relations) sc t (c .at));
-        };
-        more = omega (arith, w .declared);
-      }
-
-module _ {s d : List ℕ} {sc : Scope} where
-  pub fine-of : {c : Cursor} {l : ℕ} → Given s d sc c l → Fine s c
-  fine-of g = record {
-    inside = g .ready .inside;
-    statements-few = g .ready .statements-few;
-    contexts-few = g .ready .contexts-few;
-    conditions-few = g .ready .conditions-few;
+module _ {s d sc : List ℕ} {c : Cursor} {l : ℕ} (g : Given s d sc c l) where
+  pub fine-of : Fine s c
+  fine-of = record {
+    inside = g .inside;
+    statements-few = g .statements-few;
+    contexts-few = g .contexts-few;
+    conditions-few = g .conditions-few;
   }
 
   -- at another cursor, with no more levels
-  pub given-at : {c q : Cursor} {l l′ : ℕ} → Given s d sc c l → Onward s c q → l′ ≤ l → Given s d sc q l′
-  given-at g o h = record {
-    ready = record {
-      short = g .ready .short;
-      is-proper = g .ready .is-proper;
-      inside = o .fine .inside;
-      statements-few = o .fine .statements-few;
-      contexts-few = o .fine .contexts-few;
-      conditions-few = o .fine .conditions-few;
-      scope-fits = omega (arith, g .ready .scope-fits, o .more);
-      sends-fit = omega (arith, g .ready .sends-fit);
-      labels-fit = omega (arith, g .ready .labels-fit);
-    };
+  pub given-at : {q : Cursor} {l′ : ℕ} → Fine s q → c .contexts ≤ q .contexts → l′ ≤ l → Given s d sc q l′
+  given-at f more h = record {
     octets = g .octets;
+    short = g .short;
+    is-proper = g .is-proper;
+    inside = f .inside;
+    statements-few = f .statements-few;
+    contexts-few = f .contexts-few;
+    conditions-few = f .conditions-few;
+    scope-whole = g .scope-whole;
+    scope-fits = omega (arith, g .scope-fits);
+    sends-fit = omega (arith, g .sends-fit);
+    labels-fit = omega (arith, g .labels-fit);
   }
 
-  pub given-below : {c : Cursor} {l l′ : ℕ} → Given s d sc c l → l′ ≤ l → Given s d sc c l′
-  given-below g h = given-at g (record { fine = fine-of g; more = omega arith }) h
+  pub given-below : {l′ : ℕ} → l′ ≤ l → Given s d sc c l′
+  given-below h = given-at fine-of (omega arith) h
 
-  pub given-next : {c : Cursor} {l l′ : ℕ} (f : Fit) → Given s d sc c l → l′ ≤ l → GivenAfter s d sc (Step.Next f c) l′
-  given-next {c} {l} {l′} f g h = record {
-    octets = g .octets;
-    given = λ f′ q e. subst (λ z. Given s d sc z l′) (sym (same-cursor refl e)) (given-below g h);
+  pub prepared : Prepared s d sc c
+  prepared = record {
+    short = g .short;
+    is-proper = g .is-proper;
+    inside = g .inside;
+    scope-whole = g .scope-whole;
+    scope-fits = g .scope-fits;
+    sends-fit = omega (arith, g .sends-fit);
+    labels-fit = omega (arith, g .labels-fit);
   }
 
-  -- after a reading
-  pub given-wrote : {A : Type 0} {reader : Cursor → Read A} {k : A → Fit} {rows : A → Tables} {t t′ : Tables} {c : Cursor} {r : Step} {l l′ : ℕ} →
-      Given s d sc c l → Wrote (reader c) k c rows t t′ r → Onwards s reader → l′ ≤ l → GivenAfter s d sc r l′
-  given-wrote {reader} {k} {c} g w o h = record {
-    octets = g .octets;
-    given = λ f q e.
-        let u = step-read k (reader c) (sym e ∙ w .answer) in
-        given-at g (o c (u .0) q (fine-of g) (u .1)) h;
-  }
+  -- under a scope that was opened
+  pub given-opened : {A : Type 0} {x : Read A} {ct ct′ sc′ : List ℕ} {row : ℕ} {rows : A → List ℕ} {below : A → Scope} {opened : A → ℕ}
+      {r : Step} {a : A} {q : Cursor} {l′ : ℕ} → Opens x d ct row rows below opened ct′ sc sc′ r → x ≡ read a q →
+      q .contexts ≡ c .contexts + opened a → Fine s q → suc l′ ≤ l → Given s d sc′ q l′
+  given-opened {sc′} {opened} {a} w e more f h =
+      let held : contextsHeld sc′ ≡ contextsHeld sc + opened a = rw e at (w .count-below) in
+      record {
+        octets = g .octets;
+        short = g .short;
+        is-proper = g .is-proper;
+        inside = f .inside;
+        statements-few = f .statements-few;
+        contexts-few = f .contexts-few;
+        conditions-few = f .conditions-few;
+        scope-whole = w .whole-below;
+        scope-fits = omega (arith, g .scope-fits, held, more);
+        sends-fit = omega (arith, g .sends-fit, w .sends-below);
+        labels-fit = omega (arith, g .labels-fit, w .labels-below);
+      }
 
-  pub given-on : {A : Type 0} {reader : Cursor → Read A} {k : A → Fit} {rows : Cursor → A → Tables} {t t′ : Tables} {from r : Step} {l l′ : ℕ} →
-      GivenAfter s d sc from l → From from reader k rows t t′ r → Onwards s reader → l′ ≤ l → GivenAfter s d sc r l′
-  given-on {A} {reader} {k} {rows} {t} {t′} {from} {r} {l} {l′} g w o h = go from refl
-    where
-      go : (x : Step) → from ≡ x → GivenAfter s d sc r l′
-      go (Step.Next f c) e = given-wrote {reader = reader} (g .given f c e) (w .goes f c e) o h
-      go (Step.Refused n p) e = record { octets = g .octets; given = λ f q i. not-both i (w .passes n p e) }
+-- ---- under a code
 
-  pub given-again : {A : Type 0} {reader : Cursor → Read A} {k : A → Fit} {rows : Cursor → A → Tables} {t t′ : Tables} {from r : Step} {l : ℕ} →
-      GivenAfter s d sc from l → From from reader k rows t t′ r → Onwards s reader → GivenAfter s d sc r l
-  given-again {l} g w o = given-on g w o (refl-le l)
-    where
-      refl-le : (n : ℕ) → n ≤ n
-      refl-le n = omega arith
+-- the code of a statement was read
+pub coded-inside : {s d sc : List ℕ} {c : Cursor} {l : ℕ} {h : StatementHead} {x : Coded} → Given s d sc c l →
+    h ≡ statementHead (c .at) (statementCoded l s c) → h ≡ StatementHead.Is x → Inside s d sc x l
+coded-inside {s} {c} {l} g u i =
+    let o = entered s c l u i in
+    record {
+      given = given-at g (fine-went (fine-of g) (o .went) (o .within) (omega arith)) (omega (arith, o .went .declared)) (omega arith);
+      here = o .went .place ∙ rw (o .place);
+      deep = o .deep;
+      noted = omega (arith, o .went .counted, o .went .noted, g .conditions-few);
+    }
 
-  -- after a part one level down
-  pub given-descended : (part : Construct) (e : Environment) (n : Grammar.Scope) (m parent : ℕ) (t t′ : Tables) (from r : Step) {l : ℕ} →
-      GivenAfter s d sc from l → Descended part e n m parent s from t t′ r → GivenAfter s d sc r l
-  given-descended Construct.Statement e n m parent t t′ from r g w = given-again g w (statement-onward s (g .octets) e n m)
-  given-descended Construct.Boolean e n m parent t t′ from r g w = given-again g w (boolean-onward s (g .octets) e n m)
-  given-descended Construct.Value e n m parent t t′ from r g w = given-again g w (value-onward s (g .octets) e n m)
+-- the level of what stands under it
+module _ (level : Level) {s d sc : List ℕ} {x : Coded} {inner : Level} (i : Inside s d sc x (level .left)) (e : inner ≡ levelBelow (x .after) level) where
+  pub below-given : Given s d sc (x .after) (inner .left) × (inner .parent ≤ maxStatements)
+  below-given = rw e (given-below (i .given) (omega arith), i .given .statements-few)
+
+  pub below-inside : Below s d sc x inner
+  below-inside =
+      let deep : level .left - 1 + 1 ≡ level .left = omega (arith, i .deep) in
+      rw e (record { inside = rw deep i; parent = refl })
+
+-- the relations are those of the dictionary
+pub relations-known : (d around : List ℕ) → environmentOf d around .relations ≡ relations d
+unfolding environmentOf
+relations-known d around = refl
+
+-- ---- after a part
+
+-- a part with conditions, which get their numbers after it
+pub noted-given : {s d sc bs : List ℕ} {c q q₁ : Cursor} {l n : ℕ} (p : ℕ) → Given s d sc c l → c .conditions < c .statements →
+    Went s c bs 0 n 0 q → (c .contexts ≤ maxContexts → q .contexts ≤ maxContexts) → q₁ ≡ numbered q p → Given s d sc q₁ l
+noted-given {q} {q₁} p g h w few e =
+    let fine = fine-went (fine-of g) w (within-one w few) (omega arith) in
+    let number = e ∙ numbered-is q (omega (arith, fine .conditions-few, fine .statements-few)) p in
+    let same : q₁ .contexts ≡ q .contexts = ap (λ (z : Cursor). z .contexts) number in
+    given-at g (fine-noted p fine (omega (arith, w .counted, w .noted)) e) (omega (arith, w .declared)) (omega arith)
+
+module _ {s d sc : List ℕ} {c : Cursor} {l : ℕ} (g : Given s d sc c l) (e : Environment) (sc′ : Scope) where
+  pub statement-given : (level : Level) {t t′ : Tables} {r : Step} {f : Fit} {q : Cursor} → StatementRead level e sc′ s c t t′ r →
+      r ≡ Step.Next f q → Given s d sc q l
+  statement-given level {q} w i =
+      let u = step-read noKind (readStatement (level .left) e sc′ s c) (sym i ∙ w .answer) in
+      let o = statement-sound s (g .octets) e (level .left) sc′ c (u .0) q (u .1) in
+      given-at g (fine-went (fine-of g) (o .went) (o .within) (conditions-few e sc′ (u .0) (c .at) (o .allowed)))
+      (omega (arith, o .went .declared)) (omega arith)
+
+  pub boolean-given : (l′ : ℕ) {ct ct₁ : List ℕ} {r : Step} {f : Fit} {q q₁ : Cursor} → c .conditions < c .statements →
+      BooleanRead l′ e sc′ s c ct ct₁ r → r ≡ Step.Next f q → q₁ ≡ numbered q (c .at) → Given s d sc q₁ l
+  boolean-given l′ {q} h w i =
+      let u = step-read noKind (readBoolean l′ e sc′ s c) (sym i ∙ w .answer) in
+      let o = boolean-sound s (g .octets) e sc′ l′ c (u .0) q (u .1) in
+      noted-given (c .at) g h (o .went) (o .few)
+
+  pub clauses-given : (l′ : ℕ) {ct ct₁ : List ℕ} {a : Clauses} {f : Fit} {q q₁ : Cursor} → c .conditions < c .statements →
+      ClausesRead l′ e sc′ s c ct ct₁ a → a .step ≡ Step.Next f q → q₁ ≡ numbered q (a .such) → Given s d sc q₁ l
+  clauses-given l′ {a} {q} h w i =
+      let u = step-read noKind (clauses 3 (readBoolean l′ e sc′) (readValue l′ e sc′) false false s c) (sym i ∙ w .wrote .answer) in
+      let o = clauses-sound l′ e sc′ s (readBoolean l′ e sc′) (readValue l′ e sc′) (boolean-sound s (g .octets) e sc′ l′)
+      (value-sound s (g .octets) e sc′ l′) 3 false false c (u .0) q (u .1) in
+      noted-given (a .such) g h (o .went) (o .few)

@@ -1,14 +1,14 @@
 -- What reading answers, from what was judged before it and from what the reader of the whole request gives.
-use Prim.Native.Nat.{ℕ, suc, _≤_, _<_}
-use mathlib.Core.Path.{_≡_, refl, sym, ap, subst, _∙_}
+use Prim.Native.Nat.{ℕ, _≤_}
+use mathlib.Core.Path.{_≡_, refl, sym, ap, _∙_}
 use mathlib.Core.Bool.{Bool, true, false, cond, _&&_}
 use mathlib.Core.List.{List}
-use native.Mathlib.Omega.{arith}
 use lib.Dec.{leb}
 use lib.ListN.{length, replicate, length-replicate}
 use lib.Seq.{sets}
-use borrow.Author.Tests.{le-leb, lt-leb, leb-true, leb-false}
-use Rattle.dictionary.specs.Dictionary.{Relation, Checked, proper, atFault, dictionary}
+use borrow.Author.Tests.{leb-true}
+use Rattle.wire.specs.Limits.{maxRequestBytes, statementTableNumbers, parameterTableNumbers, contextTableNumbers}
+use Rattle.dictionary.specs.Dictionary.{Checked, proper, atFault, dictionary}
 use Rattle.dictionary.specs.Internal.Answers.{answerOf}
 use Rattle.dictionary.specs.declared.check.DictionaryCheck.the-variants as DictionaryCheck
 use Rattle.grammar.specs.declared.Cursor.{Cursor}
@@ -20,22 +20,23 @@ use Rattle.grammar.specs.declared.Step.the-variants as Step
 use Rattle.grammar.specs.declared.ReadAnswer.{ReadAnswer}
 use Rattle.grammar.specs.declared.ReadAnswer.the-variants.{Accepted, Refused}
 use Rattle.grammar.specs.Tree.{Request}
-use Rattle.grammar.specs.Sizes.{statementsCount, parameterCount, contextsCount}
+use Rattle.grammar.specs.Sizes.{parameterCount}
 use Rattle.grammar.specs.Rows.{requestStatementRows, parameterRows, requestContextRows}
 use Rattle.grammar.specs.Conditions.{requestConditions}
 use Rattle.grammar.specs.Reader.{Read, read, refused}
-use Rattle.grammar.specs.Reading.{request, start, room, reading, answer, relationsOf, statementTable, parameterTable, contextTable}
+use Rattle.grammar.specs.Reading.{request, start, room, beside, reading, answer, relationsOf, statementTable, parameterTable, contextTable}
 use Rattle.grammar.specs.Internal.Steps.{noKind}
 use Rattle.grammar.specs.Demands.{Octets}
-use Rattle.grammar.specs.Answered.{Answered, readingOf}
 use Rattle.grammar.proofs.StepLaws.{absurd-eq, step-read, step-refused}
+use Rattle.grammar.proofs.Went.{both}
 use Rattle.grammar.proofs.Sound.{request-sound}
 use Rattle.grammar.proofs.FilledTables.{statements-laid, parameters-laid, contexts-laid}
 use Rattle.reader.specs.declared.before.Before.{Before}
 use Rattle.reader.specs.declared.before.Before.the-variants as Before
 use Rattle.reader.specs.declared.request.Whole.{Whole}
-use Rattle.reader.specs.Promises.{after, relations}
-use Rattle.reader.specs.Cycle.{Tables, tables, places}
+use Rattle.openings.specs.Streams.{relations}
+use Rattle.tables.specs.Tables.{tables}
+use Rattle.reader.specs.Readers.{places}
 use Rattle.reader.specs.Request.{Requested, AnsweredNoting, conditionTable, Beside, Cleared, besideAnswer, beforeOf}
 
 -- ---- the dictionary's answer
@@ -52,65 +53,56 @@ fault-stops (atFault q) p e = let u : p ≡ q = cc in rw u
 
 module _ (s d : List ℕ) (n m k : ℕ) where
   -- what holds where reading goes on
-  pub record Goes : Type 0 where
-    pub statements-room : 2048 ≤ n
-    pub parameters-room : 1536 ≤ m
-    pub contexts-room : 160 ≤ k
-    pub short : length s ≤ 65535
+  record Goes : Type 0 where
+    pub statements-room : statementTableNumbers ≤ n
+    pub parameters-room : parameterTableNumbers ≤ m
+    pub contexts-room : contextTableNumbers ≤ k
+    pub short : length s ≤ maxRequestBytes
     pub is-proper : dictionary d ≡ proper (relations d)
 
-  pub goes : beforeOf s d n m k ≡ Before.Go → Goes
+  goes : beforeOf s d n m k ≡ Before.Go → Goes
   unfolding beforeOf
-  goes h = by (leb 2048 n) (leb 1536 m) (leb 160 k) (leb (length s) 65535) (dictionary d) refl refl refl refl refl h
+  goes h = by (room n m k) (leb (length s) maxRequestBytes) (dictionary d) refl refl refl h
     where
-      by : (a b c e : Bool) (x : Checked) → leb 2048 n ≡ a → leb 1536 m ≡ b → leb 160 k ≡ c → leb (length s) 65535 ≡ e → dictionary d ≡ x →
-          cond (a && b && c) (cond e (besideAnswer x) (Before.Stop RequestTooLong 0)) (Before.Stop TablesTooShort 0) ≡ Before.Go → Goes
-      by true true true true (proper rs) i j l o q u =
+      by : (a b : Bool) (x : Checked) → room n m k ≡ a → leb (length s) maxRequestBytes ≡ b → dictionary d ≡ x →
+          cond a (cond b (besideAnswer x) (Before.Stop RequestTooLong 0)) (Before.Stop TablesTooShort 0) ≡ Before.Go → Goes
+      by true true (proper rs) i j q u =
+          let v = both (leb statementTableNumbers n && leb parameterTableNumbers m) (leb contextTableNumbers k) i in
+          let w = both (leb statementTableNumbers n) (leb parameterTableNumbers m) (v .0) in
           record {
-            statements-room = leb-true 2048 n i;
-            parameters-room = leb-true 1536 m j;
-            contexts-room = leb-true 160 k l;
-            short = leb-true (length s) 65535 o;
+            statements-room = leb-true statementTableNumbers n (w .0);
+            parameters-room = leb-true parameterTableNumbers m (w .1);
+            contexts-room = leb-true contextTableNumbers k (v .1);
+            short = leb-true (length s) maxRequestBytes j;
             is-proper = q ∙ ap proper (sym (ap relationsOf q));
           }
-      by true true true true (atFault p) i j l o q u = absurd-eq (cc)
-      by true true true false x i j l o q u = absurd-eq (cc)
-      by true true false e x i j l o q u = absurd-eq (cc)
-      by true false c e x i j l o q u = absurd-eq (cc)
-      by false b c e x i j l o q u = absurd-eq (cc)
+      by true true (atFault p) i j q u = absurd-eq (cc)
+      by true false x i j q u = absurd-eq (cc)
+      by false b x i j q u = absurd-eq (cc)
 
-  pub answer-goes : Goes → answer s d n m k ≡ request (relations d) s start
-  unfolding answer reading
-  answer-goes g =
-      rw (
-        answer,
-        le-leb 2048 n (g .statements-room),
-        le-leb 1536 m (g .parameters-room),
-        le-leb 160 k (g .contexts-room),
-        reading,
-        le-leb (length s) 65535 (g .short),
-        g .is-proper,
-      )
+  -- the answer by what was judged
+  abbrev judged : Checked → Before → Read Request
+  judged x Before.Go = request (relationsOf x) s start
+  judged x (Before.Stop r p) = refused r p
 
-  pub answer-stops : (x : Refusal) (p : ℕ) → beforeOf s d n m k ≡ Before.Stop x p → answer s d n m k ≡ refused x p
+  by-judged : {b : Before} → beforeOf s d n m k ≡ b → answer s d n m k ≡ judged (dictionary d) b
   unfolding beforeOf answer reading
-  answer-stops x p h = by (leb 2048 n) (leb 1536 m) (leb 160 k) (leb (length s) 65535) (dictionary d) refl refl refl refl refl h
+  by-judged h = by (room n m k) (leb (length s) maxRequestBytes) (dictionary d) ∙ ap (judged (dictionary d)) h
     where
-      by : (a b c e : Bool) (y : Checked) → leb 2048 n ≡ a → leb 1536 m ≡ b → leb 160 k ≡ c → leb (length s) 65535 ≡ e → dictionary d ≡ y →
-          cond (a && b && c) (cond e (besideAnswer y) (Before.Stop RequestTooLong 0)) (Before.Stop TablesTooShort 0) ≡ Before.Stop x p →
-          answer s d n m k ≡ refused x p
-      by true true true true (proper rs) i j l o q u = absurd-eq (cc)
-      by true true true true (atFault z) i j l o q u = rw (answer, i, j, l, reading, o, q) (cc)
-      by true true true false y i j l o q u = rw (answer, i, j, l, reading, o) (cc)
-      by true true false e y i j l o q u = rw (answer, i, j, l) (cc)
-      by true false c e y i j l o q u = rw (answer, i, j) (cc)
-      by false b c e y i j l o q u = rw (answer, i) (cc)
+      by : (a b : Bool) (x : Checked) →
+          cond a (cond b (beside x s) (refused RequestTooLong 0)) (refused TablesTooShort 0) ≡
+          judged x (cond a (cond b (besideAnswer x) (Before.Stop RequestTooLong 0)) (Before.Stop TablesTooShort 0))
+      by true true (proper rs) = refl
+      by true true (atFault p) = refl
+      by true false x = refl
+      by false b x = refl
 
 -- ---- the answers
 
 module _ (s d st pa ct nd : List ℕ) where
   -- a refusal, with zeros in the tables
-  pub refuses : Octets s → Octets d → (st′ pa′ ct′ nd′ : List ℕ) (x : Refusal) (p : ℕ) → answer s d (length st) (length pa) (length ct) ≡ refused x p →
+  pub refuses : Octets s → Octets d → (st′ pa′ ct′ nd′ : List ℕ) (x : Refusal) (p : ℕ) →
+      answer s d (length st) (length pa) (length ct) ≡ refused x p →
       st′ ≡ replicate (length st) 0 → pa′ ≡ replicate (length pa) 0 → ct′ ≡ replicate (length ct) 0 → nd′ ≡ replicate (length nd) 0 →
       AnsweredNoting s d st pa ct nd st′ pa′ ct′ nd′ (Refused x p)
   unfolding statementTable parameterTable contextTable conditionTable
@@ -131,6 +123,9 @@ module _ (s d st pa ct nd : List ℕ) where
     was : Goes s d (length st) (length pa) (length ct)
     was = goes s d (length st) (length pa) (length ct) (h .before-goes)
 
+    is-request : answer s d (length st) (length pa) (length ct) ≡ request (relations d) s start
+    is-request = by-judged s d (length st) (length pa) (length ct) (h .before-goes)
+
     pub beside-cleared : Beside s d pa
     beside-cleared =
         record { short = was .short; is-proper = was .is-proper; octets = h .request-octets; room = was .parameters-room }
@@ -138,15 +133,13 @@ module _ (s d st pa ct nd : List ℕ) where
     module _ (st′ pa′ ct′ nd′ : List ℕ) (w : Whole)
         (g : Requested (request (relations d) s start) d pa pa′ (tables st ct nd) (tables st′ ct′ nd′) w) where
       pub refuses-whole : (x : Refusal) (p : ℕ) → w .step ≡ Step.Refused x p → answer s d (length st) (length pa) (length ct) ≡ refused x p
-      refuses-whole x p e =
-          answer-goes s d (length st) (length pa) (length ct) was ∙
-          step-refused noKind (request (relations d) s start) (sym e ∙ g .answer-is)
+      refuses-whole x p e = is-request ∙ step-refused noKind (request (relations d) s start) (sym e ∙ g .answer-is)
 
       accepted-as : (r : Request) (c : Cursor) → request (relations d) s start ≡ read r c →
           AnsweredNoting s d st pa ct nd st′ pa′ ct′ nd′ (Accepted (c .statements) (w .parameters) (c .contexts))
       unfolding statementTable parameterTable contextTable conditionTable
       accepted-as r c i =
-          let a = answer-goes s d (length st) (length pa) (length ct) was ∙ i in
+          let a = is-request ∙ i in
           let v = request-sound s (h .request-octets) (was .short) (relations d) r c i in
           let filled = rw i at (g .filled) in
           let counts : w .parameters ≡ parameterCount (r .messages) = rw i at (g .rows-are) in
@@ -211,4 +204,5 @@ module _ (s d st pa ct nd st₀ pa₀ ct₀ nd₀ : List ℕ) (a : st ≡ replic
       let i = cleared-length st st₀ a in
       let j = cleared-length pa pa₀ b in
       let k = cleared-length ct ct₀ c in
-      refuses s d st₀ pa₀ ct₀ nd₀ o o′ st pa ct nd x p (rw (i, j, k) at (answer-stops s d (length st) (length pa) (length ct) x p h)) a b c f
+      let e = by-judged s d (length st) (length pa) (length ct) h in
+      refuses s d st₀ pa₀ ct₀ nd₀ o o′ st pa ct nd x p (rw (i, j, k) at e) a b c f

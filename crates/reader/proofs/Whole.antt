@@ -1,220 +1,180 @@
 -- A whole request, from what its parts give.
-use Prim.Native.Nat.{ℕ, suc, _+_, _*_, _≤_, _<_}
+use Prim.Native.Nat.{ℕ, _-_, _≤_}
 use mathlib.Core.Path.{_≡_, refl, sym, ap, subst, _∙_}
-use mathlib.Core.List.{List, [], _∷_, _++_}
+use mathlib.Core.List.{List, [], _∷_}
 use native.Mathlib.Omega.{arith}
 use lib.ListN.{length, length-append}
-use lib.Seq.{sets}
 use Rattle.wire.specs.Codes as blr
-use Rattle.wire.specs.Lists.{sumOf}
-use Rattle.wire.specs.Words.{byteAt}
-use Rattle.dictionary.specs.Dictionary.{Relation, proper, dictionary}
+use Rattle.wire.specs.Limits.{maxRequestBytes, maxMessages, maxDepth}
+use Rattle.dictionary.specs.Dictionary.{Relation}
 use Rattle.grammar.specs.declared.Cursor.{Cursor}
 use Rattle.grammar.specs.declared.Refusal.{Refusal}
+use Rattle.grammar.specs.declared.Refusal.the-variants.{BadVersion, NotDue}
 use Rattle.grammar.specs.declared.Fit.{Fit}
 use Rattle.grammar.specs.declared.Fit.the-variants as Fit
 use Rattle.grammar.specs.declared.Step.{Step}
 use Rattle.grammar.specs.declared.Step.the-variants as Step
-use Rattle.grammar.specs.Tree as Tree
-use Rattle.grammar.specs.Tree.{Request, Statements}
+use Rattle.grammar.specs.Tree.{Message, Statements, Request}
 use Rattle.grammar.specs.Bytes.{messagesBytes, statementsBytes}
-use Rattle.grammar.specs.Environment as Grammar
-use Rattle.grammar.specs.Environment.{Environment}
-use Rattle.grammar.specs.Sizes.{parameterCount, statementsCount, contextsCount}
-use Rattle.grammar.specs.Rows.{statementsStart, outerEnd, statementsRows, requestStatementRows, parameterRows, contextsRows, requestContextRows}
-use Rattle.grammar.specs.Conditions.{statementsConditions, requestConditions}
-use Rattle.grammar.specs.declared.Refusal.the-variants.{BadVersion, NotDue}
-use Rattle.grammar.specs.Reader.{Read, read, refused, Reader, onRead, code, countStatement}
+use Rattle.grammar.specs.Environment.{Environment, outermost}
+use Rattle.grammar.specs.Rows.{statementsStart, outerEnd, statementsRows, requestStatementRows, requestContextRows}
+use Rattle.grammar.specs.Conditions.{requestConditions}
+use Rattle.grammar.specs.Reader.{Read, read, refused, onRead, code, countStatement}
 use Rattle.grammar.specs.Messages.{messages}
-use Rattle.grammar.specs.Statements.{many}
 use Rattle.grammar.specs.Reading.{outerStatements, nothingMore, request, start}
 use Rattle.grammar.specs.Internal.Steps.{stepOf, noKind}
-use Rattle.grammar.specs.Demands.{Octets}
-use Rattle.grammar.proofs.StepLaws.{absurd-eq, step-read}
-use Rattle.grammar.proofs.Went.{Went, inside, undo, code-went, counted-went, onward}
+use Rattle.grammar.proofs.StepLaws.{step-read, step-refused}
+use Rattle.grammar.proofs.Went.{Went, inside, undo, code-went, counted-went}
 use Rattle.grammar.proofs.SoundMessages.{messages-sound}
 use Rattle.grammar.proofs.Sound.{outer-sound}
-use Rattle.scopes.specs.declared.scope.Scope.{Scope}
 use Rattle.scopes.specs.Scopes.{scopeOf}
-use Rattle.messages.specs.declared.reading.Declaration.{Declaration}
-use Rattle.messages.specs.Entries.{messagesOf, declaredIn, entriesFrom}
+use Rattle.scopes.proofs.Scopes.{zeros, nothing-held, no-contexts, no-sends, no-labels}
+use Rattle.messages.specs.Entries.{rowsHeld}
 use Rattle.messages.specs.Declaring.{Declares}
-use Rattle.messages.proofs.Held.{MessageScales, messages-held, messages-scales}
 use Rattle.references.specs.Promises.{environmentOf}
+use Rattle.tables.specs.Tables.{Tables, tables, laid, Wrote}
+use Rattle.tables.proofs.Laid.{row-over}
+use Rattle.tables.proofs.Rows.{statement-row}
+use Rattle.tables.proofs.Chains.{by-read}
+use Rattle.openings.specs.Streams.{relations}
 use Rattle.reader.specs.declared.request.Whole.{Whole}
-use Rattle.reader.specs.Promises.{after, relations, Ready}
-use Rattle.reader.specs.Cycle.{Tables, tables, laid, Wrote, From, Given, GivenAfter, innerAt, statementsTables, places, stepped, onStep, Ends}
-use Rattle.reader.proofs.Laid.{row-over}
-use Rattle.reader.specs.Request.{Requested, requestTables, over, headOf, bodyOf, endOf, Beside, Begun, Outermost}
+use Rattle.reader.specs.declared.statements.Level.{Level}
+use Rattle.reader.specs.Given.{Given}
+use Rattle.reader.specs.Readers.{StatementsRead, statementsTables}
+use Rattle.reader.specs.Request.{Requested, requestTables, over, onStep, outerRow, headOf, bodyOf, endOf, Beside, Begun}
 
-pub outermost-is : (d : List ℕ) (sc : Scope) → Outermost sc → scopeOf d sc ≡ Grammar.outermost
-unfolding scopeOf
-outermost-is d sc o = rw (o .none, o .no-update, o .no-sends, o .no-labels)
+-- a refusal leaves the tables free
+pub whole-refused : {x : Read Request} {d pt pt′ : List ℕ} {t t′ : Tables} {r : Whole} (n : Refusal) (p : ℕ) → x ≡ refused n p →
+    r .step ≡ Step.Refused n p → Requested x d pt pt′ t t′ r
+whole-refused n p e u = record { answer-is = rw (e, u); rows-are = rw e; parameters-filled = rw e; filled = rw e }
+
+-- ---- after the messages
+
+-- the level of the statements in the outer begin
+abbrev outer : Level
+outer = record { left = maxDepth - 1; parent = 1 }
 
 module _ (s d pt : List ℕ) (c : Cursor) (begun : Begun s d pt c) where
-  -- the cursor after the messages
-  module _ (ms : List Tree.Message) (c₁ : Cursor) (e : messages 16 [] s c ≡ read ms c₁) where
+  abbrev declared : Read (List Message)
+  declared = messages maxMessages [] s c
+
+  abbrev around : List Message → Environment
+  around ms = record { relations = relations d; messages = ms }
+
+  module _ (ms : List Message) (c₁ : Cursor) (e : declared ≡ read ms c₁) where
     after-messages : Went s c (messagesBytes ms) 0 0 0 c₁
     after-messages =
-        let w = messages-sound s (begun .beside .octets) 16 [] c ms c₁ e in
+        let w = messages-sound s (begun .beside .octets) maxMessages [] c ms c₁ e in
         subst (λ x. Went s c (messagesBytes x) 0 0 0 c₁) (sym (w .whole)) (w .went)
 
-    few-parameters : parameterCount ms ≤ 256
-    unfolding sumOf
-    few-parameters = messages-sound s (begun .beside .octets) 16 [] c ms c₁ e .parameters (omega arith)
+    within : c₁ .at ≤ length s
+    within = inside after-messages (omega (arith, begun .place, begun .inside))
 
-    pub ready-after : (sc : Scope) → Outermost sc → Given s d sc c₁ 31
-    ready-after sc o =
-        let w = after-messages in
-        record {
-          ready = record {
+    -- of the statements up to c₂
+    module _ (ss : Statements) (c₂ : Cursor) (f : outerStatements (relations d) ms s c₁ ≡ read ss c₂) where
+      abbrev whole : Request
+      whole = record { messages = ms; statements = ss }
+
+      starts : c₁ .at ≡ statementsStart whole
+      starts = omega (arith, after-messages .place, begun .place)
+
+      ends : c₂ .at ≡ outerEnd whole
+      ends =
+          let w = outer-sound s (begun .beside .octets) (relations d) ms c₁ ss c₂ f .went in
+          let l = length-append (statementsBytes ss) (blr.end ∷ []) in
+          omega (arith, w .place, starts, l)
+
+      ends-within : c₂ .at ≤ maxRequestBytes
+      ends-within =
+          let w = outer-sound s (begun .beside .octets) (relations d) ms c₁ ss c₂ f .went in
+          omega (arith, inside w within, begun .beside .short)
+
+      -- the rows of the statements, then that of the outer begin
+      rows-whole : (t t₁ : Tables) → t₁ ≡ laid t c₁ (statementsTables (around ms) outermost 1 c₁ ss) →
+          tables (outerRow (t₁ .statements) (Step.Next Fit.NoKind c₂)) (t₁ .contexts) (t₁ .conditions) ≡ over t (requestTables d whole)
+      unfolding requestStatementRows requestContextRows requestConditions
+      rows-whole t t₁ h =
+          let w = after-messages in
+          let n : c₁ .statements ≡ 1 = omega (arith, w .counted, begun .statements) in
+          let k : c₁ .contexts ≡ 0 = omega (arith, w .declared, begun .contexts) in
+          let q : c₁ .conditions ≡ 0 = omega (arith, w .noted, begun .conditions) in
+          let row = statement-row (t₁ .statements) 0 1 blr.begin 0 (c₂ .at) (omega arith) (omega arith) (omega arith) ends-within in
+          rw (
+            row,
+            h,
+            n,
+            k,
+            q,
+            starts,
+            ends,
+            row-over (t .statements) (statementsRows ss (statementsStart whole) 1 1) 0 4 1 blr.begin 0 (outerEnd whole) refl,
+          )
+
+  -- ---- the whole, from the answers of the parts
+
+  module _ (pt₁ a : List ℕ) (m : Step) (h : Declares declared pt pt₁ a m) where
+    -- the messages were refused
+    pub undeclared : {n : Refusal} {p : ℕ} → m ≡ Step.Refused n p → (t : Tables) →
+        Requested (bodyOf (relations d) s c) d pt pt₁ t t (record { step = m; parameters = 0 })
+    unfolding bodyOf
+    undeclared {n} {p} e t = let u = step-refused noKind declared (sym e ∙ h .answer) in whole-refused n p (rw (bodyOf, u)) e
+
+    module _ (f : Fit) (c₁ : Cursor) (e : m ≡ Step.Next f c₁) where
+      was-read : (ms : List Message) × (declared ≡ read ms c₁) × (f ≡ noKind ms)
+      was-read = step-read noKind declared (sym e ∙ h .answer)
+
+      -- what the reader of the statements is given
+      pub given-after : Given s d zeros c₁ (outer .left)
+      given-after =
+          let w = after-messages (was-read .0) c₁ (was-read .1) in
+          record {
+            octets = begun .beside .octets;
             short = begun .beside .short;
             is-proper = begun .beside .is-proper;
-            inside = inside w (omega (arith, begun .place, begun .inside));
+            inside = within (was-read .0) c₁ (was-read .1);
             statements-few = omega (arith, w .counted, begun .statements);
             contexts-few = omega (arith, w .declared, begun .contexts);
             conditions-few = omega (arith, w .noted, begun .conditions);
-            scope-fits = omega (arith, o .none);
-            sends-fit = omega (arith, o .no-sends);
-            labels-fit = omega (arith, o .no-labels);
-          };
-          octets = begun .beside .octets;
-        }
+            scope-whole = refl;
+            scope-fits = omega (arith, no-contexts);
+            sends-fit = omega (arith, no-sends);
+            labels-fit = omega (arith, no-labels);
+          }
 
-    -- what stands around the statements
-    around : (x : Declaration) (pt₁ : List ℕ) → Declares (messages 16 [] s c) pt pt₁ x →
-        environmentOf d pt₁ (x .messages) ≡ record { relations = relations d; messages = ms }
-    unfolding environmentOf
-    around x pt₁ h =
-        let filled : pt₁ ≡ sets pt 0 (parameterRows ms) = rw e at (h .filled) in
-        let entries : declaredIn (x .messages) ≡ entriesFrom 0 ms = rw e at (h .entries) in
-        let scales = messages-scales s (begun .beside .octets) 16 [] c e tt in
-        let held = messages-held ms (x .messages) pt entries (begun .beside .room) few-parameters scales in
-        ap (λ l. record { relations = relations d; messages = l }) (ap (λ l. messagesOf l (x .messages)) filled ∙ held)
+      module _ (t t₁ : Tables) (r : Step) (w : StatementsRead outer (environmentOf d a) (scopeOf d zeros) s c₁ t t₁ r) where
+        abbrev Goal : Type 0
+        Goal =
+            Requested (bodyOf (relations d) s c) d pt pt₁ t (tables (outerRow (t₁ .statements) r) (t₁ .contexts) (t₁ .conditions))
+            (record { step = onStep r (λ f q. stepOf noKind (endOf s q)); parameters = rowsHeld a })
 
-  -- ---- the end of a request
+        -- the statements were read beside the messages
+        by-messages : (ms : List Message) → declared ≡ read ms c₁ → Goal
+        unfolding bodyOf environmentOf outerStatements
+        by-messages ms i =
+            let known : Wrote (outerStatements (relations d) ms s c₁) noKind c₁ (statementsTables (around ms) outermost 1 c₁) t t₁ r =
+            rw (rw i at (h .held), nothing-held d) at w in
+            by-read (outerStatements (relations d) ms s c₁)
+            (λ ss c₂ j.
+            let u : r ≡ Step.Next Fit.NoKind c₂ = rw j at (known .answer) in
+            let v = rw j at (known .filled) in
+            by-read (endOf s c₂)
+            (λ x c₃ k.
+            let b : bodyOf (relations d) s c ≡ read (record { messages = ms; statements = ss }) c₃ = rw (bodyOf, i, j, k) in
+            record {
+              answer-is = rw (b, u, k);
+              rows-are = rw (b, rw i at (h .rows));
+              parameters-filled = rw (b, rw i at (h .filled));
+              filled = rw (b, u) (rows-whole ms c₁ i ss c₂ j t t₁ v);
+            })
+            (λ n p k. whole-refused n p (rw (bodyOf, i, j, k)) (rw (u, k))))
+            (λ n p j. let u : r ≡ Step.Refused n p = rw j at (known .answer) in whole-refused n p (rw (bodyOf, i, j)) (rw u))
 
-  module _ (ms : List Tree.Message) (c₁ : Cursor) (e : messages 16 [] s c ≡ read ms c₁)
-      (ss : Statements) (c₂ : Cursor) (f : outerStatements (relations d) ms s c₁ ≡ read ss c₂) where
-    starts : c₁ .at ≡ statementsStart (record { messages = ms; statements = ss })
-    starts = omega (arith, after-messages ms c₁ e .place, begun .place)
-
-    ends : c₂ .at ≡ outerEnd (record { messages = ms; statements = ss })
-    ends =
-        let w = outer-sound s (begun .beside .octets) (relations d) ms c₁ ss c₂ f .went in
-        let l = length-append (statementsBytes ss) (blr.end ∷ []) in
-        omega (arith, w .place, starts, l)
-
-    -- the tables with the rows of the statements and of the outer begin
-    rows-whole : (t : Tables) →
-        tables (sets (sets (t .statements) (c₁ .statements * 4) (statementsRows ss (c₁ .at) (c₁ .statements) 1)) 0 (1 ∷ blr.begin ∷ 0 ∷ c₂ .at ∷ []))
-        (sets (t .contexts) (c₁ .contexts * 5) (contextsRows (relations d) Grammar.outermost ss (c₁ .at)))
-        (sets (t .conditions) (c₁ .conditions) (places (statementsConditions (relations d) Grammar.outermost ss (c₁ .at))))
-        ≡ over t (requestTables d (record { messages = ms; statements = ss }))
-    unfolding requestStatementRows requestContextRows requestConditions
-    rows-whole t =
-        let w = after-messages ms c₁ e in
-        let n : c₁ .statements ≡ 1 = omega (arith, w .counted, begun .statements) in
-        let k : c₁ .contexts ≡ 0 = omega (arith, w .declared, begun .contexts) in
-        let q : c₁ .conditions ≡ 0 = omega (arith, w .noted, begun .conditions) in
-        rw (n, k, q, starts, ends, row-over (t .statements) (statementsRows ss (statementsStart (record { messages = ms; statements = ss })) 1 1) 0 4 1 blr.begin 0 (outerEnd (record { messages = ms; statements = ss })) refl)
-
-  -- ---- the whole
-
-  module _ (x : Declaration) (pt₁ : List ℕ) (h : Declares (messages 16 [] s c) pt pt₁ x) (sc : Scope) (o : Outermost sc) (t t₁ : Tables) (r : Step)
-      (m : From (x .step) (many 512 (innerAt 31 (environmentOf d pt₁ (x .messages)) .statement (scopeOf d sc)) s) noKind
-      (statementsTables (environmentOf d pt₁ (x .messages)) (scopeOf d sc) 1) t t₁ r)
-      (st₂ : List ℕ) (g : st₂ ≡ stepped r (λ q. sets (t₁ .statements) 0 (1 ∷ blr.begin ∷ 0 ∷ q .at ∷ [])) (t₁ .statements))
-      (r₂ : Step) (k : r₂ ≡ onStep r (λ f q. stepOf noKind (endOf s q))) where
-    abbrev Goal : Read Request → Type 0
-    Goal y = Requested y d pt pt₁ t (tables st₂ (t₁ .contexts) (t₁ .conditions)) (record { step = r₂; parameters = x .messages .rows })
-
-    stopped : (y : Read Request) (n : Refusal) (p : ℕ) → y ≡ refused n p → r₂ ≡ Step.Refused n p → Goal y
-    stopped y n p e u = record { answer-is = rw (e, u); rows-are = rw e; parameters-filled = rw e; filled = rw e }
-
-    -- the statements, with their messages known
-    module _ (ms : List Tree.Message) (c₁ : Cursor) (e : messages 16 [] s c ≡ read ms c₁) where
-      wrote : Wrote (outerStatements (relations d) ms s c₁) noKind c₁
-          (λ ss. statementsTables (record { relations = relations d; messages = ms }) Grammar.outermost 1 c₁ ss) t t₁ r
-      unfolding outerStatements
-      wrote =
-          rw (around ms c₁ e x pt₁ h, outermost-is d sc o) at (m .goes Fit.NoKind c₁ (rw e at (h .answer)))
-
-      -- the body, by what its parts are
-      body-read : (ss : Statements) (c₂ : Cursor) → outerStatements (relations d) ms s c₁ ≡ read ss c₂ → (a : Unit {0}) (c₃ : Cursor) →
-          endOf s c₂ ≡ read a c₃ → bodyOf (relations d) s c ≡ read (record { messages = ms; statements = ss }) c₃
-      unfolding bodyOf
-      body-read ss c₂ f a c₃ i = rw (bodyOf, e, f, i)
-
-      body-end : (ss : Statements) (c₂ : Cursor) → outerStatements (relations d) ms s c₁ ≡ read ss c₂ → (n : Refusal) (p : ℕ) →
-          endOf s c₂ ≡ refused n p → bodyOf (relations d) s c ≡ refused n p
-      unfolding bodyOf
-      body-end ss c₂ f n p i = rw (bodyOf, e, f, i)
-
-      body-refused : (n : Refusal) (p : ℕ) → outerStatements (relations d) ms s c₁ ≡ refused n p → bodyOf (relations d) s c ≡ refused n p
-      unfolding bodyOf
-      body-refused n p f = rw (bodyOf, e, f)
-
-      -- after the statements
-      ended : (ss : Statements) (c₂ : Cursor) → outerStatements (relations d) ms s c₁ ≡ read ss c₂ → Goal (bodyOf (relations d) s c)
-      ended ss c₂ f = by (endOf s c₂) refl
-        where
-          u : r ≡ Step.Next Fit.NoKind c₂
-          u = rw f at (wrote .answer)
-
-          v : t₁ ≡ laid t c₁ (statementsTables (record { relations = relations d; messages = ms }) Grammar.outermost 1 c₁ ss)
-          v = rw f at (wrote .filled)
-
-          w : st₂ ≡ sets (t₁ .statements) 0 (1 ∷ blr.begin ∷ 0 ∷ c₂ .at ∷ [])
-          w = rw u at g
-
-          by : (y : Read (Unit {0})) → endOf s c₂ ≡ y → Goal (bodyOf (relations d) s c)
-          by (read a c₃) i =
-              let whole : bodyOf (relations d) s c ≡ read (record { messages = ms; statements = ss }) c₃ = body-read ss c₂ f a c₃ i in
-              record {
-                answer-is = rw (whole, k, u, i);
-                rows-are = rw (whole, rw e at (h .rows));
-                parameters-filled = rw (whole, rw e at (h .filled));
-                filled = rw whole (rw (w, v) (rows-whole ms c₁ e ss c₂ f t));
-              }
-          by (refused n p) i = stopped (bodyOf (relations d) s c) n p (body-end ss c₂ f n p i) (rw (k, u, i))
-
-      known : Goal (bodyOf (relations d) s c)
-      known = by (outerStatements (relations d) ms s c₁) refl
-        where
-          by : (y : Read Statements) → outerStatements (relations d) ms s c₁ ≡ y → Goal (bodyOf (relations d) s c)
-          by (read ss c₂) f = ended ss c₂ f
-          by (refused n p) f =
-              let u : r ≡ Step.Refused n p = rw f at (wrote .answer) in
-              stopped (bodyOf (relations d) s c) n p (body-refused n p f) (rw (k, u))
-
-    undeclared : (n : Refusal) (p : ℕ) → messages 16 [] s c ≡ refused n p → bodyOf (relations d) s c ≡ refused n p
-    unfolding bodyOf
-    undeclared n p e = rw (bodyOf, e)
-
-    pub whole : Goal (bodyOf (relations d) s c)
-    whole = by (messages 16 [] s c) refl
-      where
-        by : (y : Read (List Tree.Message)) → messages 16 [] s c ≡ y → Goal (bodyOf (relations d) s c)
-        by (read ms c₁) e = known ms c₁ e
-        by (refused n p) e =
-            let u : r ≡ Step.Refused n p = m .passes n p (rw e at (h .answer)) in
-            stopped (bodyOf (relations d) s c) n p (undeclared n p e) (rw (k, u))
-
-    -- the place after the statements is one that a table can hold
-    pub ends-within : Ends r
-    ends-within = record { ends = λ f q u. by f q u (messages 16 [] s c) refl }
-      where
-        by : (f : Fit) (q : Cursor) → r ≡ Step.Next f q → (y : Read (List Tree.Message)) → messages 16 [] s c ≡ y → q .at ≤ 65535
-        by f q u (read ms c₁) e =
-            let w = step-read noKind (outerStatements (relations d) ms s c₁) (sym u ∙ wrote ms c₁ e .answer) in
-            let v = outer-sound s (begun .beside .octets) (relations d) ms c₁ (w .0) q (w .1) .went in
-            let i = inside (after-messages ms c₁ e) (omega (arith, begun .place, begun .inside)) in
-            omega (arith, inside v i, begun .beside .short)
-        by f q u (refused n p) e = absurd-eq (let z = sym (m .passes n p (rw e at (h .answer))) ∙ u in cc)
+        pub whole-body : Goal
+        whole-body = by-messages (was-read .0) (was-read .1)
 
 -- ---- the head, and the request from its head on
 
+-- the cursor after the head
 pub begun-after : (s d pt : List ℕ) → Beside s d pt → (u : Unit {0}) (c : Cursor) → headOf s start ≡ read u c → Begun s d pt c
 unfolding headOf
 begun-after s d pt b u c h =
@@ -231,56 +191,29 @@ begun-after s d pt b u c h =
       conditions = omega (arith, i .noted, j .noted, k .noted);
     }))
 
-assoc : {A B C : Type 0} (x : Read A) (f : A → Cursor → Read B) (g : B → Cursor → Read C) →
-    onRead (onRead x f) g ≡ onRead x (λ a q. onRead (f a q) g)
-assoc (read a q) f g = refl
-assoc (refused n p) f g = refl
+-- readings one after another
+module _ {A B : Type 0} (x : Read A) where
+  same-after : {f g : A → Cursor → Read B} → ((a : A) (q : Cursor) → f a q ≡ g a q) → onRead x f ≡ onRead x g
+  same-after h = by-read x (λ a q e. rw e (h a q)) (λ n p e. rw e)
 
--- the body, its end step by step
-bodyBy : List Relation → List ℕ → Cursor → Read Request
-bodyBy d s c =
-    onRead (messages 16 [] s c) (λ ms c₁. onRead (outerStatements d ms s c₁) (λ ss c₂.
-    onRead (code blr.eoc NotDue s c₂) (λ x c₃. onRead (nothingMore s c₃) (λ u c₄. read (record { messages = ms; statements = ss }) c₄))))
+  in-turn : {C : Type 0} (f : A → Cursor → Read C) (g : C → Cursor → Read B) → onRead (onRead x f) g ≡ onRead x (λ a q. onRead (f a q) g)
+  in-turn f g = by-read x (λ a q e. rw e) (λ n p e. rw e)
 
-body-by : (d : List Relation) (s : List ℕ) (c : Cursor) → bodyBy d s c ≡ bodyOf d s c
-unfolding bodyBy bodyOf endOf
-body-by d s c = by (messages 16 [] s c) refl
-  where
-    then-by : (ms : List Tree.Message) (c₁ : Cursor) → messages 16 [] s c ≡ read ms c₁ → (y : Read Statements) →
-        outerStatements d ms s c₁ ≡ y → bodyBy d s c ≡ bodyOf d s c
-    then-by ms c₁ e (read ss c₂) f = rw (e, f) (sym (assoc (code blr.eoc NotDue s c₂) (λ x q. nothingMore s q) (λ u q. read (record { messages = ms; statements = ss }) q)))
-    then-by ms c₁ e (refused n p) f = rw (e, f)
+-- a request is its head and its body
+request-parts : (d : List Relation) (s : List ℕ) → request d s start ≡ onRead (headOf s start) (λ u c. bodyOf d s c)
+unfolding request headOf bodyOf endOf
+request-parts d s =
+    same-after (code blr.version4 BadVersion s start) (λ x q.
+    same-after (code blr.begin NotDue s q) (λ y q₁.
+    same-after (countStatement (q .at) s q₁) (λ u c.
+    same-after (messages maxMessages [] s c) (λ ms c₁.
+    same-after (outerStatements d ms s c₁) (λ ss c₂.
+    sym (in-turn (code blr.eoc NotDue s c₂) (λ z c₃. nothingMore s c₃) (λ z c₃. read (record { messages = ms; statements = ss }) c₃))))))
+    ∙ sym (in-turn (code blr.begin NotDue s q) (λ y q₁. countStatement (q .at) s q₁) (λ u c. bodyOf d s c)))
+    ∙ sym (in-turn (code blr.version4 BadVersion s start)
+    (λ x q. onRead (code blr.begin NotDue s q) (λ y q₁. countStatement (q .at) s q₁)) (λ u c. bodyOf d s c))
 
-    by : (y : Read (List Tree.Message)) → messages 16 [] s c ≡ y → bodyBy d s c ≡ bodyOf d s c
-    by (read ms c₁) e = then-by ms c₁ e (outerStatements d ms s c₁) refl
-    by (refused n p) e = rw e
-
-pub from-head : (d : List Relation) (s : List ℕ) (u : Unit {0}) (c : Cursor) → headOf s start ≡ read u c → request d s start ≡ bodyOf d s c
-unfolding headOf request bodyBy
-from-head d s u c h =
-    undo (code blr.version4 BadVersion s start) _ h (λ x q e w. undo (code blr.begin NotDue s q) _ w (λ y q₁ e₁ w₁.
-    rw (request, e, e₁, w₁) (body-by d s c)))
-
--- a refusal is the same whatever was to be read
-refusal-as : {A B : Type 0} {m n : Refusal} {o p : ℕ} → _≡_ {A = Read A} (refused m o) (refused n p) → _≡_ {A = Read B} (refused m o) (refused n p)
-refusal-as {m} {n} {o} {p} e =
-    let u : m ≡ n = cc in
-    let v : o ≡ p = cc in
-    rw (u, v)
-
-pub head-refused : (d : List Relation) (s : List ℕ) (n : Refusal) (p : ℕ) → headOf s start ≡ refused n p → request d s start ≡ refused n p
-unfolding headOf request
-head-refused d s n p h = by (code blr.version4 BadVersion s start) refl
-  where
-    later : (x : ℕ) (q : Cursor) → code blr.version4 BadVersion s start ≡ read x q → (y : Read ℕ) → code blr.begin NotDue s q ≡ y →
-        request d s start ≡ refused n p
-    later x q e (read y q₁) f = last (countStatement (q .at) s q₁) refl
-      where
-        last : (z : Read (Unit {0})) → countStatement (q .at) s q₁ ≡ z → request d s start ≡ refused n p
-        last (read v q₂) g = absurd-eq (let k = rw (headOf, e, f, g) at h in cc)
-        last (refused m o) g = let k = rw (headOf, e, f, g) at h in rw (request, e, f, g) (refusal-as k)
-    later x q e (refused m o) f = let k = rw (headOf, e, f) at h in rw (request, e, f) (refusal-as k)
-
-    by : (y : Read ℕ) → code blr.version4 BadVersion s start ≡ y → request d s start ≡ refused n p
-    by (read x q) e = later x q e (code blr.begin NotDue s q) refl
-    by (refused m o) e = let k = rw (headOf, e) at h in rw (request, e) (refusal-as k)
+-- a request whose head is known
+pub from-head : (d : List Relation) (s : List ℕ) {x : Read (Unit {0})} → headOf s start ≡ x →
+    request d s start ≡ onRead x (λ u c. bodyOf d s c)
+from-head d s e = request-parts d s ∙ ap (λ x. onRead x (λ u c. bodyOf d s c)) e

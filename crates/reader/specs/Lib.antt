@@ -1,7 +1,3 @@
-pub mod Promises
-pub mod Streams
-pub mod Headings
-pub mod Cycle
-pub mod Operands
-pub mod Request
+pub mod Given
 pub mod Readers
+pub mod Request

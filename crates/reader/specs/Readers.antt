@@ -1,55 +1,114 @@
--- What each reader of the cycle promises, with l levels left for what it reads: the reading of the definitions, and its rows in the tables.
-use Prim.Native.Nat.{ℕ}
-use mathlib.Core.Bool.{Bool}
-use mathlib.Core.List.{List}
-use Rattle.wire.specs.declared.codes.ValueCode.{ValueCode}
-use Rattle.wire.specs.declared.codes.BooleanCode.{BooleanCode}
-use Rattle.wire.specs.declared.codes.StatementCode.{StatementCode}
+-- What each reader of statements promises: the reading of the definitions, and its rows in the tables.
+use Prim.Native.Nat.{ℕ, _-_}
+use mathlib.Core.Path.{_≡_}
+use mathlib.Core.List.{List, [], map}
+use Rattle.wire.specs.Limits.{maxStatements}
+use Rattle.dictionary.specs.Dictionary.{Relation}
 use Rattle.grammar.specs.declared.Cursor.{Cursor}
+use Rattle.grammar.specs.declared.Fit.{Fit}
+use Rattle.grammar.specs.declared.Refusal.{Refusal}
 use Rattle.grammar.specs.declared.Step.{Step}
+use Rattle.grammar.specs.declared.Step.the-variants as Step
+use Rattle.grammar.specs.Tree.{Statement, Statements, Receives}
 use Rattle.grammar.specs.Environment.{Environment, Scope}
-use Rattle.grammar.specs.Rses.{keys, clauses, numberedBoolean}
-use Rattle.grammar.specs.Values.{valueUnder, readValue, booleanUnder, readBoolean}
-use Rattle.grammar.specs.Statements.{statementUnder, forUnder, headedUnder, ifUnder, many, manyReceives, readReceive}
+use Rattle.grammar.specs.Rows.{rowsBelow, statementRows, statementsRows, receivesRows, contextRows, contextsRows, receivesContextRows}
+use Rattle.grammar.specs.Conditions.{Condition, conditions, statementsConditions, receivesConditions}
+use Rattle.grammar.specs.Reader.{refused}
+use Rattle.grammar.specs.Statements.{Inner, inner, assignmentUnder, statementUnder, ifUnder, many, manyReceives, readStatement, readReceive}
 use Rattle.grammar.specs.Internal.Steps.{noKind}
-use Rattle.reader.specs.declared.parts.Selected.{Selected}
-use Rattle.reader.specs.Promises.{headingReader}
-use Rattle.reader.specs.Cycle.{Tables, Wrote, From, Receiving, valueFit, operandsAt, innerAt, valueTables, booleanTables, keysTables, clausesTables, belowTables, statementsTables, receivesTables}
+use Rattle.scopes.specs.Scopes.{scopeOf}
+use Rattle.tables.specs.Tables.{Tables, tables, contextsAlone, Wrote}
+use Rattle.tables.specs.Written.{closedAfter}
+use Rattle.openings.specs.declared.heads.Coded.{Coded}
+use Rattle.reader.specs.declared.statements.Headed.{Headed}
+use Rattle.reader.specs.declared.statements.Level.{Level}
+use Rattle.reader.specs.Given.{Given}
 
--- ---- what stands after a code at p, from a cursor on
+-- the level of a statement under another, which is counted up to a cursor, with so many levels left for it
+abbrev pub levelUnder : Cursor → ℕ → Level
+levelUnder c l = record { left = l; parent = c .statements }
 
-abbrev pub ValueRead : ℕ → Environment → Scope → ℕ → ValueCode → List ℕ → Cursor → Tables → Tables → Step → Type 0
-ValueRead l e sc p k s c t t′ r = Wrote (valueUnder (operandsAt l e) e sc p k s c) (valueFit e sc) c (valueTables e sc p) t t′ r
+abbrev pub levelBelow : Cursor → Level → Level
+levelBelow c level = levelUnder c (level .left - 1)
 
-abbrev pub BooleanRead : ℕ → Environment → Scope → ℕ → BooleanCode → List ℕ → Cursor → Tables → Tables → Step → Type 0
-BooleanRead l e sc p k s c t t′ r = Wrote (booleanUnder (operandsAt l e) e sc p k s c) noKind c (booleanTables e sc p) t t′ r
+-- the readers with l levels left
+abbrev pub innerAt : ℕ → Environment → Inner
+innerAt l e = inner (λ x. readStatement l e x) (λ x before. readReceive l e x before) l e
 
-abbrev pub StatementRead : ℕ → Environment → Scope → ℕ → StatementCode → List ℕ → Cursor → Tables → Tables → Step → Type 0
-StatementRead l e sc p k s c t t′ r = Wrote (statementUnder (innerAt l e) e sc p k s c) noKind c (belowTables e sc p c) t t′ r
+abbrev pub places : List Condition → List ℕ
+places cs = map (λ x. x .place) cs
 
-abbrev pub ForRead : ℕ → Environment → Scope → ℕ → List ℕ → Cursor → Tables → Tables → Step → Type 0
-ForRead l e sc p s c t t′ r = Wrote (forUnder (innerAt l e) e sc s c) noKind c (belowTables e sc p c) t t′ r
+-- ---- a statement, and what stands under its code
 
-abbrev pub HeadedRead : ℕ → Environment → Scope → ℕ → StatementCode → List ℕ → Cursor → Tables → Tables → Step → Type 0
-HeadedRead l e sc p k s c t t′ r =
-    Wrote (headedUnder (innerAt l e) e sc (headingReader e sc p k) s c) noKind c (belowTables e sc p c) t t′ r
+abbrev pub statementTables : List Relation → Scope → Statement → ℕ → ℕ → ℕ → Tables
+statementTables rs sc t p n parent = tables (statementRows t p n parent) (contextRows rs sc t p) (places (conditions rs sc t p))
 
-abbrev pub IfRead : ℕ → Environment → Scope → ℕ → List ℕ → Cursor → Tables → Tables → Step → Type 0
-IfRead l e sc p s c t t′ r = Wrote (ifUnder (innerAt l e) sc s c) noKind c (belowTables e sc p c) t t′ r
+abbrev pub StatementRead : Level → Environment → Scope → List ℕ → Cursor → Tables → Tables → Step → Type 0
+StatementRead level e sc s c t t′ r =
+    Wrote (readStatement (level .left) e sc s c) noKind c
+    (λ x. statementTables (e .relations) sc x (c .at) (c .statements) (level .parent)) t t′ r
 
--- ---- what goes on from a step: so many at most, or left
+-- what stands inside a statement at p, whose row is written
+abbrev pub belowTables : Environment → Scope → ℕ → Cursor → Statement → Tables
+belowTables e sc p c t =
+    tables (rowsBelow t p (c .statements)) (contextRows (e .relations) sc t p) (places (conditions (e .relations) sc t p))
 
-abbrev pub KeysRead : ℕ → ℕ → Environment → Scope → List ℕ → Step → Tables → Tables → Step → Type 0
-KeysRead n l e sc s from t t′ r = From from (keys n (readValue l e sc) s) noKind (λ c. keysTables e sc (c .at)) t t′ r
+abbrev pub CodedRead : ℕ → Environment → Scope → List ℕ → Coded → Tables → Tables → Step → Type 0
+CodedRead l e sc s x t t′ r =
+    Wrote (statementUnder (innerAt l e) e sc (x .at) (x .code) s (x .after)) noKind (x .after) (belowTables e sc (x .at) (x .after)) t t′ r
 
-abbrev pub ClausesRead : ℕ → Bool → Bool → ℕ → Environment → Scope → List ℕ → Step → Tables → Tables → Step → Type 0
-ClausesRead n such sorted l e sc s from t t′ r =
-    From from (clauses n (numberedBoolean (readBoolean l e sc)) (readValue l e sc) such sorted s) noKind (clausesTables e sc) t t′ r
+-- what stands before the statement of one that opens a scope was read up to q, where that statement is due. Before it the tables of
+-- contexts and of conditions and the scope were ct, nd and sc, now they are ct′, nd′ and sc′. The scope of its contexts begins at `first`.
+-- A statement read from q on, after which their rows get their scope, makes the whole
+pub record OpenedRead (l : ℕ) (e : Environment) (s d : List ℕ) (x : Coded) (ct ct′ nd nd′ sc sc′ : List ℕ)
+    (opened : Step) (q : Cursor) : Type 0 where
+  pub fit : Fit
+  pub first : Cursor
+  pub begins : opened ≡ Step.Next fit first
+  pub given : Given s d sc′ q l
+  pub whole : {st st₁ ct₁ nd₁ ct₂ : List ℕ} {r : Step} →
+      StatementRead (levelUnder (x .after) l) e (scopeOf d sc′) s q (tables st ct′ nd′) (tables st₁ ct₁ nd₁) r →
+      ct₂ ≡ closedAfter ct₁ (x .after .contexts) first r → CodedRead l e (scopeOf d sc) s x (tables st ct nd) (tables st₁ ct₂ nd₁) r
 
-abbrev pub StatementsRead : ℕ → ℕ → ℕ → Environment → Scope → List ℕ → Step → Tables → Tables → Step → Type 0
-StatementsRead n parent l e sc s from t t′ r =
-    From from (many n (innerAt l e .statement sc) s) noKind (statementsTables e sc parent) t t′ r
+-- if it is refused, so is the whole
+pub record HeadingRead (l : ℕ) (e : Environment) (s d : List ℕ) (x : Coded) (ct ct′ nd nd′ sc sc′ : List ℕ) (b : Headed) : Type 0 where
+  pub refuses : {n : Refusal} {p : ℕ} → b .ready ≡ Step.Refused n p →
+      statementUnder (innerAt l e) e (scopeOf d sc) (x .at) (x .code) s (x .after) ≡ refused n p
+  pub goes : {f : Fit} {q : Cursor} → b .ready ≡ Step.Next f q → OpenedRead l e s d x ct ct′ nd nd′ sc sc′ (b .opened) q
 
-abbrev pub ReceivesRead : Selected → ℕ → ℕ → ℕ → Environment → Scope → List ℕ → Step → Tables → Tables → Step → Type 0
-ReceivesRead before n parent l e sc s from t t′ r =
-    Receiving before from (λ ms. manyReceives n (readReceive l e sc) ms s) (receivesTables e sc parent) t t′ r
+-- an assignment writes the rows of contexts alone
+abbrev pub AssignmentRead : ℕ → Environment → Scope → List ℕ → Coded → List ℕ → List ℕ → Step → Type 0
+AssignmentRead l e sc s x ct ct′ r =
+    Wrote (assignmentUnder (innerAt l e) e sc (x .at) s (x .after)) noKind (x .after)
+    (λ t. contextsAlone (contextRows (e .relations) sc t (x .at))) (contextsAlone ct) (contextsAlone ct′) r
+
+abbrev pub IfRead : ℕ → Environment → Scope → List ℕ → ℕ → Cursor → Tables → Tables → Step → Type 0
+IfRead l e sc s p c t t′ r = Wrote (ifUnder (innerAt l e) sc s c) noKind c (belowTables e sc p c) t t′ r
+
+-- ---- statements and receives, one after another
+
+abbrev pub statementsTables : Environment → Scope → ℕ → Cursor → Statements → Tables
+statementsTables e sc parent c ts =
+    tables (statementsRows ts (c .at) (c .statements) parent) (contextsRows (e .relations) sc ts (c .at))
+    (places (statementsConditions (e .relations) sc ts (c .at)))
+
+-- so many at most
+abbrev pub ManyRead : ℕ → Level → Environment → Scope → List ℕ → Cursor → Tables → Tables → Step → Type 0
+ManyRead n level e sc s c t t′ r =
+    Wrote (many n (readStatement (level .left) e sc) s c) noKind c (statementsTables e sc (level .parent) c) t t′ r
+
+abbrev pub StatementsRead : Level → Environment → Scope → List ℕ → Cursor → Tables → Tables → Step → Type 0
+StatementsRead = ManyRead maxStatements
+
+abbrev pub receivesTables : Environment → Scope → ℕ → Cursor → Receives → Tables
+receivesTables e sc parent c rs =
+    tables (receivesRows rs (c .at) (c .statements) parent) (receivesContextRows (e .relations) sc rs (c .at))
+    (places (receivesConditions (e .relations) sc rs (c .at)))
+
+-- so many at most, beside the messages of those before
+abbrev pub ReceivesRead : ℕ → List ℕ → Level → Environment → Scope → List ℕ → Cursor → Tables → Tables → Step → Type 0
+ReceivesRead n before level e sc s c t t′ r =
+    Wrote (manyReceives n (readReceive (level .left) e sc) before s c) noKind c (receivesTables e sc (level .parent) c) t t′ r
+
+abbrev pub SelectRead : Level → Environment → Scope → List ℕ → Cursor → Tables → Tables → Step → Type 0
+SelectRead = ReceivesRead maxStatements []

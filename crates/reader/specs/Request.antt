@@ -1,7 +1,7 @@
 -- What the reader of a whole request promises.
 use Prim.Native.Nat.{ℕ, _≤_}
 use mathlib.Core.Path.{_≡_}
-use mathlib.Core.Bool.{false, cond}
+use mathlib.Core.Bool.{cond}
 use mathlib.Core.List.{List, []}
 use lib.Dec.{leb}
 use lib.ListN.{length, replicate}
@@ -19,15 +19,19 @@ use Rattle.grammar.specs.Reader.{Read, read, refused, Reader, _>>=_, _>>_, retu
 use Rattle.grammar.specs.Reading.{answer, room, nothingMore, outerStatements}
 use Rattle.grammar.specs.Messages.{messages}
 use Rattle.grammar.specs.Internal.Steps.{stepOf, noKind}
+use Rattle.grammar.specs.declared.Fit.{Fit}
+use Rattle.grammar.specs.declared.Step.{Step}
+use Rattle.grammar.specs.declared.Step.the-variants as Step
 use Rattle.grammar.specs.declared.ReadAnswer.{ReadAnswer}
 use Rattle.grammar.specs.Demands.{Octets}
 use Rattle.grammar.specs.Answered.{Answered}
-use Rattle.scopes.specs.declared.scope.Scope.{Scope}
 use Rattle.reader.specs.declared.request.Whole.{Whole}
 use Rattle.reader.specs.declared.before.Before.{Before}
 use Rattle.reader.specs.declared.before.Before.the-variants as Before
-use Rattle.reader.specs.Promises.{after, relations}
-use Rattle.reader.specs.Cycle.{Tables, tables, places}
+use Rattle.openings.specs.Streams.{relations}
+use Rattle.tables.specs.Tables.{Tables, tables, after}
+use Rattle.tables.specs.Written.{withStatementRow}
+use Rattle.reader.specs.Readers.{places}
 
 -- the rows of a request, and the places of its conditions
 abbrev pub requestTables : List ℕ → Request → Tables
@@ -54,6 +58,18 @@ conditionTable d (refused x p) n = replicate n 0
 pub record AnsweredNoting (s d st pa ct nd st′ pa′ ct′ nd′ : List ℕ) (r : ReadAnswer) : Type 0 where
   pub answered : Answered s d st pa ct st′ pa′ ct′ r
   pub conditions-filled : nd′ ≡ conditionTable d (answer s d (length st) (length pa) (length ct)) (length nd)
+
+-- ---- steps one after another
+
+-- a refusal passes through
+abbrev pub onStep : Step → (Fit → Cursor → Step) → Step
+onStep (Step.Next f c) g = g f c
+onStep (Step.Refused r p) g = Step.Refused r p
+
+-- the row of the outer begin, which was read up to a step
+abbrev pub outerRow : List ℕ → Step → List ℕ
+outerRow t (Step.Next f c) = withStatementRow t 0 1 blr.begin 0 (c .at)
+outerRow t (Step.Refused r p) = t
 
 -- ---- the parts of a request, before its messages and after its statements
 
@@ -93,13 +109,6 @@ pub record Begun (s d pt : List ℕ) (c : Cursor) : Type 0 where
   pub statements : c .statements ≡ 1
   pub contexts : c .contexts ≡ 0
   pub conditions : c .conditions ≡ 0
-
--- nothing is in scope where nothing is counted
-pub record Outermost (sc : Scope) : Type 0 where
-  pub none : sc .count ≡ 0
-  pub no-update : sc .updating ≡ false
-  pub no-sends : sc .sends .count ≡ 0
-  pub no-labels : sc .labels .count ≡ 0
 
 -- ---- what comes before the request's first byte
 

@@ -1,15 +1,8 @@
 // The reader of requests: the answer to a request beside a dictionary, and its rows in three lent tables. Other crates have `read` and
 // `read_noting`, which ask for nothing; the modules are private, and their functions may ask for something of each other.
 mod before;
-mod cycle;
-mod fits;
-mod heads;
-mod opening;
-mod operands;
-mod parts;
 mod request;
-mod streams;
-mod tables;
+mod statements;
 
 ghost use mathlib.Core.Path.{_≡_};
 ghost use Rattle.grammar.specs.Answered.{Answered};

@@ -1,65 +1,34 @@
 // A whole request: version, the outer begin, messages, statements, the end, and nothing more.
 ghost use mathlib.Core.Path.{_≡_};
-ghost use mathlib.Core.List.{List, [], _∷_};
-ghost use lib.Seq.{sets};
-ghost use Rattle.wire.specs.Codes as blr;
+ghost use mathlib.Core.List.{[]};
 ghost use Rattle.grammar.specs.Reader.{countStatement as countStatementAt};
 ghost use Rattle.grammar.specs.Reading.{request as requestOf, start};
 ghost use Rattle.grammar.specs.Internal.Steps.{stepOf, noKind};
-ghost use Rattle.reader.specs.Promises.{relations};
-ghost use Rattle.reader.specs.Cycle.{tables, onStep, stepped, Ends};
-ghost use Rattle.reader.specs.Request.{Requested, Begun, Beside, Outermost, headOf, bodyOf, endOf};
-use crate::cycle::many;
-use crate::tables::put_statement;
+ghost use Rattle.openings.specs.Streams.{relations};
+ghost use Rattle.tables.specs.Tables.{tables};
+ghost use Rattle.reader.specs.Request.{Requested, Begun, Beside, onStep, outerRow, headOf, bodyOf, endOf};
+use crate::statements::Level;
+use crate::statements::read_statements;
 use grammar::Cursor;
 use grammar::Fit;
 use grammar::Refusal;
 use grammar::Step;
+use messages::declared::AROUND;
+use messages::declared::row_count;
 use messages::reading::read_messages;
-use scopes::scope::Context;
-use scopes::scope::Labels;
-use scopes::scope::Scope;
-use scopes::scope::Sends;
+use scopes::scope::SCOPE;
 use steps::due_code;
+use tables::statements::put_statement;
 use wire::blr::BEGIN;
 use wire::blr::EOC;
 use wire::blr::VERSION4;
-use wire::limits::MAX_CONTEXTS;
 use wire::limits::MAX_DEPTH;
 use wire::limits::MAX_STATEMENTS;
-use wire::numbers::ContextNumber;
-use wire::numbers::LabelNumber;
-use wire::numbers::MessageNumber;
 
 // How reading went, and the rows of parameters.
 pub(crate) struct Whole {
     pub step: Step,
     pub parameters: usize,
-}
-
-// Nothing is in scope at the outer begin.
-fn outermost() -> Scope
-    ensures { λ r. ⌜ Outermost r ⌝ }
-{
-    let none = Context {
-        relation: 0,
-        number: ContextNumber(0),
-        opener: 0,
-    };
-    Scope {
-        contexts: [none; MAX_CONTEXTS],
-        count: 0,
-        updating: false,
-        target: ContextNumber(0),
-        sends: Sends {
-            messages: [MessageNumber(0); MAX_DEPTH],
-            count: 0,
-        },
-        labels: Labels {
-            labels: [LabelNumber(0); MAX_DEPTH],
-            count: 0,
-        },
-    }
 }
 
 // The outer begin is counted as a statement.
@@ -112,9 +81,7 @@ fn end(request: &[u8], from: Step) -> Step
 
 // The row of the outer begin.
 fn outer_row(statements: &mut [u32], body: Step)
-    requires { ⌜ Ends body ⌝ }
-    ensures { λ _. ⌜ now (statements .exit) ≡ stepped body (λ c. sets (now (statements .entry)) 0 (1 ∷ blr.begin ∷ 0 ∷ c .at ∷ []))
-        (now (statements .entry)) ⌝ }
+    ensures { λ _. ⌜ now (statements .exit) ≡ outerRow (now (statements .entry)) body ⌝ }
 {
     if let Step::Next(_, c) = body {
         put_statement(statements, 0, 1, BEGIN, 0, c.at);
@@ -132,32 +99,39 @@ fn body(
     c: Cursor,
 ) -> Whole
     requires { ⌜ Begun (now request) (now dictionary) (now parameters) c ⌝ }
-    ensures { λ r. ⌜ Requested (bodyOf (relations (now (dictionary .entry))) (now (request .entry)) c) (now (dictionary .entry))
-        (now (parameters .entry)) (now (parameters .exit)) (tables (now (statements .entry)) (now (contexts .entry)) (now (conditions .entry)))
+    ensures { λ r. ⌜ Requested (bodyOf (relations (now (dictionary .entry))) (now (request .entry)) c)
+        (now (dictionary .entry)) (now (parameters .entry)) (now (parameters .exit))
+        (tables (now (statements .entry)) (now (contexts .entry)) (now (conditions .entry)))
         (tables (now (statements .exit)) (now (contexts .exit)) (now (conditions .exit))) r ⌝ }
 {
-    let declared = read_messages(request, parameters, c);
-    let step = declared.step;
-    let messages = declared.messages;
-    let rows = messages.rows;
-    let ended = many(
+    let mut around = [0u32; AROUND];
+    let declared = read_messages(request, parameters, &mut around, c);
+    let Step::Next(_, first) = declared else {
+        return Whole {
+            step: declared,
+            parameters: 0,
+        };
+    };
+    let nothing = [0u16; SCOPE];
+    let outer = Level {
+        left: MAX_DEPTH - 1,
+        parent: 1,
+    };
+    let ended = read_statements(
         request,
         dictionary,
-        parameters,
+        &around,
+        &nothing,
         statements,
         contexts,
         conditions,
-        messages,
-        outermost(),
-        step,
-        MAX_DEPTH,
-        MAX_STATEMENTS,
-        1,
+        first,
+        outer,
     );
     outer_row(statements, ended);
     Whole {
         step: end(request, ended),
-        parameters: rows,
+        parameters: row_count(&around),
     }
 }
 
@@ -171,8 +145,9 @@ pub(crate) fn read_whole(
     conditions: &mut [u32],
 ) -> Whole
     requires { ⌜ Beside (now request) (now dictionary) (now parameters) ⌝ }
-    ensures { λ r. ⌜ Requested (requestOf (relations (now (dictionary .entry))) (now (request .entry)) start) (now (dictionary .entry))
-        (now (parameters .entry)) (now (parameters .exit)) (tables (now (statements .entry)) (now (contexts .entry)) (now (conditions .entry)))
+    ensures { λ r. ⌜ Requested (requestOf (relations (now (dictionary .entry))) (now (request .entry)) start)
+        (now (dictionary .entry)) (now (parameters .entry)) (now (parameters .exit))
+        (tables (now (statements .entry)) (now (contexts .entry)) (now (conditions .entry)))
         (tables (now (statements .exit)) (now (contexts .exit)) (now (conditions .exit))) r ⌝ }
 {
     match head(request) {

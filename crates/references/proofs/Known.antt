@@ -1,24 +1,18 @@
 -- What a name or a number stands for, and the step where it stands for something. Assumes nothing.
-use Prim.Native.Nat.{ℕ, zero, suc, _+_, _≤_}
-use mathlib.Core.Path.{_≡_, refl, ap, _∙_}
+use Prim.Native.Nat.{ℕ, _+_}
+use mathlib.Core.Path.{_≡_, refl, sym, ap, _∙_}
 use mathlib.Core.Bool.{Bool, true, false}
-use mathlib.Core.List.{List, [], _∷_, map}
+use mathlib.Core.List.{List}
 use mathlib.Core.Option.{Option, none, some, Option·map}
-use lib.Dec.{leb, ltb}
+use lib.Dec.{leb}
 use lib.ListN.{length, take, drop, getElem?}
-use native.Mathlib.Omega.{arith}
-use borrow.Author.Tests.{ltb-false}
-use Rattle.wire.specs.Lists.{isSome, _andThen_}
+use Rattle.wire.specs.Lists.{find, isSome, _andThen_}
 use Rattle.wire.specs.Words.{byteAt}
 use Rattle.dictionary.specs.Dictionary.{Relation, nameAt}
 use Rattle.dictionary.specs.Naming.{Name, named, numbered, fieldOf, formatOf}
-use Rattle.dictionary.specs.Internal.Walk.{relationAt, fieldsOf, entryField}
-use Rattle.dictionary.specs.declared.lookup.Place.{Place}
-use Rattle.dictionary.specs.declared.lookup.Place.the-variants as Place
-use Rattle.dictionary.specs.declared.field.Index.{Index}
-use Rattle.dictionary.specs.declared.field.Index.the-variants as Index
+use Rattle.dictionary.specs.Internal.Walk.{relationAt, fieldsOf, hasName}
 use Rattle.dictionary.specs.Internal.Answers.{placeAnswer}
-use Rattle.dictionary.specs.Internal.FieldAnswers.{indexAnswer}
+use Rattle.dictionary.proofs.FieldFormats.{entryFormat, named-format, numbered-format}
 use Rattle.grammar.specs.Kind.{Kind}
 use Rattle.grammar.specs.Kind as Kind
 use Rattle.grammar.specs.declared.Refusal.{Refusal}
@@ -33,7 +27,7 @@ use Rattle.grammar.specs.Values.{byName}
 use Rattle.grammar.specs.Internal.Steps.{fitOf, stepOf, noKind}
 use Rattle.grammar.proofs.StepLaws.{absurd-eq, taken-whole, taken-cut}
 use Rattle.references.proofs.Literals.{whole}
-use Rattle.references.specs.Promises.{idKind, nameKind, knownStep, fieldIn}
+use Rattle.references.specs.Promises.{nameKind, entryFit, knownStep, fieldIn}
 
 -- ---- a field whose test is that it has a kind
 
@@ -60,64 +54,29 @@ some-map f (some a) = refl
 
 -- ---- fields of a relation
 
-get-map : {A B : Type 0} (f : A → B) (l : List A) (i : ℕ) → getElem? (map f l) i ≡ Option·map f (getElem? l i)
-get-map f [] i = refl
-get-map f (x ∷ l) zero = refl
-get-map f (x ∷ l) (suc i) = get-map f l i
-
-module _ (d : List ℕ) (r i : ℕ) where
-  place-by : (o : Option ℕ) {q : ℕ} → Place.At q ≡ placeAnswer o → o ≡ some q
-  place-by none e = absurd-eq (cc)
-  place-by (some p) e = cc
-
-  no-place-by : (o : Option ℕ) → Place.Unknown ≡ placeAnswer o → o ≡ none
-  no-place-by none e = refl
-  no-place-by (some p) e = absurd-eq (cc)
-
-  pub id-found : {q : ℕ} → Place.At q ≡ placeAnswer (getElem? (fieldsOf d r) i) →
-      idKind (relationAt d r) i ≡ some (formatKind (entryField d q .format))
-  unfolding idKind formatOf relationAt
-  id-found e = rw (idKind, formatOf, relationAt, get-map (entryField d) (fieldsOf d r) i, place-by (getElem? (fieldsOf d r) i) e)
-
-  pub id-unknown : Place.Unknown ≡ placeAnswer (getElem? (fieldsOf d r) i) → idKind (relationAt d r) i ≡ none
-  unfolding idKind formatOf relationAt
-  id-unknown e = rw (idKind, formatOf, relationAt, get-map (entryField d) (fieldsOf d r) i, no-place-by (getElem? (fieldsOf d r) i) e)
-
-index-by : (o : Option ℕ) {i : ℕ} → Index.Is i ≡ indexAnswer o → o ≡ some i
-index-by none e = absurd-eq (cc)
-index-by (some p) e = cc
-
-no-index-by : (o : Option ℕ) → Index.Unknown ≡ indexAnswer o → o ≡ none
-no-index-by none e = refl
-no-index-by (some p) e = absurd-eq (cc)
-
 module _ (r : Relation) (n : Name) where
-  pub name-found : {i : ℕ} → Index.Is i ≡ indexAnswer (fieldOf r n) → nameKind r n ≡ idKind r i
-  unfolding nameKind idKind
-  name-found e = rw (nameKind, idKind, index-by (fieldOf r n) e)
-
-  pub name-unknown : Index.Unknown ≡ indexAnswer (fieldOf r n) → nameKind r n ≡ none
-  unfolding nameKind
-  name-unknown e = rw (nameKind, no-index-by (fieldOf r n) e)
-
   field-test : isSome (fieldOf r n andThen formatOf r) ≡ isSome (nameKind r n)
   unfolding nameKind
   field-test = some-map formatKind (fieldOf r n andThen formatOf r)
 
-get-past : {A : Type 0} (l : List A) (i : ℕ) → length l ≤ i → getElem? l i ≡ none
-get-past [] i h = refl
-get-past (x ∷ l) zero h = absurd (omega arith)
-get-past (x ∷ l) (suc i) h = get-past l i (omega arith)
+module _ (d : List ℕ) where
+  entry-kind : (o : Option ℕ) → entryFit d (placeAnswer o) ≡ fitOf (Option·map formatKind (entryFormat d o))
+  entry-kind none = refl
+  entry-kind (some q) = refl
 
-module _ (r : Relation) (i : ℕ) where
-  number-by : (b : Bool) → ltb i (length (r .fields)) ≡ b → nameKind r (numbered i) ≡ idKind r i
-  unfolding nameKind idKind fieldOf formatOf
-  number-by true h = rw (nameKind, idKind, fieldOf, h)
-  number-by false h =
-      rw (nameKind, idKind, fieldOf, formatOf, h, get-past (r .fields) i (ltb-false i (length (r .fields)) h))
+  -- the kind of the entry that was found is the kind of the field
+  entry-fit : (r : Relation) (n : Name) (o : Option ℕ) → fieldOf r n andThen formatOf r ≡ entryFormat d o →
+      entryFit d (placeAnswer o) ≡ fitOf (nameKind r n)
+  unfolding nameKind
+  entry-fit r n o e = entry-kind o ∙ ap (λ x. fitOf (Option·map formatKind x)) (sym e)
 
-  pub number-kind : nameKind r (numbered i) ≡ idKind r i
-  number-kind = number-by (ltb i (length (r .fields))) refl
+  module _ (r : ℕ) where
+    pub named-fit : (n : List ℕ) →
+        entryFit d (placeAnswer (find (hasName d n) (fieldsOf d r))) ≡ fitOf (nameKind (relationAt d r) (named n))
+    named-fit n = entry-fit (relationAt d r) (named n) (find (hasName d n) (fieldsOf d r)) (named-format d n r)
+
+    pub numbered-fit : (i : ℕ) → entryFit d (placeAnswer (getElem? (fieldsOf d r) i)) ≡ fitOf (nameKind (relationAt d r) (numbered i))
+    numbered-fit i = entry-fit (relationAt d r) (numbered i) (getElem? (fieldsOf d r) i) (numbered-format d r i)
 
 module _ (s : List ℕ) (c : Cursor) where
   name-by : (b : Bool) → leb (c .at + 1) (length s) ≡ b → {k : Fit} {q : Cursor} → Step.Next k q ≡ stepOf noKind (name s c) →

@@ -29,12 +29,10 @@ use Rattle.grammar.specs.Values.{fieldName, fieldAllowed, parameterAllowed, rea
 use Rattle.grammar.specs.Internal.Steps.{fitOf, stepOf}
 use Rattle.grammar.proofs.StepLaws.{absurd-eq, step-read, step-refused}
 use Rattle.grammar.proofs.Went.{tested-read}
-use Rattle.messages.specs.declared.declared.Message.{Message}
-use Rattle.messages.specs.declared.declared.Messages.{Messages}
-use Rattle.messages.specs.declared.declared.FoundMessage.the-variants.{Is}
-use Rattle.messages.specs.Entries.{declaredIn, foundOf, messagesOf, parameterKind}
+use Rattle.messages.specs.declared.declared.FoundMessage.the-variants.{At}
+use Rattle.messages.specs.Entries.{declaredIn, foundOf, messageAt, messagesIn, parameterKind}
 use Rattle.messages.proofs.Descriptors.{taken-ended}
-use Rattle.messages.proofs.Found.{found-kind, found-some}
+use Rattle.messages.proofs.Found.{parameter-format, parameter-known as parameter-some}
 use Rattle.references.specs.Promises.{referenceFit, placeOf, fieldAllows, parameterAllows, nameKind, knownStep}
 use Rattle.references.specs.Promises.{fieldIn, fieldCode, parameterIn, flagStep, flagIn, parameterCode, referenceStep}
 use Rattle.references.proofs.Known.{tested-known, tested-refused, some-map, field-known, field-refused}
@@ -130,18 +128,20 @@ module _ (e : Environment) (sc : Scope) (role : Role) (p : ℕ) (b : Bool) (s : 
 
 -- ---- parameters
 
-module _ (table : List ℕ) (x : Message) (s : List ℕ) (c : Cursor) where
+-- the kind of a parameter of the message of an index
+abbrev kindAt : List ℕ → ℕ → ℕ → Option Kind
+kindAt a x i = parameterKind a (messageAt a x) i
+
+module _ (a : List ℕ) (x : ℕ) (s : List ℕ) (c : Cursor) where
   pub parameter-known : {i : ℕ} {q : Cursor} → word s c ≡ read i q →
-      parameterIn table x s c ≡ knownStep NoParameter (fitOf (parameterKind table x i)) (c .at) q
+      parameterIn a x s c ≡ knownStep NoParameter (fitOf (kindAt a x i)) (c .at) q
   unfolding parameterIn
   parameter-known {i} h =
-      tested-known word (λ i. isSome (parameterKind table x i)) (λ i. fitOf (parameterKind table x i)) NoParameter s c
-      (parameterKind table x i) h refl refl
+      tested-known word (λ i. isSome (kindAt a x i)) (λ i. fitOf (kindAt a x i)) NoParameter s c (kindAt a x i) h refl refl
 
-  pub parameter-cut : {r : Refusal} {p : ℕ} → word s c ≡ refused r p → parameterIn table x s c ≡ Step.Refused r p
+  pub parameter-cut : {r : Refusal} {p : ℕ} → word s c ≡ refused r p → parameterIn a x s c ≡ Step.Refused r p
   unfolding parameterIn
-  parameter-cut h =
-      tested-refused word (λ i. isSome (parameterKind table x i)) (λ i. fitOf (parameterKind table x i)) NoParameter s c h
+  parameter-cut h = tested-refused word (λ i. isSome (kindAt a x i)) (λ i. fitOf (kindAt a x i)) NoParameter s c h
 
 flag-by : (o k : Option Kind) → isSome k ≡ true → (f : Reference → Fit) (a : Reference) → f a ≡ fitOf (flagged o k) →
     (p : ℕ) (s : List ℕ) (q : Cursor) →
@@ -192,60 +192,59 @@ module _ (e : Environment) (sc : Scope) (role : Role) (p : ℕ) (b : Bool) (s : 
       unfolding messageByte tested
       parameter-placed a = parameter-by e sc role p b s c ∙ rw (messageByte, tested, h, k, parameter-allowed sc m s first role a)
 
--- the words of a parameter, by the definition and beside the table
-module _ (e : Environment) (table : List ℕ) (x : Messages) (same : e .messages ≡ messagesOf table x) (m : ℕ) (y : Message)
-    (found : foundOf (declaredIn x) m ≡ Is y) where
+-- the words of a parameter, by the definition and beside the array
+module _ (e : Environment) (a : List ℕ) (same : e .messages ≡ messagesIn a) (m x : ℕ) (found : foundOf (declaredIn a) m ≡ At x) where
   module _ (s : List ℕ) (c : Cursor) where
-    word-same : parameterWord e m s c ≡ tested word (λ i. isSome (parameterKind table y i)) NoParameter s c
+    word-same : parameterWord e m s c ≡ tested word (λ i. isSome (kindAt a x i)) NoParameter s c
     unfolding parameterWord
-    word-same = ap (λ (f : ℕ → Bool). tested word f NoParameter s c) (λ j i. found-some e table x same m y found i j)
+    word-same = ap (λ (f : ℕ → Bool). tested word f NoParameter s c) (λ j i. parameter-some e a same m x found i j)
 
-    word-read : {k : Fit} {q : Cursor} → parameterIn table y s c ≡ Step.Next k q →
-        (i : ℕ) × (parameterWord e m s c ≡ read i q) × (k ≡ fitOf (parameterKind table y i)) × (isSome (parameterKind table y i) ≡ true)
+    word-read : {k : Fit} {q : Cursor} → parameterIn a x s c ≡ Step.Next k q →
+        (i : ℕ) × (parameterWord e m s c ≡ read i q) × (k ≡ fitOf (kindAt a x i)) × (isSome (kindAt a x i) ≡ true)
     unfolding parameterIn
     word-read g =
-        let (i, is, k) = step-read _ (tested word (λ i. isSome (parameterKind table y i)) NoParameter s c) (sym g) in
-        (i, word-same ∙ is, k, tested-read s c word (λ i. isSome (parameterKind table y i)) NoParameter is .1)
+        let (i, is, k) = step-read _ (tested word (λ i. isSome (kindAt a x i)) NoParameter s c) (sym g) in
+        (i, word-same ∙ is, k, tested-read s c word (λ i. isSome (kindAt a x i)) NoParameter is .1)
 
-    word-refused : {r : Refusal} {q : ℕ} → parameterIn table y s c ≡ Step.Refused r q → parameterWord e m s c ≡ refused r q
+    word-refused : {r : Refusal} {q : ℕ} → parameterIn a x s c ≡ Step.Refused r q → parameterWord e m s c ≡ refused r q
     unfolding parameterIn
-    word-refused g = word-same ∙ step-refused _ (tested word (λ i. isSome (parameterKind table y i)) NoParameter s c) (sym g)
+    word-refused g = word-same ∙ step-refused _ (tested word (λ i. isSome (kindAt a x i)) NoParameter s c) (sym g)
 
   module _ (sc : Scope) (p : ℕ) (s : List ℕ) where
-    flag-kinds : (i flag : ℕ) → referenceKind e sc (parameter2 m i flag) ≡ flagged (parameterKind table y flag) (parameterKind table y i)
+    flag-kinds : (i flag : ℕ) → referenceKind e sc (parameter2 m i flag) ≡ flagged (kindAt a x flag) (kindAt a x i)
     unfolding referenceKind
-    flag-kinds i flag = rw (referenceKind, found-kind e table x same m y found flag, found-kind e table x same m y found i)
+    flag-kinds i flag = rw (referenceKind, parameter-format e a same m x found flag, parameter-format e a same m x found i)
 
-    flag-after : (i : ℕ) → isSome (parameterKind table y i) ≡ true → (w : Read ℕ) →
+    flag-after : (i : ℕ) → isSome (kindAt a x i) ≡ true → (w : Read ℕ) →
         stepOf (referenceFit e sc) (onRead w (λ flag q. onRead
         (need (isSome (referenceKind e sc (parameter2 m i flag))) Unfit p s q) (λ u q. read (parameter2 m i flag) q))) ≡
-        flagStep (fitOf (parameterKind table y i)) p (stepOf (λ i. fitOf (parameterKind table y i)) w)
+        flagStep (fitOf (kindAt a x i)) p (stepOf (λ i. fitOf (kindAt a x i)) w)
     flag-after i h (read flag q) =
         rw (flag-kinds i flag)
-        (flag-by (parameterKind table y flag) (parameterKind table y i) h (referenceFit e sc) (parameter2 m i flag)
+        (flag-by (kindAt a x flag) (kindAt a x i) h (referenceFit e sc) (parameter2 m i flag)
         (ap fitOf (flag-kinds i flag)) p s q)
     flag-after i h (refused r q) = refl
 
     module _ (c : Cursor) where
-      pub words-refused : (b : Bool) {r : Refusal} {q : ℕ} → parameterIn table y s c ≡ Step.Refused r q →
+      pub words-refused : (b : Bool) {r : Refusal} {q : ℕ} → parameterIn a x s c ≡ Step.Refused r q →
           stepOf (referenceFit e sc) (words e sc p m b s c) ≡ Step.Refused r q
       words-refused true g = rw (word-refused s c g)
       words-refused false g = rw (word-refused s c g)
 
-      pub words-plain : (b : Bool) → b ≡ false → {k : Fit} {q : Cursor} → parameterIn table y s c ≡ Step.Next k q →
+      pub words-plain : (b : Bool) → b ≡ false → {k : Fit} {q : Cursor} → parameterIn a x s c ≡ Step.Next k q →
           stepOf (referenceFit e sc) (words e sc p m b s c) ≡ Step.Next k q
       unfolding referenceKind
       words-plain true z g = not-so z
       words-plain false z {k} {q} g =
           let (i, is, fit, known) = word-read s c g in
-          rw (is, referenceKind, found-kind e table x same m y found i) (ap (λ z. Step.Next z q) (sym fit))
+          rw (is, referenceKind, parameter-format e a same m x found i) (ap (λ z. Step.Next z q) (sym fit))
 
-      pub words-flagged : (b : Bool) → b ≡ true → {k : Fit} {q : Cursor} → parameterIn table y s c ≡ Step.Next k q →
-          stepOf (referenceFit e sc) (words e sc p m b s c) ≡ flagIn table y k p s q
+      pub words-flagged : (b : Bool) → b ≡ true → {k : Fit} {q : Cursor} → parameterIn a x s c ≡ Step.Next k q →
+          stepOf (referenceFit e sc) (words e sc p m b s c) ≡ flagIn a x k p s q
       unfolding flagIn parameterIn
       words-flagged true z {k} {q} g =
           let (i, is, fit, known) = word-read s c g in
-          let u : stepOf (referenceFit e sc) (words e sc p m true s c) ≡ flagIn table y (fitOf (parameterKind table y i)) p s q =
-          rw (is, word-same s q) (flag-after i known (tested word (λ i. isSome (parameterKind table y i)) NoParameter s q)) in
-          u ∙ ap (λ z. flagIn table y z p s q) (sym fit)
+          let u : stepOf (referenceFit e sc) (words e sc p m true s c) ≡ flagIn a x (fitOf (kindAt a x i)) p s q =
+          rw (is, word-same s q) (flag-after i known (tested word (λ i. isSome (kindAt a x i)) NoParameter s q)) in
+          u ∙ ap (λ z. flagIn a x z p s q) (sym fit)
       words-flagged false z g = not-so (sym z)

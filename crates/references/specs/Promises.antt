@@ -7,6 +7,9 @@ use Rattle.wire.specs.Lists.{isSome, _andThen_}
 use Rattle.wire.specs.declared.codes.ReferenceCode.{ReferenceCode}
 use Rattle.wire.specs.declared.codes.ReferenceCode.the-variants as Code
 use Rattle.dictionary.specs.Dictionary.{Relation, dictionary}
+use Rattle.dictionary.specs.Internal.Walk.{entryField}
+use Rattle.dictionary.specs.declared.lookup.Place.{Place}
+use Rattle.dictionary.specs.declared.lookup.Place.the-variants as Place
 use Rattle.dictionary.specs.Naming.{Name, fieldOf, formatOf}
 use Rattle.grammar.specs.Kind.{Kind}
 use Rattle.grammar.specs.declared.Cursor.{Cursor}
@@ -26,13 +29,11 @@ use Rattle.grammar.specs.Reader.{Read, Reader, word, tested}
 use Rattle.grammar.specs.Reading.{relationsOf}
 use Rattle.grammar.specs.Values.{readReference}
 use Rattle.grammar.specs.Internal.Steps.{fitOf, stepOf}
-use Rattle.messages.specs.declared.declared.Message.{Message}
-use Rattle.messages.specs.declared.declared.Messages.{Messages}
-use Rattle.messages.specs.Entries.{messagesOf, parameterKind}
+use Rattle.messages.specs.Entries.{messagesIn, messageAt, parameterKind}
 
--- what stands around the statements: the relations of the dictionary, and the messages that the parameter table and their array stand for
-unfoldable pub environmentOf : List ℕ → List ℕ → Messages → Environment
-environmentOf d table x = record { relations = relationsOf (dictionary d); messages = messagesOf table x }
+-- what stands around the statements: the relations of the dictionary, and the messages that their array stands for
+unfoldable pub environmentOf : List ℕ → List ℕ → Environment
+environmentOf d around = record { relations = relationsOf (dictionary d); messages = messagesIn around }
 
 -- ---- the kinds of what was read
 
@@ -58,11 +59,13 @@ parameterAllows (AsTarget p) sc m = parameterTarget sc m
 
 -- ---- fields of a relation
 
-unfoldable pub idKind : Relation → ℕ → Option Kind
-idKind r i = Option·map formatKind (formatOf r i)
-
 unfoldable pub nameKind : Relation → Name → Option Kind
 nameKind r n = Option·map formatKind (fieldOf r n andThen formatOf r)
+
+-- the kind of the field whose entry was looked up
+abbrev pub entryFit : List ℕ → Place → Fit
+entryFit d (Place.At q) = fitOf (some (formatKind (entryField d q .format)))
+entryFit d Place.Unknown = Fit.NoKind
 
 -- a kind that was looked up for what stands at a place
 abbrev pub knownStep : Refusal → Fit → ℕ → Cursor → Step
@@ -79,12 +82,12 @@ abbrev pub fieldCode : Bool → ReferenceCode
 fieldCode true = Code.Field
 fieldCode false = Code.Fid
 
--- ---- parameters of a message
+-- ---- parameters of the message of an index
 
 -- the word of a parameter
-unfoldable pub parameterIn : List ℕ → Message → List ℕ → Cursor → Step
-parameterIn table x s c =
-    stepOf (λ i. fitOf (parameterKind table x i)) (tested word (λ i. isSome (parameterKind table x i)) NoParameter s c)
+unfoldable pub parameterIn : List ℕ → ℕ → List ℕ → Cursor → Step
+parameterIn a x s c =
+    stepOf (λ i. fitOf (parameterKind a (messageAt a x) i)) (tested word (λ i. isSome (parameterKind a (messageAt a x) i)) NoParameter s c)
 
 abbrev pub flagStep : Fit → ℕ → Step → Step
 flagStep fit at (Step.Next (Fit.Number s) c) = Step.Next fit c
@@ -94,8 +97,8 @@ flagStep fit at (Step.Next Fit.NoKind c) = Step.Refused Unfit at
 flagStep fit at (Step.Refused r p) = Step.Refused r p
 
 -- the flag word after a parameter of a kind
-unfoldable pub flagIn : List ℕ → Message → Fit → ℕ → List ℕ → Cursor → Step
-flagIn table x fit at s c = flagStep fit at (parameterIn table x s c)
+unfoldable pub flagIn : List ℕ → ℕ → Fit → ℕ → List ℕ → Cursor → Step
+flagIn a x fit at s c = flagStep fit at (parameterIn a x s c)
 
 abbrev pub parameterCode : Bool → ReferenceCode
 parameterCode false = Code.Parameter

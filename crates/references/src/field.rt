@@ -1,19 +1,16 @@
 // Fields, by the context that they stand in.
 ghost use Prim.Native.Nat.{ℕ};
 ghost use mathlib.Core.Path.{_≡_};
-ghost use Rattle.dictionary.specs.Naming.{named};
 ghost use Rattle.dictionary.specs.Internal.Walk.{relationAt};
 ghost use Rattle.grammar.specs.Environment.{Environment};
 ghost use Rattle.grammar.specs.Values.{byName, byNumber};
-ghost use Rattle.grammar.specs.Internal.Steps.{fitOf};
 ghost use Rattle.scopes.specs.Scopes.{scopeOf};
-ghost use Rattle.references.specs.Promises.{idKind, nameKind, knownStep, fieldIn, fieldCode, referenceStep};
+ghost use Rattle.references.specs.Promises.{entryFit, knownStep, fieldIn, fieldCode, referenceStep};
 use crate::role::field_allowed;
 use crate::role::target_place;
-use dictionary::field::Index;
 use dictionary::field::described;
 use dictionary::field::field_entry;
-use dictionary::field::field_named;
+use dictionary::field::named_entry;
 use dictionary::lookup::Place;
 use dictionary::names::name_at;
 use grammar::ContextStep;
@@ -25,32 +22,24 @@ use grammar::Step;
 use grammar::WordStep;
 use scopes::kinds::type_fit;
 use scopes::scope::Found;
-use scopes::scope::Scope;
+use scopes::scope::SCOPE;
+use scopes::scope::find;
+use scopes::scope::relation_at;
 use steps::next_context;
 use steps::next_word;
 use steps::skip_name;
 
-// The kind of the field of an id, or that there is none.
-fn id_fit(dictionary: &[u8], relation: usize, id: usize) -> Fit
-    ensures { λ r. ⌜ r ≡ fitOf (idKind (relationAt (now (dictionary .entry)) relation) id) ⌝ }
+// The kind of the field whose entry was looked up, or that there is none.
+fn entry_fit(dictionary: &[u8], found: Place) -> Fit
+    ensures { λ r. ⌜ r ≡ entryFit (now (dictionary .entry)) found ⌝ }
 {
-    match field_entry(dictionary, relation, id) {
+    match found {
         Place::At(q) => {
             let x = described(dictionary, q);
             let t = x.data_type;
             type_fit(t, x.scale)
         }
         Place::Unknown => Fit::NoKind,
-    }
-}
-
-// The kind of the field of a name, or that there is none.
-fn name_fit(dictionary: &[u8], relation: usize, name: &[u8]) -> Fit
-    ensures { λ r. ⌜ r ≡ fitOf (nameKind (relationAt (now (dictionary .entry)) relation) (named (now (name .entry)))) ⌝ }
-{
-    match field_named(dictionary, relation, name) {
-        Index::Is(i) => id_fit(dictionary, relation, i),
-        Index::Unknown => Fit::NoKind,
     }
 }
 
@@ -73,7 +62,10 @@ fn read_named(request: &[u8], dictionary: &[u8], relation: usize, c: Cursor) -> 
     match skip_name(request, c) {
         Step::Next(_, after) => known(
             Refusal::Unknown,
-            name_fit(dictionary, relation, name_at(request, c.at)),
+            entry_fit(
+                dictionary,
+                named_entry(dictionary, relation, name_at(request, c.at)),
+            ),
             c.at,
             after,
         ),
@@ -88,7 +80,7 @@ fn read_numbered(request: &[u8], dictionary: &[u8], relation: usize, c: Cursor) 
     match next_word(request, c) {
         WordStep::Is(i, after) => known(
             Refusal::Unknown,
-            id_fit(dictionary, relation, i as usize),
+            entry_fit(dictionary, field_entry(dictionary, relation, i as usize)),
             c.at,
             after,
         ),
@@ -100,24 +92,24 @@ fn read_numbered(request: &[u8], dictionary: &[u8], relation: usize, c: Cursor) 
 pub(crate) fn read_field(
     request: &[u8],
     dictionary: &[u8],
-    scope: Scope,
+    scope: &[u16; SCOPE],
     role: Role,
     by_name: bool,
     c: Cursor,
 ) -> Step
-    ensures { λ r. ⌜ ((e : Environment) (p : ℕ) → r ≡ referenceStep e (scopeOf (now (dictionary .entry)) scope) role p
+    ensures { λ r. ⌜ ((e : Environment) (p : ℕ) → r ≡ referenceStep e (scopeOf (now (dictionary .entry)) (now (scope .entry))) role p
         (fieldCode «by_name») (now (request .entry)) c) ⌝ }
 {
     let ContextStep::Is(n, first) = next_context(request, c) else {
         return Step::Refused(Refusal::EndsEarly, request.len());
     };
-    let Found::Is(x) = scope.find(n) else {
+    let Found::At(i) = find(scope, n) else {
         return Step::Refused(Refusal::BadContext, c.at);
     };
-    if !field_allowed(dictionary, scope, role, n) {
+    if !field_allowed(scope, role, n) {
         return Step::Refused(Refusal::Misplaced, target_place(role));
     }
-    let relation = x.relation as usize;
+    let relation = relation_at(scope, i);
     if by_name {
         read_named(request, dictionary, relation, first)
     } else {

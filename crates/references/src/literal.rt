@@ -13,11 +13,11 @@ use grammar::Fit;
 use grammar::Refusal;
 use grammar::Step;
 use grammar::WordStep;
-use scopes::kinds::scale_of;
 use steps::next_byte;
 use steps::scale_byte;
 use steps::size_word;
 use steps::skip;
+use wire::bytes::signed_byte;
 use wire::codes::LiteralType;
 use wire::codes::Width;
 
@@ -26,7 +26,7 @@ fn number_literal(request: &[u8], w: Width, c: Cursor) -> Step
 {
     match scale_byte(request, c) {
         ByteStep::Is(scale, first) => match skip(request, first, width_bytes(w)) {
-            Step::Next(_, after) => Step::Next(Fit::Number(scale_of(scale)), after),
+            Step::Next(_, after) => Step::Next(Fit::Number(signed_byte(scale)), after),
             Step::Refused(r, p) => Step::Refused(r, p),
         },
         ByteStep::Refused(r, p) => Step::Refused(r, p),

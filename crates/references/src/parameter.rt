@@ -14,22 +14,22 @@ use grammar::Refusal;
 use grammar::Role;
 use grammar::Step;
 use grammar::WordStep;
+use messages::declared::AROUND;
 use messages::declared::FoundMessage;
-use messages::declared::Message;
-use messages::declared::Messages;
+use messages::declared::find;
 use messages::declared::parameter_fit;
-use scopes::scope::Scope;
+use scopes::scope::SCOPE;
 use steps::next_message;
 use steps::next_word;
 
 // The word of a parameter of a message.
-fn read_word(request: &[u8], parameters: &[u32], x: Message, c: Cursor) -> Step
-    ensures { λ r. ⌜ r ≡ parameterIn (now (parameters .entry)) x (now (request .entry)) c ⌝ }
+fn read_word(request: &[u8], around: &[u32; AROUND], x: usize, c: Cursor) -> Step
+    ensures { λ r. ⌜ r ≡ parameterIn (now (around .entry)) x (now (request .entry)) c ⌝ }
 {
     match next_word(request, c) {
         WordStep::Is(i, after) => known(
             Refusal::NoParameter,
-            parameter_fit(parameters, x, i),
+            parameter_fit(around, x, i),
             c.at,
             after,
         ),
@@ -38,10 +38,17 @@ fn read_word(request: &[u8], parameters: &[u32], x: Message, c: Cursor) -> Step
 }
 
 // The flag word after a parameter of a kind, of the reference whose code stands at a place.
-fn read_flag(request: &[u8], parameters: &[u32], x: Message, fit: Fit, at: usize, c: Cursor) -> Step
-    ensures { λ r. ⌜ r ≡ flagIn (now (parameters .entry)) x fit at (now (request .entry)) c ⌝ }
+fn read_flag(
+    request: &[u8],
+    around: &[u32; AROUND],
+    x: usize,
+    fit: Fit,
+    at: usize,
+    c: Cursor,
+) -> Step
+    ensures { λ r. ⌜ r ≡ flagIn (now (around .entry)) x fit at (now (request .entry)) c ⌝ }
 {
-    match read_word(request, parameters, x, c) {
+    match read_word(request, around, x, c) {
         Step::Next(flag, after) => match flag {
             Fit::Number(_) => Step::Next(fit, after),
             Fit::Text => Step::Refused(Refusal::Unfit, at),
@@ -56,30 +63,29 @@ fn read_flag(request: &[u8], parameters: &[u32], x: Message, fit: Fit, at: usize
 // dictionary.
 pub(crate) fn read_parameter(
     request: &[u8],
-    parameters: &[u32],
-    messages: Messages,
-    scope: Scope,
+    around: &[u32; AROUND],
+    scope: &[u16; SCOPE],
     role: Role,
     flagged: bool,
     at: usize,
     c: Cursor,
 ) -> Step
-    ensures { λ r. ⌜ ((d : List ℕ) → r ≡ referenceStep (environmentOf d (now (parameters .entry)) messages) (scopeOf d scope) role at
+    ensures { λ r. ⌜ ((d : List ℕ) → r ≡ referenceStep (environmentOf d (now (around .entry))) (scopeOf d (now (scope .entry))) role at
         (parameterCode flagged) (now (request .entry)) c) ⌝ }
 {
     let MessageStep::Is(m, first) = next_message(request, c) else {
         return Step::Refused(Refusal::EndsEarly, request.len());
     };
-    let FoundMessage::Is(x) = messages.find(m) else {
+    let FoundMessage::At(x) = find(around, m) else {
         return Step::Refused(Refusal::BadMessage, c.at);
     };
     if !parameter_allowed(scope, role, m) {
         return Step::Refused(Refusal::Misplaced, target_place(role));
     }
-    match read_word(request, parameters, x, first) {
+    match read_word(request, around, x, first) {
         Step::Next(fit, second) => {
             if flagged {
-                read_flag(request, parameters, x, fit, at, second)
+                read_flag(request, around, x, fit, at, second)
             } else {
                 Step::Next(fit, second)
             }

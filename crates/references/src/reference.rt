@@ -13,8 +13,8 @@ use grammar::Cursor;
 use grammar::Refusal;
 use grammar::Role;
 use grammar::Step;
-use messages::declared::Messages;
-use scopes::scope::Scope;
+use messages::declared::AROUND;
+use scopes::scope::SCOPE;
 use steps::next_byte;
 use wire::codes::ReferenceCode;
 
@@ -22,26 +22,21 @@ use wire::codes::ReferenceCode;
 pub fn read_reference(
     request: &[u8],
     dictionary: &[u8],
-    parameters: &[u32],
-    messages: Messages,
-    scope: Scope,
+    around: &[u32; AROUND],
+    scope: &[u16; SCOPE],
     role: Role,
     at: usize,
     code: ReferenceCode,
     c: Cursor,
 ) -> Step
-    ensures { λ r. ⌜ r ≡ referenceStep (environmentOf (now (dictionary .entry)) (now (parameters .entry)) messages)
-        (scopeOf (now (dictionary .entry)) scope) role at code (now (request .entry)) c ⌝ }
+    ensures { λ r. ⌜ r ≡ referenceStep (environmentOf (now (dictionary .entry)) (now (around .entry)))
+        (scopeOf (now (dictionary .entry)) (now (scope .entry))) role at code (now (request .entry)) c ⌝ }
 {
     match code {
         ReferenceCode::Field => read_field(request, dictionary, scope, role, true, c),
         ReferenceCode::Fid => read_field(request, dictionary, scope, role, false, c),
-        ReferenceCode::Parameter => {
-            read_parameter(request, parameters, messages, scope, role, false, at, c)
-        }
-        ReferenceCode::Parameter2 => {
-            read_parameter(request, parameters, messages, scope, role, true, at, c)
-        }
+        ReferenceCode::Parameter => { read_parameter(request, around, scope, role, false, at, c) }
+        ReferenceCode::Parameter2 => { read_parameter(request, around, scope, role, true, at, c) }
     }
 }
 
@@ -49,23 +44,22 @@ pub fn read_reference(
 pub fn read_target(
     request: &[u8],
     dictionary: &[u8],
-    parameters: &[u32],
-    messages: Messages,
-    scope: Scope,
+    around: &[u32; AROUND],
+    scope: &[u16; SCOPE],
     at: usize,
     c: Cursor,
 ) -> Step
-    ensures { λ r. ⌜ r ≡ stepOf (referenceFit (environmentOf (now (dictionary .entry)) (now (parameters .entry)) messages)
-        (scopeOf (now (dictionary .entry)) scope)) (readTarget (environmentOf (now (dictionary .entry)) (now (parameters .entry)) messages)
-        (scopeOf (now (dictionary .entry)) scope) at (now (request .entry)) c) ⌝ }
+    ensures { λ r. ⌜ r ≡ stepOf (referenceFit (environmentOf (now (dictionary .entry)) (now (around .entry)))
+        (scopeOf (now (dictionary .entry)) (now (scope .entry))))
+        (readTarget (environmentOf (now (dictionary .entry)) (now (around .entry)))
+        (scopeOf (now (dictionary .entry)) (now (scope .entry))) at (now (request .entry)) c) ⌝ }
 {
     match next_byte(request, c) {
         ByteStep::Is(x, first) => match target_class(x) {
             TargetClass::Due(code) => read_reference(
                 request,
                 dictionary,
-                parameters,
-                messages,
+                around,
                 scope,
                 Role::AsTarget(at),
                 c.at,

@@ -5,7 +5,9 @@ ghost use mathlib.Core.List.{List};
 ghost use Rattle.scopes.specs.Scopes.{scopeOf};
 ghost use Rattle.references.specs.Promises.{fieldAllows, parameterAllows, placeOf};
 use grammar::Role;
-use scopes::scope::Scope;
+use scopes::scope::SCOPE;
+use scopes::scope::has_send;
+use scopes::scope::is_target;
 use wire::numbers::ContextNumber;
 use wire::numbers::MessageNumber;
 
@@ -20,26 +22,21 @@ pub(crate) fn target_place(role: Role) -> usize
 }
 
 // A field target names the context of the nearest store or modify around.
-pub(crate) fn field_allowed(dictionary: &[u8], scope: Scope, role: Role, n: ContextNumber) -> bool
-    ensures { λ r. ⌜ r ≡ fieldAllows role (scopeOf (now (dictionary .entry)) scope) (n .0) ⌝ }
+pub(crate) fn field_allowed(scope: &[u16; SCOPE], role: Role, n: ContextNumber) -> bool
+    ensures { λ r. ⌜ ((d : List ℕ) → r ≡ fieldAllows role (scopeOf d (now (scope .entry))) (n .0)) ⌝ }
 {
     match role {
         Role::AsValue => true,
-        Role::AsTarget(_) => if scope.updating {
-            scope.target.0 == n.0
-        } else {
-            false
-        },
+        Role::AsTarget(_) => is_target(scope, n),
     }
 }
 
 // A parameter target stands inside a send of its message.
-pub(crate) fn parameter_allowed(scope: Scope, role: Role, m: MessageNumber) -> bool
-    ensures { λ r. ⌜ ((d : List ℕ) → r ≡ parameterAllows role (scopeOf d scope) (m .0)) ⌝ }
+pub(crate) fn parameter_allowed(scope: &[u16; SCOPE], role: Role, m: MessageNumber) -> bool
+    ensures { λ r. ⌜ ((d : List ℕ) → r ≡ parameterAllows role (scopeOf d (now (scope .entry))) (m .0)) ⌝ }
 {
-    let sends = scope.sends;
     match role {
         Role::AsValue => true,
-        Role::AsTarget(_) => sends.has(m),
+        Role::AsTarget(_) => has_send(scope, m),
     }
 }

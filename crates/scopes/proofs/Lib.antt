@@ -1,4 +1,6 @@
 -- Laws that belong to no one function.
+pub mod Runs
+pub mod Held
 pub mod Scopes
 pub mod Rests
 pub mod Scales

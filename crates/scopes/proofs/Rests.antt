@@ -1,18 +1,19 @@
--- The elements of an array below a count, from an index on.
+-- The elements of an array below a count, from an index on. Assumes nothing.
 use Prim.Native.Nat.{ℕ, suc, _+_, _-_, _≤_, _<_}
-use mathlib.Core.Path.{_≡_}
-use mathlib.Core.Bool.{Bool, true, false}
-use mathlib.Core.List.{List, [], _∷_, map}
+use mathlib.Core.Path.{_≡_, refl, ap, _∙_}
+use mathlib.Core.Bool.{Bool, true, false, cond, _||_}
+use mathlib.Core.List.{List, [], _∷_}
+use mathlib.Core.Option.{Option, none, some, Option·map}
 use native.Mathlib.Omega.{arith}
-use native.Mathlib.Nat.{sub-zero}
+use native.Mathlib.Nat.{sub-zero, add-zero}
 use native.Mathlib.Numerals.{add-one}
-use borrow.Author.Tests.{eq-eqb, ne-eqb}
+use lib.Dec.{eqb}
 use lib.ListN.{length, take, drop, getD, drop-of-length-le}
 use lib.Seq.{drop-cons, take-nil}
-use Rattle.wire.specs.Lists.{anyOf, among, find}
-use Rattle.scopes.specs.declared.scope.Context.{Context}
-use Rattle.scopes.specs.declared.scope.Found.the-variants.{Is, Nothing}
-use Rattle.scopes.specs.Scopes.{foundOf}
+use Rattle.wire.specs.Lists.{anyOf, indexOf, among, isSome}
+use Rattle.dictionary.proofs.FieldSearches.{passed, none-passed, one-passed}
+use Rattle.scopes.specs.Scopes.{eachFrom}
+use Rattle.scopes.proofs.Runs.{each-length, each-at}
 
 module _ {A : Type 0} (l : List A) (n i : ℕ) where
   abbrev pub rest : List A
@@ -32,36 +33,58 @@ module _ {A : Type 0} (l : List A) (n i : ℕ) where
 pub rest-start : {A : Type 0} (l : List A) (n : ℕ) → take n l ≡ rest l n 0
 rest-start l n = rw (sub-zero n)
 
--- ---- a search for a number among those of the elements
+-- ---- a search among f of each of m numbers from start on, n of them at most
 
-module _ {A : Type 0} (f : A → ℕ) (m : ℕ) where
-  abbrev pub amongOf : List A → Bool
-  amongOf l = among m (map f l)
+abbrev pub index : {A : Type 0} → (A → Bool) → (ℕ → A) → ℕ → ℕ → ℕ → Option ℕ
+index test f start m n = indexOf test (take n (eachFrom f start m))
 
-  pub no-number : {l : List A} → l ≡ [] → false ≡ amongOf l
-  unfolding among anyOf
-  no-number e = rw e
+-- the first i do not pass
+pub record Passed {A : Type 0} (test : A → Bool) (f : ℕ → A) (start m n i : ℕ) : Type 0 where
+  pub search : index test f start m n ≡ passed i (indexOf test (rest (eachFrom f start m) n i))
 
-  module _ (l : List A) (n i : ℕ) (h : i < length l) (k : i < n) (d : A) where
-    pub number-here : f (getD l i d) ≡ m → true ≡ amongOf (rest l n i)
-    unfolding among anyOf
-    number-here e = rw (rest-next l n i d h k, eq-eqb (f (getD l i d)) m e)
+pub index-start : {A : Type 0} {test : A → Bool} {f : ℕ → A} {start m n : ℕ} → Passed test f start m n 0
+index-start {A} {test} {f} {start} {m} {n} =
+    record { search = ap (indexOf test) (rest-start (eachFrom f start m) n) ∙ none-passed (indexOf test (rest (eachFrom f start m) n 0)) }
 
-    pub number-next : (f (getD l i d) ≡ m → ⊥) → amongOf (rest l n i) ≡ amongOf (rest l n (i + 1))
-    unfolding among anyOf
-    number-next e = rw (rest-next l n i d h k, ne-eqb (f (getD l i d)) m e)
+module _ {A : Type 0} {test : A → Bool} {f : ℕ → A} {start m n i : ℕ} (s : Passed test f start m n i) where
+  none-left : rest (eachFrom f start m) n i ≡ [] → index test f start m n ≡ none
+  unfolding indexOf
+  none-left e = s .search ∙ ap (λ l. passed i (indexOf test l)) e
 
--- ---- a search for a context
+  pub index-counted : i ≡ n → index test f start m n ≡ none
+  index-counted e = none-left (rest-counted (eachFrom f start m) n i e)
 
-pub no-context : (m : ℕ) {l : List Context} → l ≡ [] → Nothing ≡ foundOf l m
-unfolding find
-no-context m e = rw e
+  pub index-over : m ≤ i → index test f start m n ≡ none
+  index-over h = none-left (rest-over (eachFrom f start m) n i (rw (each-length f start m) h))
 
-module _ (m : ℕ) (l : List Context) (n i : ℕ) (h : i < length l) (k : i < n) (d : Context) where
-  pub context-here : getD l i d .number .0 ≡ m → Is (getD l i d) ≡ foundOf (rest l n i) m
-  unfolding find
-  context-here e = rw (rest-next l n i d h k, eq-eqb (getD l i d .number .0) m e)
+  -- j is the number of the index i
+  module _ {j : ℕ} (h : i < m) (k : i < n) (e : start + i ≡ j) where
+    next : rest (eachFrom f start m) n i ≡ f j ∷ rest (eachFrom f start m) n (i + 1)
+    next =
+        let l : i < length (eachFrom f start m) = omega (arith, each-length f start m) in
+        rest-next (eachFrom f start m) n i (f start) l k ∙
+        ap (λ x. x ∷ rest (eachFrom f start m) n (i + 1)) (each-at f start m i (f start) h ∙ ap f e)
 
-  pub context-next : (getD l i d .number .0 ≡ m → ⊥) → foundOf (rest l n i) m ≡ foundOf (rest l n (i + 1)) m
-  unfolding find
-  context-next e = rw (rest-next l n i d h k, ne-eqb (getD l i d .number .0) m e)
+    pub index-here : test (f j) ≡ true → index test f start m n ≡ some i
+    unfolding indexOf
+    index-here t = s .search ∙ rw (next, t, add-zero i)
+
+    pub index-next : test (f j) ≡ false → Passed test f start m n (i + 1)
+    unfolding indexOf
+    index-next t =
+        record { search = s .search ∙ rw (next, t) (one-passed i (indexOf test (rest (eachFrom f start m) n (i + 1)))) }
+
+-- some element passes where one has an index
+pub any-index : {A : Type 0} (test : A → Bool) (l : List A) → anyOf test l ≡ isSome (indexOf test l)
+unfolding anyOf indexOf
+any-index test [] = refl
+any-index test (x ∷ l) = rw (any-index test l) (by (test x) (indexOf test l))
+  where
+    by : (t : Bool) (o : Option ℕ) → t || isSome o ≡ isSome (cond t (some 0) (Option·map suc o))
+    by true o = refl
+    by false none = refl
+    by false (some k) = refl
+
+pub among-index : (n : ℕ) (l : List ℕ) → among n l ≡ isSome (indexOf (λ x. eqb x n) l)
+unfolding among
+among-index n l = any-index (λ x. eqb x n) l

@@ -15,19 +15,12 @@ use wire::codes::FieldType;
 use wire::codes::Operator;
 use wire::limits::MIN_ARITHMETIC_SCALE;
 
-// A scale byte as a signed number.
-pub fn scale_of(byte: u8) -> i8
-    ensures { λ r. ⌜ r ≡ signed 1 byte ⌝ }
-{
-    signed_byte(byte)
-}
-
 // The kind of a stored type with its scale byte.
 fn plain_fit(t: DataType, scale: u8) -> Fit
     ensures { λ r. ⌜ r ≡ fitOf (some (typeKind (Plain t) scale)) ⌝ }
 {
     match t {
-        DataType::Number(_) => Fit::Number(scale_of(scale)),
+        DataType::Number(_) => Fit::Number(signed_byte(scale)),
         DataType::Date => Fit::Date,
         DataType::Chars(_) => Fit::Text,
     }
@@ -39,7 +32,7 @@ pub fn type_fit(t: FieldType, scale: u8) -> Fit
 {
     match t {
         FieldType::Plain(x) => plain_fit(x, scale),
-        FieldType::Reading => Fit::Number(scale_of(scale)),
+        FieldType::Reading => Fit::Number(signed_byte(scale)),
     }
 }
 

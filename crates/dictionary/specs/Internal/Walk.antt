@@ -131,6 +131,10 @@ unfoldable pub isNamed : List ℕ → Name → ℕ → Bool
 isNamed d (named n) q = eqb (kindAt d q) relationEntryKind && sameBytes (nameAt d (q + relationName)) n
 isNamed d (numbered i) q = eqb (kindAt d q) relationEntryKind && eqb (wordAt d (q + entryId)) i
 
+-- the field of the entry at q has a name
+abbrev pub hasName : List ℕ → List ℕ → ℕ → Bool
+hasName d n q = sameBytes (nameAt d (q + fieldName)) n
+
 -- the place of a relation's entry; a dictionary that is too long has none
 unfoldable pub relationPlace : List ℕ → Name → Option ℕ
 relationPlace d n = cond (leb (length d) maxDictionaryBytes) (lastOf (isNamed d n) (between d 0 (length d))) none

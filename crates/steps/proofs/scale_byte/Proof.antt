@@ -7,7 +7,7 @@ use Rattle.steps.proofs.scale_byte.Statement.{statement}
 use Rattle.steps.proofs.scale_byte.Tie as tie
 use Rattle.steps.proofs.scale_byte.Reads as reads
 use Rattle.steps.proofs.scale_byte.Lts as lts
-use Rattle.dictionary.proofs.check.scale_in_range.Reads as scale-in-range-reads
+use Rattle.dictionary.proofs.ranges.scale_in_range.Reads as scale-in-range-reads
 use Rattle.steps.proofs.next_byte.Reads as next-byte-reads
 
 -- src/lib.rt:120:11

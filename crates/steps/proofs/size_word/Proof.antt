@@ -7,7 +7,7 @@ use Rattle.steps.proofs.size_word.Statement.{statement}
 use Rattle.steps.proofs.size_word.Tie as tie
 use Rattle.steps.proofs.size_word.Reads as reads
 use Rattle.steps.proofs.size_word.Lts as lts
-use Rattle.dictionary.proofs.check.size_in_range.Reads as size-in-range-reads
+use Rattle.dictionary.proofs.ranges.size_in_range.Reads as size-in-range-reads
 use Rattle.steps.proofs.next_word.Reads as next-word-reads
 
 -- src/lib.rt:136:11

@@ -4,7 +4,7 @@ use Rattle.dictionary.proofs.check.fits.Tie as tie
 use Rattle.dictionary.proofs.check.fits.Reads as reads
 use Rattle.dictionary.proofs.check.fits.Lts as lts
 use Rattle.dictionary.proofs.check.plain_fits.Reads as plain-fits-reads
-use Rattle.dictionary.proofs.check.scale_in_range.Reads as scale-in-range-reads
+use Rattle.dictionary.proofs.ranges.scale_in_range.Reads as scale-in-range-reads
 
 -- src/check.rt:93:26
 enum-known-t : tie.Need-enum-known-t

@@ -4,7 +4,7 @@ use Rattle.dictionary.proofs.check.number_fits.Statement.{statement}
 use Rattle.dictionary.proofs.check.number_fits.Tie as tie
 use Rattle.dictionary.proofs.check.number_fits.Reads as reads
 use Rattle.dictionary.proofs.check.number_fits.Lts as lts
-use Rattle.dictionary.proofs.check.scale_in_range.Reads as scale-in-range-reads
+use Rattle.dictionary.proofs.ranges.scale_in_range.Reads as scale-in-range-reads
 
 -- src/check.rt:70:9
 scale-in-range-requires : tie.Need-scale-in-range-requires

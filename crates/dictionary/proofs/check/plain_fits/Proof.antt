@@ -5,7 +5,7 @@ use Rattle.dictionary.proofs.check.plain_fits.Tie as tie
 use Rattle.dictionary.proofs.check.plain_fits.Reads as reads
 use Rattle.dictionary.proofs.check.plain_fits.Lts as lts
 use Rattle.dictionary.proofs.check.number_fits.Reads as number-fits-reads
-use Rattle.dictionary.proofs.check.size_in_range.Reads as size-in-range-reads
+use Rattle.dictionary.proofs.ranges.size_in_range.Reads as size-in-range-reads
 
 -- src/check.rt:83:26
 enum-known-t : tie.Need-enum-known-t

@@ -1,27 +1,44 @@
--- `messages::declared::parameter_fit` meets its contract. Past the parameters, past the table, and by the row. Assumes nothing.
-use mathlib.Core.Path.{refl, _∙_}
+-- `messages::declared::parameter_fit` meets its contract. A law for each way through it. Assumes nothing.
+use mathlib.Core.Path.{_∙_}
 use native.Mathlib.Omega.{arith}
-use Rattle.messages.proofs.Parameters.{no-parameter, parameter-past, parameter-row}
+use Rattle.messages.proofs.Parameters.{no-message, no-parameter, parameter-past, parameter-row}
 use borrow.Author.Needs.{needs}
 use Rattle.messages.proofs.declared.parameter_fit.Statement.{statement}
 use Rattle.messages.proofs.declared.parameter_fit.Tie as tie
 
-cast-if1 : tie.Need-cast-if1
-cast-if1 c = search needs
-
 returns : tie.Need-returns
 returns c =
-    let args′ = c .before .before .before .args in
+    let args′ = c .before .args in
     let if1′ = c .if1 in
-    no-parameter (args′ .parameters .now) (args′ .x) (args′ .i) (if1′ .taken)
+    no-message (args′ .around .now) (args′ .message) (args′ .i) (if1′ .taken)
 
-cast-first : tie.Need-cast-first
-cast-first c = search needs
+add-if2 : tie.Need-add-if2
+add-if2 c = search needs
+
+mul-if2 : tie.Need-mul-if2
+mul-if2 c = search needs
+
+element-copy-out-if2 : tie.Need-element-copy-out-if2
+element-copy-out-if2 c = search needs
 
 returns-2 : tie.Need-returns-2
 returns-2 c =
-    let args′ = c .before .before .before .before .before .args in
-    parameter-past (args′ .parameters .now) (args′ .x) (args′ .i) (omega arith) (omega arith)
+    let args′ = c .before .before .before .args in
+    let if1′ = c .before .before .if1 in
+    let if2′ = c .if2 in
+    no-parameter (args′ .around .now) (args′ .message) (args′ .i) (if1′ .left) (if2′ .taken)
+
+add-wide : tie.Need-add-wide
+add-wide c = search needs
+
+mul-wide : tie.Need-mul-wide
+mul-wide c = search needs
+
+element-copy-out-wide : tie.Need-element-copy-out-wide
+element-copy-out-wide c = search needs
+
+wide-requires : tie.Need-wide-requires
+wide-requires c κs = search needs
 
 add-row : tie.Need-add-row
 add-row c = search needs
@@ -29,60 +46,49 @@ add-row c = search needs
 returns-3 : tie.Need-returns-3
 returns-3 c =
     let args′ = c .before .before .before .before .before .before .args in
-    let if3′ = c .if3 in
-    parameter-past (args′ .parameters .now) (args′ .x) (args′ .i) (omega arith) (if3′ .taken)
+    let if1′ = c .before .before .before .before .before .if1 in
+    let if2′ = c .before .before .before .if2 in
+    parameter-past (args′ .around .now) (args′ .message) (args′ .i) (if1′ .left) (if2′ .left) (omega arith)
 
-mul-at : tie.Need-mul-at
-mul-at c = search needs
+add-descriptor-fit : tie.Need-add-descriptor-fit
+add-descriptor-fit c = search needs
 
-add-number-at : tie.Need-add-number-at
-add-number-at c = search needs
+mul-descriptor-fit : tie.Need-mul-descriptor-fit
+mul-descriptor-fit c = search needs
 
-number-at-requires : tie.Need-number-at-requires
-number-at-requires c κs = search needs
+element-copy-out-descriptor-fit : tie.Need-element-copy-out-descriptor-fit
+element-copy-out-descriptor-fit c = search needs
 
-add-number-at-2 : tie.Need-add-number-at-2
-add-number-at-2 c = search needs
-
-number-at-requires-2 : tie.Need-number-at-requires-2
-number-at-requires-2 c κs = search needs
-
-add-number-at-3 : tie.Need-add-number-at-3
-add-number-at-3 c = search needs
-
-number-at-requires-3 : tie.Need-number-at-requires-3
-number-at-requires-3 c κs = search needs
-
-row-fit-requires : tie.Need-row-fit-requires
-row-fit-requires c κs = search needs
+descriptor-fit-requires : tie.Need-descriptor-fit-requires
+descriptor-fit-requires c κs = search needs
 
 returns-4 : tie.Need-returns-4
 returns-4 c =
-    let row-fit′ = c .row-fit in
-    let number-at′ = c .before .before .before .number-at in
-    let number-at2′ = c .before .before .number-at2 in
-    let number-at3′ = c .before .number-at3 in
-    let args′ = c .before .before .before .before .before .before .before .before .before .before .args in
-    let if3′ = c .before .before .before .before .if3 in
-    row-fit′ .ensures ∙ rw (number-at′ .ensures, number-at2′ .ensures, number-at3′ .ensures)
-    (parameter-row (args′ .parameters .now) (args′ .x) (args′ .i) (omega arith) _ refl (if3′ .left))
+    let wide′ = c .before .before .before .wide in
+    let descriptor-fit′ = c .descriptor-fit in
+    let args′ = c .before .before .before .before .before .before .before .before .args in
+    let if1′ = c .before .before .before .before .before .before .before .if1 in
+    let if2′ = c .before .before .before .before .before .if2 in
+    rw (wide′ .ensures .0) at (descriptor-fit′ .ensures) ∙
+    parameter-row (args′ .around .now) (args′ .message) (args′ .i) (if1′ .left) (if2′ .left) (omega arith)
 
 pub parameter-fit-spec : {M : Type 1} → statement M
 parameter-fit-spec =
     tie.close
     (tie.spec
-    cast-if1
     returns
-    cast-first
+    add-if2
+    mul-if2
+    element-copy-out-if2
     returns-2
+    add-wide
+    mul-wide
+    element-copy-out-wide
+    wide-requires
     add-row
     returns-3
-    mul-at
-    add-number-at
-    number-at-requires
-    add-number-at-2
-    number-at-requires-2
-    add-number-at-3
-    number-at-requires-3
-    row-fit-requires
+    add-descriptor-fit
+    mul-descriptor-fit
+    element-copy-out-descriptor-fit
+    descriptor-fit-requires
     returns-4)

@@ -6,7 +6,8 @@ use Rattle.grammar.specs.Reader.{byte}
 use Rattle.grammar.specs.Messages.{descriptorUnder}
 use Rattle.classes.specs.Classes.{descriptorClassOf}
 use Rattle.grammar.proofs.StepLaws.{byte-read, byte-refused}
-use Rattle.messages.proofs.Descriptors.{format-read, format-refused, under-few, descriptor-ended, descriptor-left-out, descriptor-foreign, descriptor-cut, descriptor-answer, descriptor-over}
+use Rattle.messages.proofs.Descriptors.{format-read, format-refused, under-few, descriptor-ended, descriptor-left-out}
+use Rattle.messages.proofs.Descriptors.{descriptor-foreign, descriptor-cut, descriptor-answer, descriptor-over}
 use borrow.Author.Needs.{needs}
 use Rattle.messages.proofs.descriptor.read_descriptor.Statement.{statement}
 use Rattle.messages.proofs.descriptor.read_descriptor.Tie as tie

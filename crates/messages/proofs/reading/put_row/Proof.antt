@@ -51,12 +51,14 @@ put-requires-5 c κs = search needs
 
 add-put-6 : tie.Need-add-put-6
 add-put-6 c =
-    let pre′ = c .before .before .before .before .before .before .before .before .before .before .before .before .before .before .before .before .before .before .before .before .before .before .before .before .before .before .pre in
+    let pre′ = c .before .before .before .before .before .before .before .before .before .before .before .before .before .before .before
+    .before .before .before .before .before .before .before .before .before .before .before .pre in
     omega (arith, pre′ .1 .0)
 
 cast-put-4 : tie.Need-cast-put-4
 cast-put-4 c =
-    let pre′ = c .before .before .before .before .before .before .before .before .before .before .before .before .before .before .before .before .before .before .before .before .before .before .before .before .before .before .pre in
+    let pre′ = c .before .before .before .before .before .before .before .before .before .before .before .before .before .before .before
+    .before .before .before .before .before .before .before .before .before .before .before .pre in
     omega (arith, pre′ .1 .1 .1)
 
 put-requires-6 : tie.Need-put-requires-6
@@ -70,11 +72,26 @@ returns c =
     let put6′ = c .before .before .put6 in
     let put5′ = c .before .before .before .before .before .before .put5 in
     let put4′ = c .before .before .before .before .before .before .before .before .before .before .before .put4 in
-    let put3′ = c .before .before .before .before .before .before .before .before .before .before .before .before .before .before .before .put3 in
-    let put2′ = c .before .before .before .before .before .before .before .before .before .before .before .before .before .before .before .before .before .before .before .put2 in
-    let put′ = c .before .before .before .before .before .before .before .before .before .before .before .before .before .before .before .before .before .before .before .before .before .before .before .before .put in
+    let put3′ = c .before .before .before .before .before .before .before .before .before .before .before .before .before .before .before
+    .put3 in
+    let put2′ = c .before .before .before .before .before .before .before .before .before .before .before .before .before .before .before
+    .before .before .before .before .put2 in
+    let put′ = c .before .before .before .before .before .before .before .before .before .before .before .before .before .before .before
+    .before .before .before .before .before .before .before .before .before .put in
     put6′ .ensures ∙
-    rw (put5′ .ensures, put4′ .ensures, put3′ .ensures, put2′ .ensures, put′ .ensures, add-zero, add-one, add-two, add-three, add-four, add-five)
+    rw (
+      put5′ .ensures,
+      put4′ .ensures,
+      put3′ .ensures,
+      put2′ .ensures,
+      put′ .ensures,
+      add-zero,
+      add-one,
+      add-two,
+      add-three,
+      add-four,
+      add-five,
+    )
 
 pub put-row-spec : {M : Type 1} → statement M
 put-row-spec =

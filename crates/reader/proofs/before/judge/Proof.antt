@@ -11,7 +11,7 @@ use Rattle.reader.proofs.before.judge.Reads as reads
 use Rattle.reader.proofs.before.judge.Lts as lts
 use Rattle.dictionary.proofs.check.check.Reads as check-reads
 
--- src/before.rt:19:9
+-- src/before.rt:29:9
 returns : tie.Need-returns
 unfolding beforeOf
 returns c =
@@ -19,7 +19,7 @@ returns c =
     let if1′ = c .if1 in
     rw (beforeOf, lt-leb 2048 (args′ .statements) (if1′ .taken))
 
--- src/before.rt:22:9
+-- src/before.rt:32:9
 returns-2 : tie.Need-returns-2
 unfolding beforeOf
 returns-2 c =
@@ -28,7 +28,7 @@ returns-2 c =
     let if2′ = c .if2 in
     rw (beforeOf, le-leb 2048 (args′ .statements) (if1′ .left), lt-leb 1536 (args′ .parameters) (if2′ .taken))
 
--- src/before.rt:25:9
+-- src/before.rt:35:9
 returns-3 : tie.Need-returns-3
 unfolding beforeOf
 returns-3 c =
@@ -43,7 +43,7 @@ returns-3 c =
       lt-leb 160 (args′ .contexts) (if3′ .taken),
     )
 
--- src/before.rt:28:9
+-- src/before.rt:38:9
 returns-4 : tie.Need-returns-4
 unfolding beforeOf
 returns-4 c =
@@ -60,19 +60,19 @@ returns-4 c =
       lt-leb (length (args′ .request .now)) 65535 (if4′ .taken),
     )
 
--- src/before.rt:30:11
+-- src/before.rt:40:11
 check-requires : tie.Need-check-requires
 check-requires c κs = search needs
 
--- src/before.rt:31:27
+-- src/before.rt:41:36
 enum-told : tie.Need-enum-told
 enum-told c = search needs
 
--- src/before.rt:32:23
+-- src/before.rt:42:32
 enum-known-p : tie.Need-enum-known-p
 enum-known-p c = search needs
 
--- src/before.rt:15:1
+-- src/before.rt:19:1
 returns-5 : tie.Need-returns-5
 unfolding beforeOf
 returns-5 c =
@@ -92,7 +92,7 @@ returns-5 c =
     )
     (proper-goes (dictionary (args′ .dictionary .now)) (sym (enum-told′ .given .1) ∙ check′ .ensures))
 
--- src/before.rt:15:1
+-- src/before.rt:19:1
 returns-6 : tie.Need-returns-6
 unfolding beforeOf
 returns-6 c =

@@ -6,11 +6,11 @@ use Rattle.reader.proofs.request.count_statement.Tie as tie
 use Rattle.reader.proofs.request.count_statement.Reads as reads
 use Rattle.reader.proofs.request.count_statement.Lts as lts
 
--- src/request.rt:59:27
+-- src/request.rt:40:27
 add-next : tie.Need-add-next
 add-next c = search needs
 
--- src/request.rt:60:9
+-- src/request.rt:41:9
 returns : tie.Need-returns
 unfolding countStatement
 returns c =
@@ -18,7 +18,7 @@ returns c =
     let if1′ = c .before .if1 in
     rw (countStatement, lt-ltb (args′ .c .statements) 512 (if1′ .taken))
 
--- src/request.rt:54:1
+-- src/request.rt:35:1
 returns-2 : tie.Need-returns-2
 unfolding countStatement
 returns-2 c =

@@ -15,27 +15,27 @@ use Rattle.reader.proofs.request.end.Reads as reads
 use Rattle.reader.proofs.request.end.Lts as lts
 use Rattle.steps.proofs.due_code.Reads as due-code-reads
 
--- src/request.rt:89:23
+-- src/request.rt:70:23
 enum-known-from : tie.Need-enum-known-from
 enum-known-from c = search needs
 
--- src/request.rt:89:35
+-- src/request.rt:70:35
 due-code-requires : tie.Need-due-code-requires
 due-code-requires c κs = search needs
 
--- src/request.rt:90:24
+-- src/request.rt:71:24
 enum-known-f : tie.Need-enum-known-f
 enum-known-f c = search needs
 
--- src/request.rt:95:27
+-- src/request.rt:76:27
 enum-known-r : tie.Need-enum-known-r
 enum-known-r c = search needs
 
--- src/request.rt:97:23
+-- src/request.rt:78:23
 enum-known-from-2 : tie.Need-enum-known-from-2
 enum-known-from-2 c = search needs
 
--- src/request.rt:85:1
+-- src/request.rt:66:1
 returns : tie.Need-returns
 unfolding endOf nothingMore
 returns c =
@@ -48,7 +48,7 @@ returns c =
     let u = step-read noKind (code blr.eoc NotDue s (from′ .given .0 .1 .0)) (sym (f′ .given .1) ∙ due-code′ .ensures) in
     rw (from′ .given .1, endOf, u .1, nothingMore, u .2, eq-eqb (f′ .given .0 .1 .0 .at) (length s) (if1′ .taken))
 
--- src/request.rt:85:1
+-- src/request.rt:66:1
 returns-2 : tie.Need-returns-2
 unfolding endOf nothingMore
 returns-2 c =
@@ -61,7 +61,7 @@ returns-2 c =
     let u = step-read noKind (code blr.eoc NotDue s (from′ .given .0 .1 .0)) (sym (f′ .given .1) ∙ due-code′ .ensures) in
     rw (from′ .given .1, endOf, u .1, nothingMore, ne-eqb (f′ .given .0 .1 .0 .at) (length s) (if1′ .left))
 
--- src/request.rt:85:1
+-- src/request.rt:66:1
 returns-3 : tie.Need-returns-3
 unfolding endOf
 returns-3 c =
@@ -73,7 +73,7 @@ returns-3 c =
     let u = step-refused noKind (code blr.eoc NotDue s (from′ .given .0 .1 .0)) (sym (r′ .given .1) ∙ due-code′ .ensures) in
     rw (from′ .given .1, endOf, u)
 
--- src/request.rt:85:1
+-- src/request.rt:66:1
 returns-4 : tie.Need-returns-4
 returns-4 c =
     let from2′ = c .before .from2 in

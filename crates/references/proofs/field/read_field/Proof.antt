@@ -1,12 +1,18 @@
 -- `references::field::read_field` meets its contract. A law for each way through the definition. Assumes nothing.
-use mathlib.Core.Bool.{true, false}
-use mathlib.Core.Path.{sym, _∙_}
+use Prim.Native.Nat.{ℕ}
+use mathlib.Core.Bool.{Bool, true, false}
+use mathlib.Core.Option.{some}
+use mathlib.Core.Path.{_≡_, sym, ap, _∙_}
 use borrow.Author.Tests.{not-true, not-false}
 use borrow.Author.Needs.{needs}
+use Rattle.dictionary.specs.Internal.Walk.{relationAt}
+use Rattle.grammar.specs.Environment.{Environment}
 use Rattle.grammar.specs.Reader.{byte}
 use Rattle.grammar.proofs.StepLaws.{context-read, context-refused}
+use Rattle.scopes.specs.Scopes.{scopeOf}
 use Rattle.scopes.proofs.Scopes.{is-in-scope, nothing-in-scope, is-relation}
-use Rattle.references.proofs.References.{field-ended, field-out-of-scope, field-misplaced, field-placed}
+use Rattle.references.specs.Promises.{fieldIn, fieldCode, referenceStep}
+use Rattle.references.proofs.References.{namingOf, field-ended, field-out-of-scope, field-misplaced, field-placed}
 use Rattle.references.proofs.field.read_field.Statement.{statement}
 use Rattle.references.proofs.field.read_field.Tie as tie
 
@@ -30,8 +36,8 @@ returns c e p =
 find-requires : tie.Need-find-requires
 find-requires c κs = search needs
 
-enum-known-x : tie.Need-enum-known-x
-enum-known-x c = search needs
+enum-known-i : tie.Need-enum-known-i
+enum-known-i c = search needs
 
 enum-told-2 : tie.Need-enum-told-2
 enum-told-2 c = search needs
@@ -60,17 +66,17 @@ returns-3 c e p =
     let n′ = c .before .before .before .before .before .before .before .before .n in
     let next-context′ = c .before .before .before .before .before .before .before .before .before .before .next-context in
     let find′ = c .before .before .before .before .before .before .find in
-    let x′ = c .before .before .before .before .x in
+    let i′ = c .before .before .before .before .i in
     let field-allowed′ = c .before .before .field-allowed in
     let if1′ = c .before .if1 in
     rw (target-place′ .ensures)
     (sym (field-misplaced e _ _ p (args′ .by-name) (args′ .request .now) (args′ .c)
     (context-read (byte (args′ .request .now) (args′ .c)) (sym (n′ .given .1) ∙ next-context′ .ensures))
-    (is-in-scope _ _ _ _ (sym (find′ .ensures) ∙ x′ .given .1))
-    (sym (field-allowed′ .ensures) ∙ not-true _ (if1′ .taken))))
+    (is-in-scope _ _ _ _ (sym (find′ .ensures) ∙ i′ .given .1))
+    (sym (field-allowed′ .ensures _) ∙ not-true _ (if1′ .taken))))
 
-cast-relation : tie.Need-cast-relation
-cast-relation c = search needs
+relation-at-requires : tie.Need-relation-at-requires
+relation-at-requires c κs = search needs
 
 read-named-requires : tie.Need-read-named-requires
 read-named-requires c κs = search needs
@@ -78,41 +84,39 @@ read-named-requires c κs = search needs
 read-numbered-requires : tie.Need-read-numbered-requires
 read-numbered-requires c κs = search needs
 
+-- a field that may stand here: its name or its id, in the relation of its context, is what is left to read
+placed : (c : tie.After-relation-at) (e : Environment) (p : ℕ) (b : Bool) →
+    let args′ = c .before .before .before .before .before .before .before .before .before .before .before .before .before .args in
+    referenceStep e (scopeOf (args′ .dictionary .now) (args′ .scope .now)) (args′ .role) p (fieldCode b) (args′ .request .now) (args′ .c) ≡
+    fieldIn (relationAt (args′ .dictionary .now) (c .relation-at .result)) (namingOf b) (args′ .request .now)
+    (c .before .before .before .before .before .before .before .before .n .given .0 .1 .0)
+placed c e p b =
+    let args′ = c .before .before .before .before .before .before .before .before .before .before .before .before .before .args in
+    let next-context′ = c .before .before .before .before .before .before .before .before .before .before .next-context in
+    let n′ = c .before .before .before .before .before .before .before .before .n in
+    let find′ = c .before .before .before .before .before .before .find in
+    let i′ = c .before .before .before .before .i in
+    let field-allowed′ = c .before .before .field-allowed in
+    let if1′ = c .before .if1 in
+    let relation-at′ = c .relation-at in
+    let found = sym (find′ .ensures) ∙ i′ .given .1 in
+    field-placed e _ _ p b (args′ .request .now) (args′ .c)
+    (context-read (byte (args′ .request .now) (args′ .c)) (sym (n′ .given .1) ∙ next-context′ .ensures))
+    (is-in-scope _ _ _ _ found)
+    (sym (field-allowed′ .ensures _) ∙ not-false _ (if1′ .left))
+    (is-relation _ _ _ _ found ∙ ap (λ x. some (relationAt (args′ .dictionary .now) x)) (sym (relation-at′ .ensures)))
+
 returns-4 : tie.Need-returns-4
 returns-4 c e p =
-    let args′ = c .before .before .before .before .before .before .before .before .before .before .before .before .before .before .before .args in
     let read-named′ = c .read-named in
     let if2′ = c .before .if2 in
-    let n′ = c .before .before .before .before .before .before .before .before .before .before .n in
-    let next-context′ = c .before .before .before .before .before .before .before .before .before .before .before .before .next-context in
-    let find′ = c .before .before .before .before .before .before .before .before .find in
-    let x′ = c .before .before .before .before .before .before .x in
-    let field-allowed′ = c .before .before .before .before .field-allowed in
-    let if1′ = c .before .before .before .if1 in
-    read-named′ .ensures ∙ rw (if2′ .taken)
-    (sym (field-placed e _ _ p true (args′ .request .now) (args′ .c)
-    (context-read (byte (args′ .request .now) (args′ .c)) (sym (n′ .given .1) ∙ next-context′ .ensures))
-    (is-in-scope _ _ _ _ (sym (find′ .ensures) ∙ x′ .given .1))
-    (sym (field-allowed′ .ensures) ∙ not-false _ (if1′ .left))
-    (is-relation _ _ _ _ (sym (find′ .ensures) ∙ x′ .given .1))))
+    read-named′ .ensures ∙ rw (if2′ .taken) (sym (placed (c .before .before) e p true))
 
 returns-5 : tie.Need-returns-5
 returns-5 c e p =
-    let args′ = c .before .before .before .before .before .before .before .before .before .before .before .before .before .before .before .args in
     let read-numbered′ = c .read-numbered in
     let if2′ = c .before .if2 in
-    let n′ = c .before .before .before .before .before .before .before .before .before .before .n in
-    let next-context′ = c .before .before .before .before .before .before .before .before .before .before .before .before .next-context in
-    let find′ = c .before .before .before .before .before .before .before .before .find in
-    let x′ = c .before .before .before .before .before .before .x in
-    let field-allowed′ = c .before .before .before .before .field-allowed in
-    let if1′ = c .before .before .before .if1 in
-    read-numbered′ .ensures ∙ rw (if2′ .left)
-    (sym (field-placed e _ _ p false (args′ .request .now) (args′ .c)
-    (context-read (byte (args′ .request .now) (args′ .c)) (sym (n′ .given .1) ∙ next-context′ .ensures))
-    (is-in-scope _ _ _ _ (sym (find′ .ensures) ∙ x′ .given .1))
-    (sym (field-allowed′ .ensures) ∙ not-false _ (if1′ .left))
-    (is-relation _ _ _ _ (sym (find′ .ensures) ∙ x′ .given .1))))
+    read-numbered′ .ensures ∙ rw (if2′ .left) (sym (placed (c .before .before) e p false))
 
 pub read-field-spec : {M : Type 1} → statement M
 read-field-spec =
@@ -123,13 +127,13 @@ read-field-spec =
     enum-told
     returns
     find-requires
-    enum-known-x
+    enum-known-i
     enum-told-2
     returns-2
     field-allowed-requires
     target-place-requires
     returns-3
-    cast-relation
+    relation-at-requires
     read-named-requires
     read-numbered-requires
     returns-4

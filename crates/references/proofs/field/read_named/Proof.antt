@@ -1,12 +1,13 @@
 -- `references::field::read_named` meets its contract. The name that was skipped is the one that stands there. Assumes nothing.
 use mathlib.Core.Path.{sym, _∙_}
 use borrow.Author.Needs.{needs}
+use Rattle.dictionary.specs.Dictionary.{nameAt}
 use Rattle.dictionary.specs.Internal.Walk.{relationAt}
 use Rattle.grammar.specs.Internal.Steps.{noKind}
 use Rattle.grammar.specs.Values.{byName}
 use Rattle.grammar.specs.Reader.{name}
 use Rattle.grammar.proofs.StepLaws.{step-refused}
-use Rattle.references.proofs.Known.{field-known, field-refused, name-read}
+use Rattle.references.proofs.Known.{field-known, field-refused, named-fit, name-read}
 use Rattle.references.proofs.field.read_named.Statement.{statement}
 use Rattle.references.proofs.field.read_named.Tie as tie
 
@@ -19,8 +20,11 @@ enum-known-after c = search needs
 name-at-requires : tie.Need-name-at-requires
 name-at-requires c κs = search needs
 
-name-fit-requires : tie.Need-name-fit-requires
-name-fit-requires c κs = search needs
+named-entry-requires : tie.Need-named-entry-requires
+named-entry-requires c κs = search needs
+
+entry-fit-requires : tie.Need-entry-fit-requires
+entry-fit-requires c κs = search needs
 
 known-requires : tie.Need-known-requires
 known-requires c κs = search needs
@@ -31,12 +35,19 @@ enum-known-r c = search needs
 returns : tie.Need-returns
 returns c =
     let known′ = c .known in
-    let name-fit′ = c .before .name-fit in
-    let name-at′ = c .before .before .name-at in
-    let args′ = c .before .before .before .before .before .before .before .before .before .args in
-    let after′ = c .before .before .before .before .after in
-    let skip-name′ = c .before .before .before .before .before .before .skip-name in
-    rw (known′ .ensures, name-fit′ .ensures, name-at′ .ensures)
+    let entry-fit′ = c .before .entry-fit in
+    let named-entry′ = c .before .before .named-entry in
+    let name-at′ = c .before .before .before .name-at in
+    let args′ = c .before .before .before .before .before .before .before .before .before .before .args in
+    let after′ = c .before .before .before .before .before .after in
+    let skip-name′ = c .before .before .before .before .before .before .before .skip-name in
+    rw (
+      known′ .ensures,
+      entry-fit′ .ensures,
+      named-entry′ .ensures,
+      name-at′ .ensures,
+      named-fit (args′ .dictionary .now) (args′ .relation) (nameAt (args′ .request .now) (args′ .c .at)),
+    )
     (sym (field-known (relationAt (args′ .dictionary .now) (args′ .relation)) (args′ .request .now) (args′ .c) byName
     (name-read (args′ .request .now) (args′ .c) (sym (after′ .given .1) ∙ skip-name′ .ensures))))
 
@@ -55,7 +66,8 @@ read-named-spec =
     skip-name-requires
     enum-known-after
     name-at-requires
-    name-fit-requires
+    named-entry-requires
+    entry-fit-requires
     known-requires
     enum-known-r
     returns

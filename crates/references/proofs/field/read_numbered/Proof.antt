@@ -5,7 +5,7 @@ use Rattle.dictionary.specs.Internal.Walk.{relationAt}
 use Rattle.grammar.specs.Values.{byNumber}
 use Rattle.grammar.specs.Reader.{word}
 use Rattle.grammar.proofs.StepLaws.{word-read, word-refused}
-use Rattle.references.proofs.Known.{field-known, field-refused, number-kind}
+use Rattle.references.proofs.Known.{field-known, field-refused, numbered-fit}
 use Rattle.references.proofs.field.read_numbered.Statement.{statement}
 use Rattle.references.proofs.field.read_numbered.Tie as tie
 
@@ -15,11 +15,14 @@ next-word-requires c κs = search needs
 enum-known-i : tie.Need-enum-known-i
 enum-known-i c = search needs
 
-cast-id-fit : tie.Need-cast-id-fit
-cast-id-fit c = search needs
+cast-field-entry : tie.Need-cast-field-entry
+cast-field-entry c = search needs
 
-id-fit-requires : tie.Need-id-fit-requires
-id-fit-requires c κs = search needs
+field-entry-requires : tie.Need-field-entry-requires
+field-entry-requires c κs = search needs
+
+entry-fit-requires : tie.Need-entry-fit-requires
+entry-fit-requires c κs = search needs
 
 known-requires : tie.Need-known-requires
 known-requires c κs = search needs
@@ -30,11 +33,17 @@ enum-known-r c = search needs
 returns : tie.Need-returns
 returns c =
     let known′ = c .known in
-    let id-fit′ = c .before .id-fit in
-    let args′ = c .before .before .before .before .before .before .before .before .args in
-    let i′ = c .before .before .before .i in
-    let next-word′ = c .before .before .before .before .before .next-word in
-    rw (known′ .ensures, id-fit′ .ensures, ← number-kind (relationAt (args′ .dictionary .now) (args′ .relation)) (i′ .given .0 .0))
+    let entry-fit′ = c .before .entry-fit in
+    let field-entry′ = c .before .before .field-entry in
+    let args′ = c .before .before .before .before .before .before .before .before .before .args in
+    let i′ = c .before .before .before .before .i in
+    let next-word′ = c .before .before .before .before .before .before .next-word in
+    rw (
+      known′ .ensures,
+      entry-fit′ .ensures,
+      field-entry′ .ensures,
+      numbered-fit (args′ .dictionary .now) (args′ .relation) (i′ .given .0 .0),
+    )
     (sym (field-known (relationAt (args′ .dictionary .now) (args′ .relation)) (args′ .request .now) (args′ .c) byNumber
     (rw (word-read (word (args′ .request .now) (args′ .c)) (sym (i′ .given .1) ∙ next-word′ .ensures)))))
 
@@ -52,8 +61,9 @@ read-numbered-spec =
     (tie.spec
     next-word-requires
     enum-known-i
-    cast-id-fit
-    id-fit-requires
+    cast-field-entry
+    field-entry-requires
+    entry-fit-requires
     known-requires
     enum-known-r
     returns

@@ -25,8 +25,8 @@ skip-requires c κs = search needs
 enum-known-after : tie.Need-enum-known-after
 enum-known-after c = search needs
 
-scale-of-requires : tie.Need-scale-of-requires
-scale-of-requires c κs = search needs
+signed-byte-requires : tie.Need-signed-byte-requires
+signed-byte-requires c κs = search needs
 
 enum-known-r : tie.Need-enum-known-r
 enum-known-r c = search needs
@@ -37,13 +37,13 @@ enum-known-r-2 c = search needs
 returns : tie.Need-returns
 returns c =
     let after′ = c .before .before .after in
-    let scale-of′ = c .scale-of in
+    let signed-byte′ = c .signed-byte in
     let args′ = c .before .before .before .before .before .before .before .before .before .before .before .args in
     let scale′ = c .before .before .before .before .before .before .before .scale in
     let scale-byte′ = c .before .before .before .before .before .before .before .before .before .scale-byte in
     let skip′ = c .before .before .before .before .skip in
     let width-bytes′ = c .before .before .before .before .before .width-bytes in
-    ap (λ z. Next (Number z) (after′ .given .0 .1 .0)) (toZ-ofZ (record { sfits = scale-of′ .ok }) ∙ scale-of′ .ensures) ∙
+    ap (λ z. Next (Number z) (after′ .given .0 .1 .0)) (toZ-ofZ (record { sfits = signed-byte′ .ok }) ∙ signed-byte′ .ensures) ∙
     sym (number-is (args′ .w) (args′ .request .now) (args′ .c)
     (byte-read (scaleByte (args′ .request .now) (args′ .c)) (sym (scale′ .given .1) ∙ scale-byte′ .ensures))
     (sym (after′ .given .1) ∙ skip′ .ensures ∙ rw (width-bytes′ .ensures)))
@@ -77,7 +77,7 @@ number-literal-spec =
     width-bytes-requires
     skip-requires
     enum-known-after
-    scale-of-requires
+    signed-byte-requires
     enum-known-r
     enum-known-r-2
     returns

@@ -26,19 +26,19 @@ returns : tie.Need-returns
 returns c =
     let known′ = c .known in
     let parameter-fit′ = c .before .parameter-fit in
-    let args′ = c .before .before .before .before .before .before .before .before .args in
+    let args′ = c .before .before .before .before .before .before .before .args in
     let i′ = c .before .before .before .i in
     let next-word′ = c .before .before .before .before .before .next-word in
     rw (known′ .ensures, parameter-fit′ .ensures)
-    (sym (parameter-known (args′ .parameters .now) (args′ .x) (args′ .request .now) (args′ .c)
+    (sym (parameter-known (args′ .around .now) (args′ .x) (args′ .request .now) (args′ .c)
     (word-read (word (args′ .request .now) (args′ .c)) (sym (i′ .given .1) ∙ next-word′ .ensures))))
 
 returns-2 : tie.Need-returns-2
 returns-2 c =
-    let args′ = c .before .before .before .before .before .before .args in
+    let args′ = c .before .before .before .before .before .args in
     let r′ = c .before .r in
     let next-word′ = c .before .before .before .next-word in
-    sym (parameter-cut (args′ .parameters .now) (args′ .x) (args′ .request .now) (args′ .c)
+    sym (parameter-cut (args′ .around .now) (args′ .x) (args′ .request .now) (args′ .c)
     (word-refused (word (args′ .request .now) (args′ .c)) (sym (r′ .given .1) ∙ next-word′ .ensures)))
 
 pub read-word-spec : {M : Type 1} → statement M

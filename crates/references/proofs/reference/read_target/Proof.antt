@@ -34,7 +34,7 @@ returns : tie.Need-returns
 unfolding readTarget coded referenceStep
 returns c =
     let read-reference′ = c .read-reference in
-    let args′ = c .before .before .before .before .before .before .before .before .before .before .before .before .args in
+    let args′ = c .before .before .before .before .before .before .before .before .before .before .before .args in
     let x′ = c .before .before .before .before .before .before .x in
     let next-byte′ = c .before .before .before .before .before .before .before .before .next-byte in
     let target-class′ = c .before .before .before .before .target-class in
@@ -51,7 +51,7 @@ returns c =
 returns-2 : tie.Need-returns-2
 unfolding readTarget coded
 returns-2 c =
-    let args′ = c .before .before .before .before .before .before .before .before .before .before .args in
+    let args′ = c .before .before .before .before .before .before .before .before .before .args in
     let x′ = c .before .before .before .before .x in
     let next-byte′ = c .before .before .before .before .before .before .next-byte in
     let target-class′ = c .before .before .target-class in
@@ -66,7 +66,7 @@ returns-2 c =
 returns-3 : tie.Need-returns-3
 unfolding readTarget coded
 returns-3 c =
-    let args′ = c .before .before .before .before .before .before .before .args in
+    let args′ = c .before .before .before .before .before .before .args in
     let r′ = c .before .r in
     let next-byte′ = c .before .before .before .next-byte in
     rw (readTarget, coded, byte-refused (byte (args′ .request .now) (args′ .c)) (sym (r′ .given .1) ∙ next-byte′ .ensures))

@@ -9,8 +9,8 @@ use Rattle.scopes.proofs.kinds.plain_fit.Tie as tie
 enum-told : tie.Need-enum-told
 enum-told c = search needs
 
-scale-of-requires : tie.Need-scale-of-requires
-scale-of-requires c κs = search needs
+signed-byte-requires : tie.Need-signed-byte-requires
+signed-byte-requires c κs = search needs
 
 enum-told-2 : tie.Need-enum-told-2
 enum-told-2 c = search needs
@@ -21,8 +21,8 @@ enum-told-3 c = search needs
 returns : tie.Need-returns
 returns c =
     let enum-told′ = c .before .enum-told in
-    let scale-of′ = c .scale-of in
-    rw (enum-told′ .given .1) (ap Number (toZ-ofZ (record { sfits = scale-of′ .ok }) ∙ scale-of′ .ensures))
+    let signed-byte′ = c .signed-byte in
+    rw (enum-told′ .given .1) (ap Number (toZ-ofZ (record { sfits = signed-byte′ .ok }) ∙ signed-byte′ .ensures))
 
 returns-2 : tie.Need-returns-2
 returns-2 c = search needs
@@ -33,4 +33,4 @@ returns-3 c = search needs
 pub plain-fit-spec : {M : Type 1} → statement M
 plain-fit-spec =
     tie.close
-    (tie.spec enum-told scale-of-requires enum-told-2 enum-told-3 returns returns-2 returns-3)
+    (tie.spec enum-told signed-byte-requires enum-told-2 enum-told-3 returns returns-2 returns-3)

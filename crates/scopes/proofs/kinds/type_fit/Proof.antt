@@ -15,8 +15,8 @@ plain-fit-requires c κs = search needs
 enum-told : tie.Need-enum-told
 enum-told c = search needs
 
-scale-of-requires : tie.Need-scale-of-requires
-scale-of-requires c κs = search needs
+signed-byte-requires : tie.Need-signed-byte-requires
+signed-byte-requires c κs = search needs
 
 returns : tie.Need-returns
 returns c =
@@ -27,10 +27,10 @@ returns c =
 returns-2 : tie.Need-returns-2
 returns-2 c =
     let enum-told′ = c .before .enum-told in
-    let scale-of′ = c .scale-of in
-    rw (enum-told′ .given .1) (ap Number (toZ-ofZ (record { sfits = scale-of′ .ok }) ∙ scale-of′ .ensures))
+    let signed-byte′ = c .signed-byte in
+    rw (enum-told′ .given .1) (ap Number (toZ-ofZ (record { sfits = signed-byte′ .ok }) ∙ signed-byte′ .ensures))
 
 pub type-fit-spec : {M : Type 1} → statement M
 type-fit-spec =
     tie.close
-    (tie.spec enum-known-t plain-fit-requires enum-told scale-of-requires returns returns-2)
+    (tie.spec enum-known-t plain-fit-requires enum-told signed-byte-requires returns returns-2)

@@ -1,0 +1,22 @@
+use mathlib.Core.Path.{_∙_}
+use borrow.Author.Needs.{needs}
+use mir.Facts.{toZ-ofZ}
+use Rattle.dictionary.proofs.InRange.{scale-by}
+use Rattle.dictionary.proofs.ranges.scale_in_range.Statement.{statement}
+use Rattle.dictionary.proofs.ranges.scale_in_range.Tie as tie
+
+signed-byte-requires : tie.Need-signed-byte-requires
+signed-byte-requires c κs = search needs
+
+returns : tie.Need-returns
+returns c =
+    let signed-byte′ = c .before .signed-byte in
+    scale-by _ _ (toZ-ofZ (record { sfits = signed-byte′ .ok }) ∙ signed-byte′ .ensures) (c .if1 .taken)
+
+returns-2 : tie.Need-returns-2
+returns-2 c =
+    let signed-byte′ = c .before .signed-byte in
+    scale-by _ _ (toZ-ofZ (record { sfits = signed-byte′ .ok }) ∙ signed-byte′ .ensures) (c .if1 .left)
+
+pub scale-in-range-spec : {M : Type 1} → statement M
+scale-in-range-spec = tie.close (tie.spec signed-byte-requires returns returns-2)

@@ -1,0 +1,5 @@
+pub mod Parts
+pub mod Codes
+pub mod ValueLaws
+pub mod BooleanLaws
+pub mod ClauseLaws

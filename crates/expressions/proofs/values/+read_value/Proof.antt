@@ -1,0 +1,100 @@
+use borrow.Author.Needs.{needs}
+use Rattle.expressions.proofs.Codes.{value-level, value-falls}
+use Rattle.expressions.proofs.ValueLaws.{literal-wrote, reference-wrote, negate-stopped, negate-wrote, first-stopped, second-stopped, arithmetic-wrote, value-refused}
+use Prim.Native.Nat.{ℕ, _<_}
+use borrow.Fn.Kinds.{In}
+use borrow.Fn.PlainCycle.{Measures, is, falls, and}
+use Rattle.expressions.proofs.values.read_value.Reads as read-value
+use Rattle.expressions.proofs.values.read_value.Kinds as read-value-kinds
+use Rattle.expressions.proofs.values.+read_value.Lts-read_value as read-value-lts
+use Rattle.expressions.proofs.fits.arithmetic.Reads as arithmetic-reads
+use Rattle.expressions.proofs.fits.negation.Reads as negation-reads
+use Rattle.expressions.proofs.heads.value_at.Reads as value-at-reads
+use Rattle.references.proofs.literal.read_literal.Reads as read-literal-reads
+use Rattle.references.proofs.reference.read_reference.Reads as read-reference-reads
+use Rattle.expressions.proofs.values.+read_value.{statement}
+use Rattle.expressions.proofs.values.+read_value.Tie.{close}
+
+abbrev μ-read-value : Measures 5 read-value-kinds.ps ℕ
+μ-read-value κs a = a .1 .1 .1 .1 .1 .1 .0
+
+abbrev at : ℕ → In 5 read-value-kinds.ps
+at t =
+    and 5 read-value-kinds.ps (is 5 read-value-kinds.ps μ-read-value t) read-value.Pre
+
+abbrev below : ℕ → In 5 read-value-kinds.ps
+below t =
+    and 5 read-value-kinds.ps (falls 5 read-value-kinds.ps _<_ μ-read-value t) read-value.Pre
+
+abbrev calls : ℕ → read-value-lts.Claims
+calls t = (
+  value-at-reads.Asked,
+  value-at-reads.Learnt,
+  read-literal-reads.Asked,
+  read-literal-reads.Learnt,
+  read-reference-reads.Asked,
+  read-reference-reads.Learnt,
+  below t,
+  read-value.Post,
+  arithmetic-reads.Asked,
+  arithmetic-reads.Learnt,
+  negation-reads.Asked,
+  negation-reads.Learnt,
+)
+
+returns-2 : (t : ℕ) → read-value-lts.Need-returns-2 (calls t) (at t) read-value.Post
+returns-2 t c =
+    let value-at′ = c .before .before .before .before .before .before .before .before .before .before .before .before .before .before .before .before .before .before .before .value-at in
+    let k′ = c .before .before .before .before .before .before .before .before .before .before .before .before .before .before .before .before .before .k in
+    let k3′ = c .before .before .before .before .before .before .before .before .before .before .before .before .before .before .k3 in
+    let shared-slice-known′ = c .before .before .before .before .before .before .before .before .before .before .before .before .before .before .before .before .before .before .before .before .before .before .shared-slice-known in
+    search (second-stopped, value-at′ .ensures, k′ .given .1, k3′ .given .1, shared-slice-known′ .given)
+
+returns-6 : (t : ℕ) → read-value-lts.Need-returns-6 (calls t) (at t) read-value.Post
+returns-6 t c =
+    let value-at′ = c .before .before .before .before .before .before .before .before .before .before .before .before .before .before .before .before .before .before .before .before .before .value-at in
+    let k′ = c .before .before .before .before .before .before .before .before .before .before .before .before .before .before .before .before .before .before .before .k in
+    let k3′ = c .before .before .before .before .before .before .before .before .before .before .before .before .before .before .before .before .k3 in
+    let shared-slice-known′ = c .before .before .before .before .before .before .before .before .before .before .before .before .before .before .before .before .before .before .before .before .before .before .before .before .shared-slice-known in
+    search (arithmetic-wrote, value-at′ .ensures, k′ .given .1, k3′ .given .1, shared-slice-known′ .given)
+
+pub +read-value-spec : {M : Type 1} → statement M
++read-value-spec = close μ-read-value λ t. read-value-lts.spec
+    (calls t)
+    (at t)
+    read-value.Post
+    (λ c κs. search needs)
+    (λ c. search needs)
+    (λ c. search needs)
+    (λ c κs. search needs)
+    (λ c. search needs)
+    (λ c κs. search needs)
+    (λ c. search needs)
+    (λ c. search value-level)
+    (λ c κs. search (needs, value-falls))
+    (λ c. search needs)
+    (λ c. search needs)
+    (λ c. search needs)
+    (λ c. search first-stopped)
+    (λ c κs. search (needs, value-falls))
+    (λ c. search needs)
+    (λ c. search needs)
+    (λ c. search needs)
+    (returns-2 t)
+    (λ c κs. search needs)
+    (λ c. search needs)
+    (λ c. search value-level)
+    (λ c κs. search (needs, value-falls))
+    (λ c. search needs)
+    (λ c. search needs)
+    (λ c. search needs)
+    (λ c. search negate-stopped)
+    (λ c κs. search needs)
+    (λ c. search needs)
+    (λ c. search literal-wrote)
+    (λ c. search reference-wrote)
+    (λ c. search needs)
+    (returns-6 t)
+    (λ c. search needs)
+    (λ c. search negate-wrote)
+    (λ c. search value-refused)

@@ -1,0 +1,47 @@
+// The answers of operators, from the kinds of their operands, which were read: the fit is tested last.
+ghost use mathlib.Core.Path.{_≡_};
+ghost use Rattle.grammar.specs.Kinds.{arithmeticKind, negatedKind};
+ghost use Rattle.grammar.specs.Internal.Steps.{kindIn};
+ghost use Rattle.expressions.specs.Promises.{kindStep, testStep};
+use grammar::Cursor;
+use grammar::Fit;
+use grammar::Refusal;
+use grammar::Step;
+use scopes::kinds::arithmetic_fit;
+use scopes::kinds::negated_fit;
+use wire::codes::Operator;
+
+// A value of a kind, or that its parts do not fit.
+fn fitted(k: Fit, at: usize, c: Cursor) -> Step
+    ensures { λ r. ⌜ r ≡ kindStep (kindIn k) at c ⌝ }
+{
+    match k {
+        Fit::NoKind => Step::Refused(Refusal::Unfit, at),
+        Fit::Number(s) => Step::Next(Fit::Number(s), c),
+        Fit::Text => Step::Next(Fit::Text, c),
+        Fit::Date => Step::Next(Fit::Date, c),
+    }
+}
+
+// What has no kind, if a test holds.
+pub fn tested(holds: bool, at: usize, c: Cursor) -> Step
+    ensures { λ r. ⌜ r ≡ testStep holds at c ⌝ }
+{
+    if holds {
+        Step::Next(Fit::NoKind, c)
+    } else {
+        Step::Refused(Refusal::Unfit, at)
+    }
+}
+
+pub(crate) fn arithmetic(o: Operator, x: Fit, y: Fit, at: usize, c: Cursor) -> Step
+    ensures { λ r. ⌜ r ≡ kindStep (arithmeticKind o (kindIn x) (kindIn y)) at c ⌝ }
+{
+    fitted(arithmetic_fit(o, x, y), at, c)
+}
+
+pub(crate) fn negation(x: Fit, at: usize, c: Cursor) -> Step
+    ensures { λ r. ⌜ r ≡ kindStep (negatedKind (kindIn x)) at c ⌝ }
+{
+    fitted(negated_fit(x), at, c)
+}

@@ -1,0 +1,6 @@
+// The readers of values, of booleans and of the clauses of an rse.
+pub mod booleans;
+pub mod clauses;
+pub mod fits;
+mod heads;
+pub mod values;

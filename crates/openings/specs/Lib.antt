@@ -1,0 +1,5 @@
+pub mod Heads
+pub mod Streams
+pub mod Headings
+pub mod Openings
+pub mod Selected

@@ -1,0 +1,6 @@
+pub mod Stores
+pub mod Laid
+pub mod Chains
+pub mod Codes
+pub mod Rows
+pub mod Closed
