@@ -15,7 +15,8 @@ use Rattle.openings.specs.Streams.{Proper}
 use Rattle.openings.specs.declared.heads.Coded.{Coded}
 use Rattle.reader.specs.declared.statements.Level.{Level}
 
--- a request within 01's sizes, a dictionary that was checked, counts within 01's, and a scope that fits, with so many levels left for what is read
+-- a request within 01's sizes, a dictionary that was checked, counts within 01's, and a scope that fits, with so many levels left for what
+-- is read
 pub record Given (s d sc : List ℕ) (c : Cursor) (levels : ℕ) : Type 0 where
   pub octets : Octets s
   pub short : length s ≤ maxRequestBytes

@@ -39,8 +39,16 @@ read-statement-requires t c κs =
     let args′ = c .before .before .before .before .before .before .before .before .before .before .before .before .before .args in
     let match′ = c .before .before .before .before .before .before .before .match in
     let read-plain′ = c .before .before .before .before .before .before .read-plain in
-    let m′ = c .before .before .before .before .m in
-    (omega (arith, pre′ .0), (plain-given _ (pre′ .1 .0 .inside .given .octets) (environmentOf (args′ .dictionary .now) (args′ .around .now)) (scopeOf (args′ .dictionary .now) (args′ .scope .now)) (args′ .level) (args′ .x) (pre′ .1 .0 .inside .here) (pre′ .1 .0 .parent) (pre′ .1 .1) (plain-told (args′ .x .code) (match′ .keys1) (pre′ .1 .1)) (read-plain′ .ensures (args′ .dictionary .now)) (m′ .given .1) (pre′ .1 .0 .inside .given) (omega arith), omega (arith, pre′ .1 .0 .parent, pre′ .1 .0 .inside .given .statements-few)))
+    let m′ = c .before .before .before .before .m in (
+      omega (arith, pre′ .0),
+      (
+        plain-given _ (pre′ .1 .0 .inside .given .octets) (environmentOf (args′ .dictionary .now) (args′ .around .now))
+            (scopeOf (args′ .dictionary .now) (args′ .scope .now)) (args′ .level) (args′ .x) (pre′ .1 .0 .inside .here) (pre′ .1 .0 .parent)
+            (pre′ .1 .1) (plain-told (args′ .x .code) (match′ .keys1) (pre′ .1 .1)) (read-plain′ .ensures (args′ .dictionary .now))
+            (m′ .given .1) (pre′ .1 .0 .inside .given) (omega arith),
+        omega (arith, pre′ .1 .0 .parent, pre′ .1 .0 .inside .given .statements-few),
+      ),
+    )
 
 pub read-opening-requires : (t : ℕ) → read-headed-lts.Need-read-opening-requires (calls t) (read-headed-at t) read-headed.Post
 read-opening-requires t c κs =
