@@ -23,9 +23,9 @@ extern "C" {
 #endif
 
 /* The least numbers that the three tables must hold, or every request is refused with 1. */
-#define BLR_STATEMENT_NUMBERS 2048
+#define BLR_STATEMENT_NUMBERS 2560
 #define BLR_PARAMETER_NUMBERS 1536
-#define BLR_CONTEXT_NUMBERS 160
+#define BLR_CONTEXT_NUMBERS 192
 
 /* Reads a request beside a house dictionary.
  *
@@ -33,9 +33,11 @@ extern "C" {
  * back").
  *
  * An accepted request fills the three tables with rows in reading order, and zeros after them:
- *   statements   4 numbers a row: place, code, parent's row number plus one (0 for the outer begin), place after it
+ *   statements   5 numbers a row: place, code, parent's row number plus one (0 for the outer begin), place after it, the
+ *                number of its boolean plus one (an if's condition, the condition of a for's rse) or 0 where it has none
  *   parameters   6 numbers a row: message, parameter, type, scale byte, offset in the message, bytes held
- *   contexts     5 numbers a row: number, place of the stream or modify code, start and end of its scope, relation id
+ *   contexts     6 numbers a row: number, place of the stream or modify code, start and end of its scope, relation id, the
+ *                code that opened it: for 7, store 15 or modify 10
  * and the answer holds the numbers of rows of the three, then zeros.
  *
  * A refusal leaves zeros in all three tables, whatever their lengths, and the answer holds the place, then zeros: a place

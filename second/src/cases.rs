@@ -8,7 +8,7 @@
 use crate::evaluator::{evaluate, Answer};
 use crate::generate::Case;
 use crate::hex;
-use crate::reader;
+use crate::reader::{self, WIDTHS};
 use crate::record::Cause;
 use crate::refusal::Refusal;
 
@@ -70,13 +70,9 @@ fn read(dictionary: &[u8], request: &[u8], lengths: [usize; 3]) -> Result<String
         reader::read(request, dictionary, &mut statements, &mut parameters, &mut contexts)?;
     let numbers = [counts.statements, counts.parameters, counts.contexts];
     let mut line = format!("accepted {} {} {}", numbers[0], numbers[1], numbers[2]);
-    for (table, width, count) in [
-        (&statements, 4, counts.statements),
-        (&parameters, 6, counts.parameters),
-        (&contexts, 5, counts.contexts),
-    ] {
+    for (at, table) in [statements, parameters, contexts].iter().enumerate() {
         line.push_str(" |");
-        line.push_str(&rows(table, width, count));
+        line.push_str(&rows(table, WIDTHS[at], numbers[at]));
     }
     Ok(line)
 }

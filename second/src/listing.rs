@@ -3,9 +3,9 @@
 //! Document 01: "The listing program reads an entry of kind 4 (dictionary), then kind 5 (request);
 //! a length, four-, six- and five-number rows as above"; "A refusal prints only `refused 11 at
 //! 18`; input that isn't these two entries, `bad input`." A length word counts the whole entry, so
-//! a body has at most 65,531 bytes.
+//! a body has at most 65,531 bytes. By No. 7 of document 02 the rows have five, six and six numbers.
 
-use crate::reader::{self, TABLE_LENGTHS};
+use crate::reader::{self, TABLE_LENGTHS, WIDTHS};
 use crate::wire;
 use std::fmt::Write;
 
@@ -42,9 +42,9 @@ fn list(dictionary: &[u8], request: &[u8]) -> String {
     match result {
         Ok(counts) => {
             write_line(&mut output, &format!("request {}", request.len()));
-            write_rows(&mut output, "statement", &statements, 4, counts.statements);
-            write_rows(&mut output, "parameter", &parameters, 6, counts.parameters);
-            write_rows(&mut output, "context", &contexts, 5, counts.contexts);
+            write_rows(&mut output, "statement", &statements, WIDTHS[0], counts.statements);
+            write_rows(&mut output, "parameter", &parameters, WIDTHS[1], counts.parameters);
+            write_rows(&mut output, "context", &contexts, WIDTHS[2], counts.contexts);
         }
         Err(refusal) => {
             write_line(&mut output, &format!("refused {} at {}", refusal.number, refusal.place));

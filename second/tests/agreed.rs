@@ -1,31 +1,46 @@
-//! Evaluations that independent programs agreed on (`tests/agreed/README.md`): all must agree.
+//! Cases that independent programs agreed on (`tests/agreed/README.md`): all must agree.
 
 use second::cases;
 use second::generate::evaluations::outcome;
 use second::generate::Case;
 use second::hex;
+use second::listing::listing;
 
-/// The files whose missing answers have no causes, each with its number of evaluations.
-const WITHOUT_CAUSES: [(&str, usize); 2] =
+/// A file with its number of cases.
+type File = (&'static str, usize);
+
+/// The files whose missing answers have no causes.
+const WITHOUT_CAUSES: [File; 2] =
     [(include_str!("agreed/evaluations.txt"), 166), (include_str!("agreed/no-01.txt"), 28)];
 
-/// The file whose missing answers have causes, with its number of evaluations.
-const WITH_CAUSES: (&str, usize) = (include_str!("agreed/no-03.txt"), 42);
+/// The files whose missing answers have causes.
+const WITH_CAUSES: [File; 2] =
+    [(include_str!("agreed/no-03.txt"), 42), (include_str!("agreed/no-07.txt"), 42)];
 
-/// The case of a line, whose outcome stands behind ` = `.
-fn case(line: &str) -> Option<Case> {
-    let (input, _) = line.split_once(" = ")?;
+/// The case of an input.
+fn case(input: &str) -> Option<Case> {
     let words: Vec<&str> = input.split(' ').collect();
-    let ["evaluate", dictionary, request, condition, messages, records] = words[..] else {
-        return None;
-    };
-    Some(Case::Evaluate {
-        dictionary: hex::read(dictionary)?,
-        request: hex::read(request)?,
-        condition: condition.parse().ok()?,
-        messages: hex::read(messages)?,
-        records: hex::read(records)?,
-    })
+    match words[..] {
+        ["read", dictionary, request, statements, parameters, contexts] => Some(Case::Read {
+            dictionary: hex::read(dictionary)?,
+            request: hex::read(request)?,
+            lengths: [statements.parse().ok()?, parameters.parse().ok()?, contexts.parse().ok()?],
+        }),
+        ["evaluate", dictionary, request, condition, messages, records] => Some(Case::Evaluate {
+            dictionary: hex::read(dictionary)?,
+            request: hex::read(request)?,
+            condition: condition.parse().ok()?,
+            messages: hex::read(messages)?,
+            records: hex::read(records)?,
+        }),
+        _ => None,
+    }
+}
+
+/// The output of a program whose input is the word behind its name, `;` for each line feed.
+fn output(input: &str) -> Option<String> {
+    let bytes = hex::read(input.strip_prefix("listing ")?)?;
+    Some(listing(&bytes).replace('\n', ";"))
 }
 
 /// A case with its outcome, that of a missing answer without its cause.
@@ -37,12 +52,15 @@ fn without_cause(case: &Case) -> String {
 }
 
 /// Compares all lines of a file, written so.
-fn agree((evaluations, count): (&str, usize), write: impl Fn(&Case) -> String) {
-    for line in evaluations.lines() {
-        let case = case(line).expect("an evaluation");
-        assert_eq!(write(&case), line);
+fn agree((lines, count): File, write: impl Fn(&Case) -> String) {
+    for line in lines.lines() {
+        let (input, _) = line.split_once(" = ").expect("an input and an outcome");
+        match output(input) {
+            Some(output) => assert_eq!(format!("{input} = {output}"), line),
+            None => assert_eq!(write(&case(input).expect("a case")), line),
+        }
     }
-    assert_eq!(evaluations.lines().count(), count);
+    assert_eq!(lines.lines().count(), count);
 }
 
 #[test]
@@ -53,6 +71,8 @@ fn evaluations_agree() {
 }
 
 #[test]
-fn causes_agree() {
-    agree(WITH_CAUSES, cases::line);
+fn cases_agree() {
+    for file in WITH_CAUSES {
+        agree(file, cases::line);
+    }
 }

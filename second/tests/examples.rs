@@ -13,12 +13,12 @@ use second::record::Cause;
 use std::cmp::Ordering;
 
 const ROWS: &str = "request 41
-statement 1 2 0 40
-statement 8 7 1 39
-statement 27 14 2 39
-statement 29 1 3 39
+statement 1 2 0 40 0
+statement 8 7 1 39 1
+statement 27 14 2 39 0
+statement 29 1 3 39 0
 parameter 0 0 7 0 0 2
-context 0 11 15 39 1
+context 0 11 15 39 1 7
 ";
 
 /// The listing of a request beside BEDS.
@@ -141,7 +141,7 @@ fn numbers_of_the_paper() {
 
 #[test]
 fn a_refusal_zeroes_tables_of_any_length() {
-    let (mut statements, mut parameters, mut contexts) = (vec![9; 3000], vec![9; 10], vec![9; 161]);
+    let (mut statements, mut parameters, mut contexts) = (vec![9; 3000], vec![9; 10], vec![9; 193]);
     let result = reader::read(&S, &beds(), &mut statements, &mut parameters, &mut contexts);
     assert_eq!(result.map_err(|refusal| (refusal.number, refusal.place)), Err((1, 0)));
     let all = [statements, parameters, contexts].concat();
@@ -151,13 +151,13 @@ fn a_refusal_zeroes_tables_of_any_length() {
 #[test]
 fn acceptance_zeroes_the_rest_of_the_tables() {
     let (mut statements, mut parameters, mut contexts) =
-        (vec![9; 3000], vec![9; 1536], vec![9; 161]);
+        (vec![9; 3000], vec![9; 1536], vec![9; 193]);
     let counts = reader::read(&S, &beds(), &mut statements, &mut parameters, &mut contexts)
         .expect("accepted");
     assert_eq!((counts.statements, counts.parameters, counts.contexts), (4, 1, 1));
-    assert_eq!(statements[..8], [1, 2, 0, 40, 8, 7, 1, 39]);
-    assert_eq!(contexts[..5], [0, 11, 15, 39, 1]);
-    let rest = [&statements[16..], &parameters[6..], &contexts[5..]].concat();
+    assert_eq!(statements[..10], [1, 2, 0, 40, 0, 8, 7, 1, 39, 1]);
+    assert_eq!(contexts[..6], [0, 11, 15, 39, 1, 7]);
+    let rest = [&statements[20..], &parameters[6..], &contexts[6..]].concat();
     assert!(rest.iter().all(|number| *number == 0));
     assert_eq!(read(&S, &beds()), Ok(counts));
 }

@@ -168,10 +168,10 @@ fn a_line_has_its_rows() {
     let case = Case::Read {
         dictionary: Vec::new(),
         request: vec![4, 2, 4, 7, 2, 0, 8, 255, 35, 2, 255, 255, 76],
-        lengths: [2048, 1536, 160],
+        lengths: [2560, 1536, 192],
     };
-    let line = "read - 04020407020008ff2302ffff4c 2048 1536 160 = accepted 2 2 0 \
-                | 1 2 0 12 ; 9 2 1 11 | 7 0 8 255 0 4 ; 7 1 35 0 4 8 |";
+    let line = "read - 04020407020008ff2302ffff4c 2560 1536 192 = accepted 2 2 0 \
+                | 1 2 0 12 0 ; 9 2 1 11 0 | 7 0 8 255 0 4 ; 7 1 35 0 4 8 |";
     assert_eq!(cases::line(&case), line);
 }
 
@@ -185,7 +185,7 @@ fn any_bytes_have_an_outcome() {
         });
         let begun = [&[4, 2], request.as_slice()].concat();
         for request in [request, begun] {
-            let lengths = [2048, 1536, 160];
+            let lengths = [2560, 1536, 192];
             let read = Case::Read { dictionary: Vec::new(), request: request.clone(), lengths };
             let evaluate = Case::Evaluate {
                 dictionary: dictionary.clone(),

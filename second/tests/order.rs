@@ -222,21 +222,46 @@ fn rows_of_stores_modifies_and_selects() {
     ];
     let input = [common::entry(4, &beds()), common::entry(5, &request(&statements))].concat();
     let lines = "request 40
-statement 1 2 0 39
-statement 9 7 1 22
-statement 17 10 2 22
-statement 20 2 3 22
-statement 22 15 1 32
-statement 30 2 5 32
-statement 32 13 1 38
-statement 33 12 7 37
-statement 35 2 8 37
+statement 1 2 0 39 0
+statement 9 7 1 22 0
+statement 17 10 2 22 0
+statement 20 2 3 22 0
+statement 22 15 1 32 0
+statement 30 2 5 32 0
+statement 32 13 1 38 0
+statement 33 12 7 37 0
+statement 35 2 8 37 0
 parameter 3 0 37 0 0 7
-context 0 12 16 22 1
-context 9 17 20 22 1
-context 0 23 30 32 1
+context 0 12 16 22 1 7
+context 9 17 20 22 1 10
+context 0 23 30 32 1 15
 ";
     assert_eq!(listing(&input), lines);
+}
+
+#[test]
+fn rows_know_their_conditions() {
+    let test = [61, 21, 7, 0, 0, 0];
+    let statements = [
+        &[8][..],
+        &test,
+        &FOR_BEDS,
+        &[255, 2, 255, 255],
+        &FOR_BEDS,
+        &[70, 1, 72, 24, 0, 0, 0, 71, 59],
+        &test,
+        &[255, 8],
+        &test,
+        &[2, 255, 8],
+        &test,
+        &[2, 255, 255],
+    ];
+    let request = request(&statements);
+    let (parsed, _) = second::reader::parse(&request, &beds()).expect("accepted");
+    let numbers: Vec<_> = parsed.statements.iter().map(|row| (row.code, row.condition)).collect();
+    let due = [(2, None), (8, Some(0)), (7, None), (2, None), (7, Some(1))];
+    assert_eq!(numbers[..5], due);
+    assert_eq!(numbers[5..], [(8, Some(2)), (2, None), (8, Some(3)), (2, None)]);
 }
 
 #[test]

@@ -41,10 +41,10 @@ was-accepted (read t c) n m o e = record { request = t; cursor = c; is = refl; p
 was-accepted (refused y q) n m o e = absurd-eq (cc)
 
 module _ {s d st pa ct nd st′ pa′ ct′ nd′ : List ℕ} {r : ReadAnswer} (h : AnsweredNoting s d st pa ct nd st′ pa′ ct′ nd′ r)
-    (a : 2048 ≤ length st) (b : 1536 ≤ length pa) (k : 160 ≤ length ct) (l : 512 ≤ length nd) where
+    (a : 2560 ≤ length st) (b : 1536 ≤ length pa) (k : 192 ≤ length ct) (l : 512 ≤ length nd) where
   with-room : answer s d (length st) (length pa) (length ct) ≡ reading s d
   unfolding answer
-  with-room = rw (answer, le-leb 2048 (length st) a, le-leb 1536 (length pa) b, le-leb 160 (length ct) k)
+  with-room = rw (answer, le-leb 2560 (length st) a, le-leb 1536 (length pa) b, le-leb 192 (length ct) k)
 
   pub after-reading : (n m o : ℕ) → r ≡ Accepted n m o → AfterReading s d pa′ ct′ nd′ m o
   unfolding parameterTable contextTable conditionTable

@@ -201,6 +201,10 @@ unfoldable pub openSizes4 : Unit {0}
 unfolding Sizes.descriptorsSize Sizes.messageSize Sizes.countInRange Sizes.booleansCount Sizes.sortsCount
 openSizes4 = tt
 
+unfoldable pub openSizes5 : Unit {0}
+unfolding Sizes.rseBooleans Sizes.ownConditions Sizes.conditionCount Sizes.conditionsCount Sizes.receivesConditionCount
+openSizes5 = tt
+
 unfoldable pub openStatements : Unit {0}
 unfolding Statements.stream Statements.streams Statements.countByte Statements.rseHead Statements.keys Statements.sort
 openStatements = tt
@@ -330,7 +334,7 @@ unfolding openGrammarNames openGrammarNames2 openGrammarNames3 openReader openRe
 everything3 = tt
 
 unfoldable pub everything4 : Unit {0}
-unfolding openRows3 openScope openSizes openSizes2 openSizes3 openSizes4 openStatements openStatements2 openStatements3
+unfolding openRows3 openScope openSizes openSizes2 openSizes3 openSizes4 openSizes5 openStatements openStatements2 openStatements3
 everything4 = tt
 
 unfoldable pub everything5 : Unit {0}

@@ -38,11 +38,11 @@ beds = bed 0 0x2D 0x01 ∷ bed 0 0x2C 0x01 ∷ bed 0 0xFE 0xFF ∷ bed 0 0xFF 0x
 
 pub expected : List Answer
 expected =
-    -- "P: S gives these rows."
+    -- "P: S gives these rows."; 02, No. 7: a fifth number of a statement's row, and a sixth of a context's
     rows
-    (1 ∷ 2 ∷ 0 ∷ 40 ∷ 8 ∷ 7 ∷ 1 ∷ 39 ∷ 27 ∷ 14 ∷ 2 ∷ 39 ∷ 29 ∷ 1 ∷ 3 ∷ 39 ∷ [])
+    (1 ∷ 2 ∷ 0 ∷ 40 ∷ 0 ∷ 8 ∷ 7 ∷ 1 ∷ 39 ∷ 1 ∷ 27 ∷ 14 ∷ 2 ∷ 39 ∷ 0 ∷ 29 ∷ 1 ∷ 3 ∷ 39 ∷ 0 ∷ [])
     (0 ∷ 0 ∷ 7 ∷ 0 ∷ 0 ∷ 2 ∷ [])
-    (0 ∷ 11 ∷ 15 ∷ 39 ∷ 1 ∷ [])
+    (0 ∷ 11 ∷ 15 ∷ 39 ∷ 1 ∷ 7 ∷ [])
     -- "Byte 0 to 5: 5 at 0. Byte 18 to 1: 11 at 18. Byte 19 to 1: 13 at 16; to 2: 12 at 19. Byte 36 to 5: 9 at 36. Byte 37 to 1: 10 at 37."
     ∷ refusal 5 0 ∷ refusal 11 18 ∷ refusal 13 16 ∷ refusal 12 19 ∷ refusal 9 36 ∷ refusal 10 37
     -- "P: HEAT 301 true, 300 false, 65534 true, 65535 missing, 301 with its bit set missing."

@@ -7,6 +7,7 @@ use native.Mathlib.Omega.{arith}
 use lib.ListN.{length, getD, length-append}
 use mir.Syntax.{w8}
 use mir.Val.{Fits}
+use Rattle.wire.specs.Limits.{contextRowNumbers}
 use Rattle.grammar.specs.declared.Cursor.{Cursor}
 use Rattle.grammar.specs.declared.Fit.{Fit}
 use Rattle.grammar.specs.declared.Refusal.{Refusal}
@@ -75,7 +76,7 @@ pub record Part {A : Type 0} (x : Read A) (k : A → Fit) (bytes rows : A → Li
 
 pub part-read : {A : Type 0} {x : Read A} {k : A → Fit} {bytes rows : A → List ℕ} {s : List ℕ} {c q : Cursor} {t t′ : Tables} {r : Step}
     {f : Fit} (many : A → ℕ) → ((a : A) → x ≡ read a q → Went s c (bytes a) 0 (many a) 0 q) →
-    ((a : A) → length (rows a) ≡ many a * 5) → Wrote x k c (λ a. contextsAlone (rows a)) t t′ r → r ≡ Step.Next f q →
+    ((a : A) → length (rows a) ≡ many a * contextRowNumbers) → Wrote x k c (λ a. contextsAlone (rows a)) t t′ r → r ≡ Step.Next f q →
     {G : Type 0} → (Part x k bytes rows c t t′ f q → G) → G
 part-read many went count w e g = on-next w e (λ a i j h.
     let o = went a i in

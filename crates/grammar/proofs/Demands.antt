@@ -38,19 +38,19 @@ was-accepted (refused z q) n m k e = absurd-eq (cc)
 
 has-room : (st pa ct : List ℕ) → room (length st) (length pa) (length ct) ≡ true → Room st pa ct
 has-room st pa ct e =
-    let u = both (leb 2048 (length st) && leb 1536 (length pa)) (leb 160 (length ct)) e in
-    let v = both (leb 2048 (length st)) (leb 1536 (length pa)) (u .0) in
+    let u = both (leb 2560 (length st) && leb 1536 (length pa)) (leb 192 (length ct)) e in
+    let v = both (leb 2560 (length st)) (leb 1536 (length pa)) (u .0) in
     record {
-      statements = leb-true 2048 (length st) (v .0);
+      statements = leb-true 2560 (length st) (v .0);
       parameters = leb-true 1536 (length pa) (v .1);
-      contexts = leb-true 160 (length ct) (u .1);
+      contexts = leb-true 192 (length ct) (u .1);
     }
 
 -- room in the tables aside, the answer is the reading's
 with-room : (s d st pa ct : List ℕ) → Room st pa ct → answer s d (length st) (length pa) (length ct) ≡ reading s d
 unfolding answer
 with-room s d st pa ct h =
-    rw (answer, le-leb 2048 (length st) (h .statements), le-leb 1536 (length pa) (h .parameters), le-leb 160 (length ct) (h .contexts))
+    rw (answer, le-leb 2560 (length st) (h .statements), le-leb 1536 (length pa) (h .parameters), le-leb 192 (length ct) (h .contexts))
 
 module _ {s d st pa ct st′ pa′ ct′ : List ℕ} where
   -- the tables of a tree that was read

@@ -1,4 +1,4 @@
--- A request that the rules allow has no more conditions than statements.
+-- How many conditions there are; a request that the rules allow has no more than statements.
 use Prim.Native.Nat.{ℕ, _+_, _≤_}
 use mathlib.Core.Path.{_≡_, refl}
 use mathlib.Core.List.{List}
@@ -8,7 +8,7 @@ use Rattle.dictionary.specs.Dictionary.{Relation}
 use Rattle.grammar.specs.Tree.{Clauses, noClauses, such, sorted, Rse, rse, Statement, assignment, begin, erase, for, headed, leave, if, ifElse, select, Statements, none as nothing, _then_, Receives, last, more, Request}
 use Rattle.grammar.specs.Bytes.{keysBytes, headBytes, rseBytes, headingBytes, booleanBytes, statementBytes}
 use Rattle.grammar.specs.Environment.{Environment, Scope, outermost, underStreams, underRse, underHeading}
-use Rattle.grammar.specs.Sizes.{booleansCount, statementCount, statementsCount, receivesCount}
+use Rattle.grammar.specs.Sizes.{booleansCount, rseBooleans, conditionCount, conditionsCount, receivesConditionCount, statementCount, statementsCount, receivesCount}
 use Rattle.grammar.specs.Rules.{RseAllowed, StatementAllowed, StatementsAllowed, ReceivesAllowed, environment, Allowed}
 use Rattle.grammar.specs.Rows.{statementsStart}
 use Rattle.grammar.specs.Conditions.{clausesConditions, rseConditions, conditions, statementsConditions, receivesConditions, requestConditions}
@@ -19,6 +19,46 @@ unfolding clausesConditions booleansCount
 clauses-count sc noClauses p = refl
 clauses-count sc (such x cs) p = omega (arith, clauses-count sc cs (p + 1 + length (booleanBytes x)))
 clauses-count sc (sorted ks cs) p = clauses-count sc cs (p + 2 + length (keysBytes ks))
+
+-- how many conditions there are
+pub rse-count : (d : List Relation) (sc : Scope) (r : Rse) (p : ℕ) → length (rseConditions d sc r p) ≡ rseBooleans r
+unfolding rseConditions rseBooleans
+rse-count d sc (rse ss cs) p = clauses-count (underStreams d sc ss) cs (p + length (headBytes ss))
+
+module _ (d : List Relation) where
+  mutual
+    unfolding conditions statementsConditions receivesConditions conditionCount conditionsCount receivesConditionCount
+
+    pub conditions-count : (sc : Scope) (t : Statement) (p : ℕ) → length (conditions d sc t p) ≡ conditionCount t
+    conditions-count sc (assignment v t) p = refl
+    conditions-count sc (begin ss) p = statements-conditions-count sc ss (p + 1)
+    conditions-count sc (erase c) p = refl
+    conditions-count sc (for r t) p =
+        let i = rse-count d sc r (p + 1) in
+        let j = conditions-count (underRse d sc r) t (p + 1 + length (rseBytes r)) in
+        rw (length-append (rseConditions d sc r (p + 1))) (omega arith)
+    conditions-count sc (headed h t) p = conditions-count (underHeading d sc h) t (p + length (headingBytes h))
+    conditions-count sc (leave n) p = refl
+    conditions-count sc (if b t) p = let i = conditions-count sc t (p + 1 + length (booleanBytes b)) in omega arith
+    conditions-count sc (ifElse b t u) p =
+        let i = conditions-count sc t (p + 1 + length (booleanBytes b)) in
+        let j = conditions-count sc u (p + 1 + length (booleanBytes b) + length (statementBytes t)) in
+        rw (length-append (conditions d sc t (p + 1 + length (booleanBytes b)))) (omega arith)
+    conditions-count sc (select rs) p = receives-conditions-count sc rs (p + 1)
+
+    pub statements-conditions-count : (sc : Scope) (ts : Statements) (p : ℕ) → length (statementsConditions d sc ts p) ≡ conditionsCount ts
+    statements-conditions-count sc nothing p = refl
+    statements-conditions-count sc (t then ts) p =
+        let i = conditions-count sc t p in
+        let j = statements-conditions-count sc ts (p + length (statementBytes t)) in
+        rw (length-append (conditions d sc t p)) (omega arith)
+
+    pub receives-conditions-count : (sc : Scope) (rs : Receives) (p : ℕ) → length (receivesConditions d sc rs p) ≡ receivesConditionCount rs
+    receives-conditions-count sc (last m t) p = conditions-count sc t (p + 2)
+    receives-conditions-count sc (more m t rs) p =
+        let i = conditions-count sc t (p + 2) in
+        let j = receives-conditions-count sc rs (p + 2 + length (statementBytes t)) in
+        rw (length-append (conditions d sc t (p + 2))) (omega arith)
 
 rse-few : (e : Environment) (sc : Scope) (r : Rse) (p : ℕ) → RseAllowed e sc r → length (rseConditions (e .relations) sc r p) ≤ 1
 unfolding rseConditions

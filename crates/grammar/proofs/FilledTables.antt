@@ -6,6 +6,7 @@ use native.Mathlib.Nat.{sub-zero, zero-sub, suc-sub-suc, zero-add}
 use native.Mathlib.Omega.{arith}
 use lib.ListN.{length, drop, replicate, length-replicate}
 use lib.Seq.{sets, sets-eq}
+use Rattle.wire.specs.Limits.{statementTableNumbers, parameterTableNumbers, contextTableNumbers}
 use Rattle.dictionary.specs.Dictionary.{Relation}
 use Rattle.grammar.specs.Tree.{Request}
 use Rattle.grammar.specs.Rules.{Allowed}
@@ -22,11 +23,11 @@ pub over-zeros : (rows : List ℕ) (m : ℕ) → length rows ≤ m → sets (rep
 over-zeros rows m h = sets-eq rows (replicate m 0) 0 (rw (zero-add, length-replicate) h) ∙ rw (zero-add, drop-replicate (length rows) m)
 
 module _ (d : List Relation) (r : Request) (a : Allowed d r) where
-  pub statements-laid : (n : ℕ) → 2048 ≤ n → sets (replicate n 0) 0 (requestStatementRows r) ≡ padded (requestStatementRows r) n
+  pub statements-laid : (n : ℕ) → statementTableNumbers ≤ n → sets (replicate n 0) 0 (requestStatementRows r) ≡ padded (requestStatementRows r) n
   statements-laid n h = over-zeros (requestStatementRows r) n (omega (arith, request-rows r, a .sized .statements))
 
-  pub parameters-laid : (n : ℕ) → 1536 ≤ n → sets (replicate n 0) 0 (parameterRows (r .messages)) ≡ padded (parameterRows (r .messages)) n
+  pub parameters-laid : (n : ℕ) → parameterTableNumbers ≤ n → sets (replicate n 0) 0 (parameterRows (r .messages)) ≡ padded (parameterRows (r .messages)) n
   parameters-laid n h = over-zeros (parameterRows (r .messages)) n (omega (arith, parameter-rows (r .messages), a .sized .parameters))
 
-  pub contexts-laid : (n : ℕ) → 160 ≤ n → sets (replicate n 0) 0 (requestContextRows d r) ≡ padded (requestContextRows d r) n
+  pub contexts-laid : (n : ℕ) → contextTableNumbers ≤ n → sets (replicate n 0) 0 (requestContextRows d r) ≡ padded (requestContextRows d r) n
   contexts-laid n h = over-zeros (requestContextRows d r) n (omega (arith, request-contexts d r, a .sized .contexts))

@@ -54,7 +54,7 @@ pub record RefusedReading (s d st pa ct st′ pa′ ct′ : List ℕ) (x : Refus
 -- ---- demand 2: "A request is accepted exactly when the grammar and the rules of scope, kind and size of document 01 allow it. The
 -- ---- tables then list every statement, parameter and context, and nothing else."
 
--- 01: 1 is given for "tables below 2048, 1536, 160 numbers"
+-- 01: 1 is given for "tables below 2048, 1536, 160 numbers"; 02, No. 7: "smallest sizes change to 2560 and 192 numbers"
 pub record Room (st pa ct : List ℕ) : Type 0 where
   pub statements : statementTableNumbers ≤ length st
   pub parameters : parameterTableNumbers ≤ length pa

@@ -10,6 +10,7 @@ pub mod Sizes
 pub mod Rules
 pub mod Rows
 pub mod Conditions
+pub mod Named
 pub mod Reader
 pub mod Messages
 pub mod Rses

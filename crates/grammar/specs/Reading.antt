@@ -48,7 +48,7 @@ beside (atFault p) s = refused BadDictionary p
 unfoldable pub reading : List ℕ → List ℕ → Read Request
 reading s d = cond (leb (length s) maxRequestBytes) (beside (dictionary d) s) (refused RequestTooLong 0)
 
--- 1: "tables below 2048, 1536, 160 numbers"
+-- 1: "tables below 2048, 1536, 160 numbers"; 02, No. 7: "smallest sizes change to 2560 and 192 numbers"
 abbrev pub room : ℕ → ℕ → ℕ → Bool
 room statements parameters contexts =
     leb statementTableNumbers statements && leb parameterTableNumbers parameters && leb contextTableNumbers contexts

@@ -4,7 +4,7 @@ use Rattle.grammar.specs.declared.Refusal.{Refusal}
 use Rattle.grammar.specs.declared.Refusal.the-variants.{TablesTooShort, RequestTooLong, BadDictionary, EndsEarly, BadVersion, NotDue, LeftOut, TooGreat, BadMessage, NoParameter, BadContext, Unknown, Unfit, Misplaced, BytesAfterEnd, OutOfRange, NoBoolean, BadMessageBytes, BadRecords, MalformedText, Overflow, ZeroDivisor}
 
 unfoldable pub number : Refusal → ℕ
-number TablesTooShort = 1  -- tables below 2048, 1536, 160 numbers
+number TablesTooShort = 1  -- tables below 2560, 1536, 192 numbers (02, No. 7)
 number RequestTooLong = 2  -- request too long
 number BadDictionary = 3  -- dictionary breaks a rule or a greatest size
 number EndsEarly = 4  -- request ends early

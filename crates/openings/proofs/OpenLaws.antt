@@ -104,7 +104,7 @@ module _ {s d sc : List ℕ} {c : Cursor} (ready : Prepared s d sc c) (room : c 
       contextOf d x ≡ z → ct′ ≡ sets ct (c .contexts * contextRowNumbers) (contextRow z place 0 0)
   row-added {ct} {place} {z} added h k =
       added .filled ∙
-      context-row ct (c .contexts) _ place _ (omega arith) (omega (arith, ready .inside, ready .short)) ∙
+      context-row ct (c .contexts) _ place _ _ (omega arith) (omega (arith, ready .inside, ready .short)) ∙
       ap (λ w. sets ct (c .contexts * contextRowNumbers) (contextRow w place 0 0)) k
 
 -- ---- several streams
@@ -183,7 +183,7 @@ module _ {s d sc : List ℕ} {c : Cursor} (ready : Prepared s d sc c) {x : Conte
   unfolding streamRows
   rows-next ss =
       let row = contextRow (streamContext (relations d) blr.for (i .st)) (c .at) 0 0 in
-      let e : q .contexts * contextRowNumbers ≡ c .contexts * contextRowNumbers + 5 = omega (arith, i .declared) in
+      let e : q .contexts * contextRowNumbers ≡ c .contexts * contextRowNumbers + contextRowNumbers = omega (arith, i .declared) in
       rw (row-added ready (i .room) x added (omega arith) (i .context-is), e, i .place)
       (sym (sets-append row (streamRows (relations d) ss (c .at + length (streamBytes (i .st))) 0 0) ct (c .contexts * contextRowNumbers)))
 

@@ -33,7 +33,7 @@ use Rattle.openings.specs.Streams.{Proper, relations}
 -- a context's row, and the scope with it
 pub record Added (d : List ℕ) (x : Context) (row place : ℕ) (ct ct′ sc sc′ : List ℕ) : Type 0 where
   pub scope-is : sc′ ≡ withContext sc x
-  pub filled : ct′ ≡ withContextRow ct row (x .number .0) place (relationAt d (x .relation) .id)
+  pub filled : ct′ ≡ withContextRow ct row (x .number .0) place (relationAt d (x .relation) .id) (x .opener)
 
 -- what a store or a modify does with the context that it declares
 abbrev pub Updated : List ℕ → StreamStep → ℕ → ℕ → List ℕ → List ℕ → List ℕ → List ℕ → Step → Type 0

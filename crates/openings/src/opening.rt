@@ -80,6 +80,7 @@ fn declare(
         x.number,
         place,
         relation_id(dictionary, relation),
+        x.opener,
     );
     add_context(below, x);
 }

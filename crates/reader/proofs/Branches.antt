@@ -1,5 +1,5 @@
 -- An assignment and an if: parts one after another, with a test or an end.
-use Prim.Native.Nat.{ℕ, zero, suc, _+_, _<_}
+use Prim.Native.Nat.{ℕ, _+_, _-_, _<_}
 use mathlib.Core.Path.{_≡_, refl, sym, ap, _∙_}
 use mathlib.Core.Bool.{Bool, true, false}
 use mathlib.Core.List.{List, _∷_, [], map-append}
@@ -16,23 +16,25 @@ use Rattle.grammar.specs.Tree.{Value, Reference, assignment, if, ifElse}
 use Rattle.grammar.specs.Bytes.{booleanBytes, statementBytes}
 use Rattle.grammar.specs.Environment.{Environment, Scope}
 use Rattle.grammar.specs.Kinds.{kindOf, referenceKind, oneKind}
-use Rattle.grammar.specs.Sizes.{statementCount, booleanContexts}
+use Rattle.grammar.specs.Sizes.{statementCount, booleanContexts, ownConditions, conditionCount}
 use Rattle.grammar.specs.Rows.{valueRows, booleanRows, rowsBelow, contextRows}
 use Rattle.grammar.specs.Conditions.{conditions}
-use Rattle.grammar.specs.Reader.{read, peek, noted}
+use Rattle.grammar.specs.Reader.{read, onRead, peek, noted}
 use Rattle.grammar.specs.Values.{readValue, readBoolean, readTarget}
-use Rattle.grammar.specs.Statements.{assignmentUnder, ifUnder, statementUnder}
+use Rattle.grammar.specs.Statements.{assignmentUnder, ifUnder, statementUnder, readStatement}
 use Rattle.grammar.specs.Internal.Steps.{kindIn, stepOf}
 use Rattle.grammar.specs.Demands.{Octets}
 use Rattle.grammar.proofs.StepLaws.{step-read, step-refused}
 use Rattle.grammar.proofs.RowCounts.{boolean-rows}
+use Rattle.grammar.proofs.FewConditions.{conditions-count}
 use Rattle.grammar.proofs.SoundValues.{boolean-sound}
 use Rattle.grammar.proofs.SoundStatements.{statement-sound}
 use Rattle.scopes.proofs.Scopes.{kind-fit}
 use Rattle.references.specs.Promises.{referenceFit}
-use Rattle.tables.specs.Tables.{Tables, tables, contextsAlone, laid}
-use Rattle.tables.specs.Written.{listed, numbered, withPlace}
-use Rattle.tables.proofs.Chains.{stop, fill, likewise, on-next}
+use Rattle.tables.specs.Tables.{Tables, tables, contextsAlone, nothing, laid}
+use Rattle.tables.specs.Written.{numbered, withPlace, withNumber}
+use Rattle.tables.proofs.Rows.{there-is}
+use Rattle.tables.proofs.Chains.{by-read, stop, fill, likewise, on-next}
 use Rattle.openings.specs.declared.heads.Coded.{Coded}
 use Rattle.openings.specs.declared.heads.Ending.{Ending}
 use Rattle.openings.specs.declared.heads.Ending.the-variants as Ending
@@ -40,8 +42,8 @@ use Rattle.openings.specs.Heads.{endingOf}
 use Rattle.expressions.specs.Promises.{valueFit, ValueRead, BooleanRead, testStep}
 use Rattle.reader.specs.declared.statements.Level.{Level}
 use Rattle.reader.specs.Given.{Given}
-use Rattle.reader.specs.Readers.{StatementRead, CodedRead, AssignmentRead, IfRead}
-use Rattle.reader.proofs.Parts.{reached-on, stops, made-of, Noted, noted-part}
+use Rattle.reader.specs.Readers.{innerAt, StatementRead, CodedRead, AssignmentRead, IfRead}
+use Rattle.reader.proofs.Parts.{reached-on, stops, made-of, Noted, noted-part, under-stop, under-stopped}
 use Rattle.reader.proofs.Heads.{ended, going, cut}
 use Rattle.reader.proofs.StatementLaws.{StatementPart}
 
@@ -81,49 +83,54 @@ module _ (s : List ℕ) (e : Environment) (sc : Scope) (l : ℕ) (x : Coded) {ct
 -- ---- an if
 
 -- its condition, with its number
-abbrev pub ConditionPart : List ℕ → Environment → Scope → ℕ → Cursor → Tables → Tables → Cursor → Type 0
+abbrev pub ConditionPart : List ℕ → Environment → Scope → ℕ → Cursor → List ℕ → Tables → Tables → Cursor → Type 0
 ConditionPart s e sc l c = Noted (readBoolean l e sc s c) booleanBytes (λ b. booleanRows (e .relations) sc b (c .at)) (λ b. c .at ∷ []) c
 
-there-is : (p : ℕ) → 0 < p → listed p ≡ p ∷ []
-there-is zero h = absurd (omega arith)
-there-is (suc p) h = refl
-
-pub condition-part : {s d scope : List ℕ} {c : Cursor} {l : ℕ} → Given s d scope c l → 0 < c .at → (e : Environment) (sc : Scope) (l′ : ℕ)
-    {st ct nd ct₁ nd₁ : List ℕ} {b : Step} {f : Fit} {q q₁ : Cursor} → BooleanRead l′ e sc s c ct ct₁ b → b ≡ Step.Next f q →
-    q₁ ≡ numbered q (c .at) → nd₁ ≡ withPlace nd q (c .at) → ConditionPart s e sc l′ c (tables st ct nd) (tables st ct₁ nd₁) q₁
-condition-part {s} {c} g beyond e sc l′ {q} w i = noted-part booleanContexts (c .at) (λ b h. boolean-sound s (g .octets) e sc l′ c b q h .went)
-    (λ b. boolean-rows (e .relations) sc b (c .at)) (λ b h. there-is (c .at) beyond) w i (omega (arith, g .conditions-few, g .statements-few))
+pub condition-part : {s d scope : List ℕ} {c : Cursor} {l : ℕ} → Given s d scope c l → 0 < c .at → c .conditions < c .statements →
+    (e : Environment) (sc : Scope) (l′ : ℕ) {st st₁ ct nd ct₁ nd₁ : List ℕ} {b : Step} {f : Fit} {q q₁ : Cursor} →
+    BooleanRead l′ e sc s c ct ct₁ b → b ≡ Step.Next f q → q₁ ≡ numbered q (c .at) → nd₁ ≡ withPlace nd q (c .at) →
+    st₁ ≡ withNumber st (c .statements - 1) q (c .at) → ConditionPart s e sc l′ c st (tables st₁ ct nd) (tables st₁ ct₁ nd₁) q₁
+condition-part {s} {c} g beyond few e sc l′ {q} w i = noted-part booleanContexts (c .at) (λ b h. boolean-sound s (g .octets) e sc l′ c b q h .went)
+    (λ b. boolean-rows (e .relations) sc b (c .at)) (λ b h. there-is (c .at) beyond) w i (g .statements-few) few
     (omega (arith, g .inside, g .short))
 
 module _ (s : List ℕ) (e : Environment) (sc : Scope) (level : Level) (p : ℕ) (c : Cursor) where
   pub if-stopped : {ct ct₁ : List ℕ} {t t₁ : Tables} {b : Step} {n : Refusal} {i : ℕ} → BooleanRead (level .left) e sc s c ct ct₁ b → b ≡ Step.Refused n i →
       IfRead (level .left) e sc s p c t t₁ b
   unfolding ifUnder
-  if-stopped w i = stops w i (λ y. rw (ifUnder, y))
+  if-stopped w i = under-stopped {t₀ = nothing} (stops w i (λ y. rw (ifUnder, y))) i
 
-  module _ {t t₁ : Tables} {q : Cursor} (a : ConditionPart s e sc (level .left) c t t₁ q) where
+  module _ {st st₁ ct nd : List ℕ} {t₁ : Tables} {q : Cursor} (a : ConditionPart s e sc (level .left) c st (tables st₁ ct nd) t₁ q) where
     pub first-stopped : {t₂ : Tables} {r : Step} {n : Refusal} {i : ℕ} → StatementRead level e sc s q t₁ t₂ r → r ≡ Step.Refused n i →
-        IfRead (level .left) e sc s p c t t₂ r
+        IfRead (level .left) e sc s p c (tables st ct nd) t₂ r
     unfolding ifUnder noted
-    first-stopped w i = stops w i (λ y. rw (ifUnder, a .is, ← a .number, y))
+    first-stopped w i = under-stopped {t₀ = nothing} (stops w i (λ y. rw (ifUnder, a .is, ← a .number, y))) i
 
     module _ (here : c .at ≡ p + 1) (parent : level .parent ≡ c .statements) {t₂ : Tables} {f : Fit} {q₁ : Cursor} (v : StatementPart s e sc level q t₁ t₂ f q₁)
         {h : Ending} (u : h ≡ endingOf (peek s q₁)) where
-      pub if-cut : {n : Refusal} {i : ℕ} {t₃ : Tables} → h ≡ Ending.Refused n i → IfRead (level .left) e sc s p c t t₃ (Step.Refused n i)
+      pub if-cut : {n : Refusal} {i : ℕ} {t₃ : Tables} → h ≡ Ending.Refused n i →
+          IfRead (level .left) e sc s p c (tables st ct nd) t₃ (Step.Refused n i)
       unfolding ifUnder noted
-      if-cut i = stop (rw (ifUnder, a .is, ← a .number, v .is, cut s q₁ u i))
+      if-cut i = under-stop (rw (ifUnder, a .is, ← a .number, v .is, cut s q₁ u i))
 
-      pub if-done : {q₂ : Cursor} → h ≡ Ending.Done q₂ → IfRead (level .left) e sc s p c t t₂ (Step.Next Fit.NoKind q₂)
-      unfolding ifUnder noted rowsBelow contextRows conditions
-      if-done i =
+      pub if-done : {q₂ : Cursor} → h ≡ Ending.Done q₂ → IfRead (level .left) e sc s p c (tables st ct nd) t₂ (Step.Next Fit.NoKind q₂)
+      unfolding ifUnder noted rowsBelow contextRows conditions ownConditions
+      if-done {q₂} i =
           let o = ended s q₁ u i in
           let there : q .at ≡ p + 1 + length (booleanBytes (a .part)) = omega (arith, a .place) in
+          let marks : q .conditions ≡ c .conditions + 1 = a .reached .follows .conditions in
           let both = reached-on (a .reached) (v .reached) in
-          fill {a = if (a .part) (v .part)} (rw (ifUnder, a .is, ← a .number, v .is, o .seen, o .is-end, o .after)) refl
-          (both .filled ∙ rw (here, there, a .counted, parent))
+          let whole : ifUnder (innerAt (level .left) e) sc s c ≡ read (if (a .part) (v .part)) q₂ =
+          rw (ifUnder, a .is, ← a .number, v .is, o .seen, o .is-end, o .after) in
+          record {
+            numbered = st₁;
+            number = rw whole (a .own);
+            wrote = fill {a = if (a .part) (v .part)} whole refl (both .filled ∙ rw (here, there, a .counted, parent, marks));
+          }
 
-      pub if-goes : Octets s → {t₃ : Tables} {r : Step} → h ≡ Ending.Goes → StatementRead level e sc s q₁ t₂ t₃ r → IfRead (level .left) e sc s p c t t₃ r
-      unfolding ifUnder noted rowsBelow contextRows conditions
+      pub if-goes : Octets s → {t₃ : Tables} {r : Step} → h ≡ Ending.Goes → StatementRead level e sc s q₁ t₂ t₃ r →
+          IfRead (level .left) e sc s p c (tables st ct nd) t₃ r
+      unfolding ifUnder noted rowsBelow contextRows conditions ownConditions
       if-goes octets i w =
           let o = going s q₁ u i in
           let g = boolean-sound s octets e sc (level .left) c (a .part) (a .last) (a .is) .went in
@@ -132,9 +139,28 @@ module _ (s : List ℕ) (e : Environment) (sc : Scope) (level : Level) (p : ℕ)
           let same : q .statements ≡ c .statements = ap (λ (z : Cursor). z .statements) (a .number) ∙ omega (arith, g .counted) in
           let beyond : q₁ .at ≡ p + 1 + length (booleanBytes (a .part)) + length (statementBytes (v .part)) = omega (arith, j .place) in
           let more : q₁ .statements ≡ c .statements + statementCount (v .part) = omega (arith, a .counted, j .counted) in
-          likewise (rw (ifUnder, a .is, ← a .number, v .is, o .seen, o .no-end)) (made-of (λ x. ifElse (a .part) (v .part) x)
-          (reached-on (a .reached) (v .reached))
-          (λ x q₂ y. rw (here, beyond, more, there, a .counted, parent, map-append (λ x. x .place) (conditions (e .relations) sc (v .part) _) _)) w)
+          let marks : q .conditions ≡ c .conditions + 1 = a .reached .follows .conditions in
+          let beyond-marks : q₁ .conditions ≡ c .conditions + 1 + conditionCount (v .part) =
+          omega (arith, j .noted, marks, conditions-count (e .relations) sc (v .part) (q .at)) in
+          let whole : ifUnder (innerAt (level .left) e) sc s c ≡
+          onRead (readStatement (level .left) e sc s q₁) (λ x q₂. read (ifElse (a .part) (v .part) x) q₂) =
+          rw (ifUnder, a .is, ← a .number, v .is, o .seen, o .no-end) in
+          record {
+            numbered = st₁;
+            number = by-read (readStatement (level .left) e sc s q₁) (λ x q₂ y. rw (whole, y) (a .own)) (λ n i y. rw (whole, y));
+            wrote = likewise whole (made-of (λ x. ifElse (a .part) (v .part) x) (reached-on (a .reached) (v .reached))
+                (λ x q₂ y. rw (
+                  here,
+                  beyond,
+                  more,
+                  there,
+                  a .counted,
+                  parent,
+                  beyond-marks,
+                  marks,
+                  map-append (λ x. x .place) (conditions (e .relations) sc (v .part) _) _,
+                )) w);
+          }
 
 pub if-coded : (s : List ℕ) (e : Environment) (sc : Scope) (l : ℕ) (x : Coded) {t t₁ : Tables} {r : Step} → x .code ≡ Code.If →
     IfRead l e sc s (x .at) (x .after) t t₁ r → CodedRead l e sc s x t t₁ r

@@ -1,12 +1,12 @@
 -- A for: its streams, its clauses, its statement, and the scope of its contexts.
-use Prim.Native.Nat.{ℕ, zero, suc, _+_, _*_, _<_, _≤_}
+use Prim.Native.Nat.{ℕ, zero, suc, _+_, _-_, _*_, _<_, _≤_}
 use mathlib.Core.Path.{_≡_, refl, sym, ap, _∙_}
 use mathlib.Core.Bool.{false}
 use mathlib.Core.List.{List, [], _∷_, _++_, append-assoc, map-append}
 use native.Mathlib.Omega.{arith}
 use lib.ListN.{length, length-map, length-append}
 use lib.Seq.{sets}
-use Rattle.wire.specs.Limits.{maxRequestBytes, contextRowNumbers}
+use Rattle.wire.specs.Limits.{maxRequestBytes, maxStatements, contextRowNumbers}
 use Rattle.wire.specs.declared.codes.StatementCode.the-variants as Code
 use Rattle.grammar.specs.declared.Cursor.{Cursor}
 use Rattle.grammar.specs.declared.Fit.{Fit}
@@ -17,7 +17,7 @@ use Rattle.grammar.specs.declared.Step.the-variants as Step
 use Rattle.grammar.specs.Tree.{Statement, Stream, Clauses, noClauses, such, sorted, rse, for}
 use Rattle.grammar.specs.Bytes.{headBytes, rseBytes, keysBytes, clausesBytes, statementBytes}
 use Rattle.grammar.specs.Environment.{Environment, Scope, underStreams, underRse}
-use Rattle.grammar.specs.Sizes.{clausesContexts, booleansCount}
+use Rattle.grammar.specs.Sizes.{clausesContexts, booleansCount, rseBooleans, ownConditions}
 use Rattle.grammar.specs.Rows.{size, streamRows, clausesRows, rseRows, rowsBelow, contextRows}
 use Rattle.grammar.specs.Conditions.{clausesConditions, rseConditions, conditions}
 use Rattle.grammar.specs.Reader.{Read, read, refused, withConditions, noted}
@@ -34,10 +34,10 @@ use Rattle.grammar.proofs.RowCounts.{stream-rows, clauses-rows}
 use Rattle.grammar.proofs.FewConditions.{clauses-count}
 use Rattle.scopes.specs.Scopes.{scopeOf}
 use Rattle.tables.specs.Tables.{Tables, tables, joined, laid}
-use Rattle.tables.specs.Written.{listed, numbered, withPlace, closedAfter}
+use Rattle.tables.specs.Written.{listed, numbered, withPlace, withNumber, closedAfter}
 use Rattle.tables.proofs.Laid.{laid-laid}
 use Rattle.tables.proofs.Closed.{streams-closed}
-use Rattle.tables.proofs.Chains.{by-read, stop, fill, stopped}
+use Rattle.tables.proofs.Chains.{by-read, fill, stopped}
 use Rattle.openings.specs.declared.heads.Coded.{Coded}
 use Rattle.openings.specs.Streams.{relations}
 use Rattle.openings.specs.Openings.{OpensHead}
@@ -45,7 +45,7 @@ use Rattle.expressions.specs.declared.clauses.Clauses.{Clauses as Answer}
 use Rattle.expressions.specs.Promises.{clausesPlaces, ClausesRead}
 use Rattle.reader.specs.Given.{Given, Inside}
 use Rattle.reader.specs.Readers.{levelUnder, innerAt, statementTables, StatementRead, CodedRead, HeadingRead}
-use Rattle.reader.proofs.Parts.{rows-after, Noted, noted-part}
+use Rattle.reader.proofs.Parts.{rows-after, Noted, noted-part, under-stop}
 use Rattle.reader.proofs.Headings.{headed-refused, headed-goes}
 use Rattle.reader.proofs.Ready.{fine-of, fine-went, given-opened, clauses-given}
 
@@ -72,17 +72,18 @@ module _ (s : List ℕ) (octets : Octets s) (e : Environment) (sc : Scope) (l : 
   reads-sound = clauses-sound l e sc s (readBoolean l e sc) (readValue l e sc) (boolean-sound s octets e sc l)
       (value-sound s octets e sc l) 3 false false q
 
-  abbrev ClausesPart : Tables → Tables → Cursor → Type 0
+  abbrev ClausesPart : List ℕ → Tables → Tables → Cursor → Type 0
   ClausesPart = Noted reads clausesBytes (λ cs. clausesRows (e .relations) sc cs (q .at)) (λ cs. clausesPlaces sc cs (q .at)) q
 
-  clauses-part : {st ct₁ nd ct₂ nd₁ : List ℕ} {a : Answer} {f : Fit} {q₁ q₂ : Cursor} → q .at ≤ length s → length s ≤ maxRequestBytes →
-      q .conditions ≤ maxRequestBytes → ClausesRead l e sc s q ct₁ ct₂ a → a .step ≡ Step.Next f q₁ →
-      q₂ ≡ numbered q₁ (a .such) → nd₁ ≡ withPlace nd q₁ (a .such) → ClausesPart (tables st ct₁ nd) (tables st ct₂ nd₁) q₂
-  clauses-part {a} {q₁} within short few w i =
+  clauses-part : {st st₁ ct₁ nd ct₂ nd₁ : List ℕ} {a : Answer} {f : Fit} {q₁ q₂ : Cursor} → q .at ≤ length s → length s ≤ maxRequestBytes →
+      q .statements ≤ maxStatements → q .conditions < q .statements → ClausesRead l e sc s q ct₁ ct₂ a → a .step ≡ Step.Next f q₁ →
+      q₂ ≡ numbered q₁ (a .such) → nd₁ ≡ withPlace nd q₁ (a .such) → st₁ ≡ withNumber st (q .statements - 1) q₁ (a .such) →
+      ClausesPart st (tables st₁ ct₁ nd) (tables st₁ ct₂ nd₁) q₂
+  clauses-part {a} {q₁} within short rows few w i =
       let u = step-read noKind reads (sym i ∙ w .wrote .answer) in
       let o = reads-sound (u .0) q₁ (u .1) .went in
       noted-part clausesContexts (a .such) (λ cs y. reads-sound cs q₁ y .went) (λ cs. clauses-rows (e .relations) sc cs (q .at))
-      (λ cs y. w .told cs q₁ y) (w .wrote) i few
+      (λ cs y. w .told cs q₁ y) (w .wrote) i rows few
       (omega (arith, place-within sc (u .0) (q .at) (a .such) (w .told (u .0) q₁ (u .1)), o .place, inside o within))
 
 -- its streams, its clauses and its statement
@@ -92,19 +93,21 @@ module _ (s : List ℕ) (octets : Octets s) (e : Environment) (sc : Scope) (l : 
   abbrev inner : Scope
   inner = underStreams (e .relations) sc ss
 
-  module _ {st ct₁ nd ct₂ nd₁ : List ℕ} {q₁ : Cursor} (a : ClausesPart s octets e inner l q (tables st ct₁ nd) (tables st ct₂ nd₁) q₁) where
+  module _ {st st₀ ct₁ nd ct₂ nd₁ : List ℕ} {q₁ : Cursor}
+      (a : ClausesPart s octets e inner l q st (tables st₀ ct₁ nd) (tables st₀ ct₂ nd₁) q₁) where
     -- the rows of contexts after those of the streams
     abbrev contextsAfter : Statement → List ℕ
     contextsAfter t = clausesRows (e .relations) inner (a .part) (q .at) ++ contextRows (e .relations) inner t (q₁ .at)
 
     for-made : {ct st₁ ct₃ nd₂ ct₄ : List ℕ} {r : Step} →
-        StatementRead (levelUnder (x .after) l) e inner s q₁ (tables st ct₂ nd₁) (tables st₁ ct₃ nd₂) r →
+        StatementRead (levelUnder (x .after) l) e inner s q₁ (tables st₀ ct₂ nd₁) (tables st₁ ct₃ nd₂) r →
         ((t : Statement) (q₂ : Cursor) → readStatement l e inner s q₁ ≡ read t q₂ → r ≡ Step.Next Fit.NoKind q₂ →
         ct₃ ≡ sets ct₁ (q .contexts * contextRowNumbers) (contextsAfter t) →
         ct₄ ≡ sets ct (x .after .contexts * contextRowNumbers)
         (streamRows (e .relations) ss (x .after .at + 2) (q .at) (q₂ .at) ++ contextsAfter t)) →
         CodedRead l e sc s x (tables st ct nd) (tables st₁ ct₄ nd₂) r
     unfolding statementUnder forUnder noted underRse rowsBelow contextRows rseRows rseConditions rseBytes conditions statementBytes
+        ownConditions rseBooleans
     for-made {ct} {st₁} {ct₃} {nd₂} {ct₄} {r} w closing =
         let marks : length (clausesPlaces inner (a .part) (q .at)) ≡ booleansCount (a .part) =
         length-map (clausesConditions inner (a .part) (q .at)) (λ x. x .place) ∙ clauses-count inner (a .part) (q .at) in
@@ -113,12 +116,12 @@ module _ (s : List ℕ) (octets : Octets s) (e : Environment) (sc : Scope) (l : 
         by-read (readStatement l e inner s q₁)
         (λ t q₂ z.
         let m = statement-sound s octets e l inner q₁ t q₂ z .went in
-        let one = statementTables (e .relations) inner t (q₁ .at) (q₁ .statements) (x .after .statements) in
+        let one = statementTables (e .relations) inner t (q₁ .at) (q₁ .statements) (x .after .statements) (q₁ .conditions) in
         let re : r ≡ Step.Next Fit.NoKind q₂ = w .answer ∙ rw z in
-        let te : tables st₁ ct₃ nd₂ ≡ laid (tables st ct₁ nd) q (joined (tables [] (clausesRows (e .relations) inner (a .part) (q .at))
+        let te : tables st₁ ct₃ nd₂ ≡ laid (tables st₀ ct₁ nd) q (joined (tables [] (clausesRows (e .relations) inner (a .part) (q .at))
         (clausesPlaces inner (a .part) (q .at))) one) =
         rw z at (w .filled) ∙ ap (λ z. laid z q₁ one) (a .reached .filled) ∙
-        laid-laid (tables st ct₁ nd) q q₁ _ one (a .reached .follows) in
+        laid-laid (tables st₀ ct₁ nd) q q₁ _ one (a .reached .follows) in
         let head : q .at ≡ x .at + 1 + length (headBytes ss) = omega (arith, o .place) in
         let there : q₁ .at ≡ x .at + 1 + (length (headBytes ss) + length (clausesBytes (a .part))) = omega (arith, a .place) in
         let beyond : q₂ .at ≡ x .at + size (for (rse ss (a .part)) t) = simp length-append (omega (arith, m .place, there)) in
@@ -126,23 +129,31 @@ module _ (s : List ℕ) (octets : Octets s) (e : Environment) (sc : Scope) (l : 
         let same₂ : q .statements ≡ x .after .statements = omega (arith, o .counted) in
         let same₃ : q .conditions ≡ x .after .conditions = omega (arith, o .noted) in
         let shut = closing t q₂ z re (ap (λ (z : Tables). z .contexts) te) in
-        rw (re, is-for) (fill {a = for (rse ss (a .part)) t} (rw (forUnder, y, a .is, ← number, z)) refl
-        (rw (
-          ap (λ (z : Tables). z .statements) te,
-          shut,
-          ap (λ (z : Tables). z .conditions) te,
-          same₁,
-          same₂,
-          same₃,
-          beyond,
-          there,
-          head,
-          here,
-          length-append (headBytes ss) (clausesBytes (a .part)),
-          append-assoc (streamRows (e .relations) ss (x .at + 1 + 2) (x .at + 1 + length (headBytes ss)) _) _ _,
-          map-append (λ x. x .place) (clausesConditions inner (a .part) (x .at + 1 + length (headBytes ss))) _,
-        ))))
-        (λ n p z. let re : r ≡ Step.Refused n p = w .answer ∙ rw z in rw (re, is-for) (stop (rw (forUnder, y, a .is, ← number, z))))
+        let marks₁ : q₁ .conditions ≡ x .after .conditions + booleansCount (a .part) =
+        omega (arith, same₃, a .reached .follows .conditions, marks) in
+        let whole : forUnder (innerAt l e) e sc s (x .after) ≡ read (for (rse ss (a .part)) t) q₂ = rw (forUnder, y, a .is, ← number, z) in
+        rw (re, is-for) (record {
+          numbered = st₀;
+          number = rw whole (a .own ∙ rw (same₂, same₃, marks));
+          wrote = fill {a = for (rse ss (a .part)) t} whole refl
+              (rw (
+                ap (λ (z : Tables). z .statements) te,
+                shut,
+                ap (λ (z : Tables). z .conditions) te,
+                marks₁,
+                same₁,
+                same₂,
+                same₃,
+                beyond,
+                there,
+                head,
+                here,
+                length-append (headBytes ss) (clausesBytes (a .part)),
+                append-assoc (streamRows (e .relations) ss (x .at + 1 + 2) (x .at + 1 + length (headBytes ss)) _) _ _,
+                map-append (λ x. x .place) (clausesConditions inner (a .part) (x .at + 1 + length (headBytes ss))) _,
+              ));
+        }))
+        (λ n p z. let re : r ≡ Step.Refused n p = w .answer ∙ rw z in rw (re, is-for) (under-stop (rw (forUnder, y, a .is, ← number, z))))
 
 module _ (s d scope : List ℕ) (e : Environment) (known : e .relations ≡ relations d) (l : ℕ) (x : Coded)
     (g : Inside s d scope x (l + 1)) (is-for : x .code ≡ Code.For) {ct ct₁ scope′ : List ℕ} {a : Step}
@@ -150,8 +161,8 @@ module _ (s d scope : List ℕ) (e : Environment) (known : e .relations ≡ rela
   abbrev heading : Read (List Stream)
   heading = rseHead (e .relations) (scopeOf d scope) s (x .after)
 
-  pub streams-refused : {nd : List ℕ} {n : Refusal} {i : ℕ} → a ≡ Step.Refused n i →
-      HeadingRead l e s d x ct ct₁ nd nd scope scope′ (record { opened = a; ready = a })
+  pub streams-refused : {st nd : List ℕ} {n : Refusal} {i : ℕ} → a ≡ Step.Refused n i →
+      HeadingRead l e s d x (tables st ct nd) (tables st ct₁ nd) scope scope′ (record { opened = a; ready = a })
   unfolding statementUnder forUnder
   streams-refused j = headed-refused l e s d x j (rw is-for (rw (forUnder, step-refused noKind heading (sym j ∙ w .answer))))
 
@@ -166,8 +177,8 @@ module _ (s d scope : List ℕ) (e : Environment) (known : e .relations ≡ rela
         )
 
     module _ {ct₂ : List ℕ} {cs : Answer} (v : ClausesRead l e (scopeOf d scope′) s q ct₁ ct₂ cs) where
-      pub clauses-refused : {nd : List ℕ} {n : Refusal} {i : ℕ} → cs .step ≡ Step.Refused n i →
-          HeadingRead l e s d x ct ct₂ nd nd scope scope′ (record { opened = Step.Next f q; ready = cs .step })
+      pub clauses-refused : {st nd : List ℕ} {n : Refusal} {i : ℕ} → cs .step ≡ Step.Refused n i →
+          HeadingRead l e s d x (tables st ct nd) (tables st ct₂ nd) scope scope′ (record { opened = Step.Next f q; ready = cs .step })
       unfolding statementUnder forUnder
       clauses-refused {n} {i} k =
           let u = step-read noKind heading (sym j ∙ w .answer) in headed-refused l e s d x k (after (u .0) (u .1))
@@ -179,12 +190,13 @@ module _ (s d scope : List ℕ) (e : Environment) (known : e .relations ≡ rela
               let v′ = rw below at v in
               rw is-for (rw (forUnder, y, stopped (v′ .wrote) k))
 
-      for-wrote : {st nd nd₁ st₁ ct₃ nd₂ ct₄ : List ℕ} {f₁ : Fit} {q₁ q₂ : Cursor} {r : Step} → cs .step ≡ Step.Next f₁ q₁ →
+      for-wrote : {st st₀ nd nd₁ st₁ ct₃ nd₂ ct₄ : List ℕ} {f₁ : Fit} {q₁ q₂ : Cursor} {r : Step} → cs .step ≡ Step.Next f₁ q₁ →
           q₂ ≡ numbered q₁ (cs .such) → nd₁ ≡ withPlace nd q₁ (cs .such) →
-          StatementRead (levelUnder (x .after) l) e (scopeOf d scope′) s q₂ (tables st ct₂ nd₁) (tables st₁ ct₃ nd₂) r →
+          st₀ ≡ withNumber st (x .after .statements - 1) q₁ (cs .such) →
+          StatementRead (levelUnder (x .after) l) e (scopeOf d scope′) s q₂ (tables st₀ ct₂ nd₁) (tables st₁ ct₃ nd₂) r →
           ct₄ ≡ closedAfter ct₃ (x .after .contexts) q r →
           CodedRead l e (scopeOf d scope) s x (tables st ct nd) (tables st₁ ct₄ nd₂) r
-      for-wrote {st} {nd} {nd₁} {st₁} {ct₃} {nd₂} {ct₄} {f₁} {q₁} {q₂} {r} i i₁ i₂ v₁ ce =
+      for-wrote {st} {st₀} {nd} {nd₁} {st₁} {ct₃} {nd₂} {ct₄} {f₁} {q₁} {q₂} {r} i i₁ i₂ i₃ v₁ ce =
           let u = step-read noKind heading (sym j ∙ w .answer) in after (u .0) (u .1)
         where
           after : (ss : List Stream) → heading ≡ read ss q → CodedRead l e (scopeOf d scope) s x (tables st ct nd) (tables st₁ ct₄ nd₂) r
@@ -197,8 +209,9 @@ module _ (s d scope : List ℕ) (e : Environment) (known : e .relations ≡ rela
               let first : ct₁ ≡ sets ct (x .after .contexts * contextRowNumbers) own = rw y at (w .contexts-filled) ∙ rw known in
               let row : q .contexts * contextRowNumbers ≡ x .after .contexts * contextRowNumbers + length own =
               omega (arith, o .declared, stream-rows (e .relations) ss (x .after .at + 2) 0 0) in
-              let part = clauses-part s octets e (underStreams (e .relations) (scopeOf d scope) ss) l q (here .inside) (here .short)
-              (omega (arith, here .conditions-few, here .statements-few)) (rw below at v) i i₁ i₂ in
+              let same : q .statements ≡ x .after .statements = omega (arith, o .counted) in
+              let part = clauses-part s octets e (underStreams (e .relations) (scopeOf d scope) ss) l q {st = st} (here .inside) (here .short)
+              (here .statements-few) (head-given .1) (rw below at v) i i₁ i₂ (i₃ ∙ rw same) in
               let last = clauses-given here e (scopeOf d scope′) l (head-given .1) v i i₁ in
               for-made s octets e (scopeOf d scope) l x (g .here) is-for y part (rw below at v₁) (λ t q₃ z re te.
               let m = statement-sound s octets e l (underStreams (e .relations) (scopeOf d scope) ss) q₂ t q₃ z .went in
@@ -209,13 +222,14 @@ module _ (s d scope : List ℕ) (e : Environment) (known : e .relations ≡ rela
               (omega (arith, inside m (last .inside), here .short)) (here .contexts-few) (e .relations) ss
               (x .after .at + 2) (o .declared)))
 
-      pub for-read : {nd nd₁ : List ℕ} {f₁ : Fit} {q₁ q₂ : Cursor} → cs .step ≡ Step.Next f₁ q₁ → q₂ ≡ numbered q₁ (cs .such) →
-          nd₁ ≡ withPlace nd q₁ (cs .such) →
-          HeadingRead l e s d x ct ct₂ nd nd₁ scope scope′ (record { opened = Step.Next f q; ready = Step.Next Fit.NoKind q₂ })
-      for-read i i₁ i₂ = headed-goes l e s d x refl (record {
+      pub for-read : {st st₀ nd nd₁ : List ℕ} {f₁ : Fit} {q₁ q₂ : Cursor} → cs .step ≡ Step.Next f₁ q₁ → q₂ ≡ numbered q₁ (cs .such) →
+          nd₁ ≡ withPlace nd q₁ (cs .such) → st₀ ≡ withNumber st (x .after .statements - 1) q₁ (cs .such) →
+          HeadingRead l e s d x (tables st ct nd) (tables st₀ ct₂ nd₁) scope scope′
+          (record { opened = Step.Next f q; ready = Step.Next Fit.NoKind q₂ })
+      for-read i i₁ i₂ i₃ = headed-goes l e s d x refl (record {
         fit = f;
         first = q;
         begins = refl;
         given = clauses-given (head-given .0) e (scopeOf d scope′) l (head-given .1) v i i₁;
-        whole = λ v₁ ce. for-wrote i i₁ i₂ v₁ ce;
+        whole = λ v₁ ce. for-wrote i i₁ i₂ i₃ v₁ ce;
       })

@@ -21,7 +21,7 @@ use Rattle.grammar.specs.Tree as Tree
 use Rattle.grammar.specs.Tree.{Heading, loop, handler, Statement, headed}
 use Rattle.grammar.specs.Bytes.{headingBytes, statementBytes}
 use Rattle.grammar.specs.Environment.{Environment, Scope, underHeading}
-use Rattle.grammar.specs.Sizes.{headingContexts}
+use Rattle.grammar.specs.Sizes.{headingContexts, ownConditions}
 use Rattle.grammar.specs.Rows.{size, headingRows, rowsBelow, contextRows}
 use Rattle.grammar.specs.Conditions.{conditions}
 use Rattle.grammar.specs.Reader.{Read, read, refused, Reader}
@@ -36,7 +36,7 @@ use Rattle.scopes.specs.Scopes.{scopeOf}
 use Rattle.tables.specs.Tables.{Tables, tables, laid, openRow}
 use Rattle.tables.specs.Written.{closedAfter}
 use Rattle.tables.proofs.Closed.{heading-closed}
-use Rattle.tables.proofs.Chains.{by-read, stop, fill}
+use Rattle.tables.proofs.Chains.{by-read}
 use Rattle.openings.specs.declared.heads.Coded.{Coded}
 use Rattle.openings.specs.Streams.{relations}
 use Rattle.openings.specs.Openings.{OpensHeading, openingReader, plainReader}
@@ -45,7 +45,7 @@ use Rattle.reader.specs.declared.statements.Level.{Level}
 use Rattle.reader.specs.Given.{Given, Inside, Below, opensScope, hasHeading}
 use Rattle.reader.specs.Readers.{levelUnder, innerAt, statementTables, StatementRead, CodedRead, OpenedRead, HeadingRead}
 use Rattle.reader.proofs.Matches.{tested}
-use Rattle.reader.proofs.Parts.{rows-after}
+use Rattle.reader.proofs.Parts.{rows-after, under-stop, under-fill}
 use Rattle.reader.proofs.Ready.{fine-of, fine-went, given-at, given-opened}
 
 -- ---- the codes with a heading
@@ -123,23 +123,23 @@ module _ (s : List ℕ) (octets : Octets s) (e : Environment) (sc : Scope) (leve
         ct₂ ≡ sets ct₁ (q .contexts * contextRowNumbers) (contextRows (e .relations) below t (q .at)) →
         ct₃ ≡ sets ct (x .after .contexts * contextRowNumbers) (rows t q₁)) →
         CodedRead (level .left) e sc s x (tables st ct nd) (tables st₁ ct₃ nd₁) r
-    unfolding headedUnder rowsBelow contextRows conditions statementBytes
+    unfolding headedUnder rowsBelow contextRows conditions statementBytes ownConditions
     headed-wrote {st} {ct} {nd} {ct₁} {st₁} {ct₂} {nd₁} {ct₃} {r} w closing = by-read (readStatement (level .left) e below s q)
         (λ t q₁ y.
         let o = k .sound h q i in
         let m = statement-sound s octets e (level .left) below q t q₁ y .went in
         let re : r ≡ Step.Next Fit.NoKind q₁ = w .answer ∙ rw y in
         let te : tables st₁ ct₂ nd₁ ≡ laid (tables st ct₁ nd) q
-        (statementTables (e .relations) below t (q .at) (q .statements) (level .parent)) =
+        (statementTables (e .relations) below t (q .at) (q .statements) (level .parent) (q .conditions)) =
         rw y at (w .filled) in
         let there : q .at ≡ x .at + length (headingBytes h) = omega (arith, o .went .place, ap length (o .starts)) in
         let beyond : q₁ .at ≡ x .at + size (headed h t) = simp length-append (omega (arith, m .place, there)) in
         let same₁ : q .statements ≡ x .after .statements = omega (arith, o .went .counted) in
         let same₂ : q .conditions ≡ x .after .conditions = omega (arith, o .went .noted) in
         let shut = closing t q₁ y re (ap (λ (z : Tables). z .contexts) te) in
-        rw re (fill {a = headed h t} (k .under ∙ rw (headedUnder, i, y)) refl
+        rw re (under-fill {a = headed h t} (k .under ∙ rw (headedUnder, i, y)) refl
         (rw (ap (λ (z : Tables). z .statements) te, shut, ap (λ (z : Tables). z .conditions) te, same₁, same₂, parent, beyond, there))))
-        (λ n p y. let re : r ≡ Step.Refused n p = w .answer ∙ rw y in rw re (stop (k .under ∙ rw (headedUnder, i, y))))
+        (λ n p y. let re : r ≡ Step.Refused n p = w .answer ∙ rw y in rw re (under-stop (k .under ∙ rw (headedUnder, i, y))))
 
 -- one that opens no scope
 module _ (s : List ℕ) (octets : Octets s) (e : Environment) (sc : Scope) (level : Level) (x : Coded) (here : x .after .at ≡ x .at + 1)
@@ -152,7 +152,7 @@ module _ (s : List ℕ) (octets : Octets s) (e : Environment) (sc : Scope) (leve
   known = headed-at s octets e sc (level .left) (x .at) (x .after) (x .code) has no-for
 
   pub plain-stopped : {n : Refusal} {i : ℕ} {t t₁ : Tables} → a ≡ Step.Refused n i → CodedRead (level .left) e sc s x t t₁ a
-  plain-stopped j = rw j (stop (heading-refused s octets e sc level x here parent known
+  plain-stopped j = rw j (under-stop (heading-refused s octets e sc level x here parent known
       (rw none (step-refused noKind (plainReader e sc (x .at) (x .code) s (x .after)) (sym j ∙ u)))))
 
   module _ {f : Fit} {q : Cursor} (j : a ≡ Step.Next f q) where
@@ -193,22 +193,22 @@ next-at : {f₁ f₂ : Fit} {q₁ q₂ : Cursor} → Step.Next f₁ q₁ ≡ Ste
 next-at i = cc
 
 -- what stands before the statement was refused, or read
-module _ (l : ℕ) (e : Environment) (s d : List ℕ) (x : Coded) {ct ct₁ nd nd₁ scope scope′ : List ℕ} {b : Headed} where
+module _ (l : ℕ) (e : Environment) (s d : List ℕ) (x : Coded) {t t₁ : Tables} {scope scope′ : List ℕ} {b : Headed} where
   pub headed-refused : {n : Refusal} {p : ℕ} → b .ready ≡ Step.Refused n p →
       statementUnder (innerAt l e) e (scopeOf d scope) (x .at) (x .code) s (x .after) ≡ refused n p →
-      HeadingRead l e s d x ct ct₁ nd nd₁ scope scope′ b
+      HeadingRead l e s d x t t₁ scope scope′ b
   headed-refused j u = record { refuses = λ k. let same′ = sym j ∙ k in cc; goes = λ k. let other = sym j ∙ k in absurd-eq (cc) }
 
   pub headed-goes : {f : Fit} {q : Cursor} → b .ready ≡ Step.Next f q →
-      OpenedRead l e s d x ct ct₁ nd nd₁ scope scope′ (b .opened) q → HeadingRead l e s d x ct ct₁ nd nd₁ scope scope′ b
+      OpenedRead l e s d x t t₁ scope scope′ (b .opened) q → HeadingRead l e s d x t t₁ scope scope′ b
   headed-goes j o = record { refuses = λ k. let other = sym j ∙ k in absurd-eq (cc); goes = λ k. rw (next-at (sym j ∙ k)) at o }
 
 -- the statement after it
-module _ (level : Level) {e : Environment} {s d : List ℕ} {x : Coded} {ct ct₁ nd nd₁ scope scope′ : List ℕ} {b : Headed}
-    (g : Below s d scope x level) (w : HeadingRead (level .left) e s d x ct ct₁ nd nd₁ scope scope′ b) where
-  pub opened-stopped : {n : Refusal} {p : ℕ} {t t₁ : Tables} → b .ready ≡ Step.Refused n p →
-      CodedRead (level .left) e (scopeOf d scope) s x t t₁ (b .ready)
-  opened-stopped j = rw j (stop (w .refuses j))
+module _ (level : Level) {e : Environment} {s d : List ℕ} {x : Coded} {t t₁ : Tables} {scope scope′ : List ℕ} {b : Headed}
+    (g : Below s d scope x level) (w : HeadingRead (level .left) e s d x t t₁ scope scope′ b) where
+  pub opened-stopped : {n : Refusal} {p : ℕ} {t₂ t₃ : Tables} → b .ready ≡ Step.Refused n p →
+      CodedRead (level .left) e (scopeOf d scope) s x t₂ t₃ (b .ready)
+  opened-stopped j = rw j (under-stop (w .refuses j))
 
   pub opened-begins : {f : Fit} {q : Cursor} {n : Refusal} {p : ℕ} {A : Type 0} → b .ready ≡ Step.Next f q →
       b .opened ≡ Step.Refused n p → A
@@ -217,11 +217,11 @@ module _ (level : Level) {e : Environment} {s d : List ℕ} {x : Coded} {ct ct�
   pub opened-given : {f : Fit} {q : Cursor} → b .ready ≡ Step.Next f q → Given s d scope′ q (level .left) × (level .parent ≤ maxStatements)
   opened-given j = (w .goes j .given, omega (arith, g .parent, g .inside .given .statements-few))
 
-  pub opened-wrote : {f f₁ : Fit} {q first : Cursor} {st st₁ ct₂ nd₂ ct₃ : List ℕ} {r : Step} →
+  pub opened-wrote : {f f₁ : Fit} {q first : Cursor} {st₁ ct₂ nd₂ ct₃ : List ℕ} {r : Step} →
       b .ready ≡ Step.Next f q → b .opened ≡ Step.Next f₁ first →
-      StatementRead level e (scopeOf d scope′) s q (tables st ct₁ nd₁) (tables st₁ ct₂ nd₂) r →
+      StatementRead level e (scopeOf d scope′) s q t₁ (tables st₁ ct₂ nd₂) r →
       ct₃ ≡ closedAfter ct₂ (x .after .contexts) first r →
-      CodedRead (level .left) e (scopeOf d scope) s x (tables st ct nd) (tables st₁ ct₃ nd₂) r
+      CodedRead (level .left) e (scopeOf d scope) s x t (tables st₁ ct₃ nd₂) r
   opened-wrote j k v ce = w .goes j .whole (rw (g .parent) at v) (ce ∙ rw (next-at (sym k ∙ w .goes j .begins)))
 
 -- a heading
@@ -283,7 +283,8 @@ module _ (s d scope : List ℕ) (e : Environment) (known : e .relations ≡ rela
             (omega (arith, inside m (fine .inside), fine .short)) (fine .contexts-few) (e .relations) (scopeOf d scope) h (x .at) there
             (o .went .declared)))
 
-  pub opening-read : {nd : List ℕ} → HeadingRead l e s d x ct ct₁ nd nd scope scope′ (record { opened = a; ready = a })
+  pub opening-read : {st nd : List ℕ} →
+      HeadingRead l e s d x (tables st ct nd) (tables st ct₁ nd) scope scope′ (record { opened = a; ready = a })
   opening-read = record {
     refuses = λ j. opening-refused j;
     goes = λ {f} {q} j. record {

@@ -1,25 +1,31 @@
 -- Parts one after another: the rows of each stand after those of the parts before it.
-use Prim.Native.Nat.{ℕ, _+_, _*_, _≤_}
+use Prim.Native.Nat.{ℕ, _+_, _-_, _*_, _<_, _≤_}
 use mathlib.Core.Path.{_≡_, refl, sym, ap, ap₂, _∙_}
 use mathlib.Core.List.{List, [], _++_}
 use native.Mathlib.Omega.{arith}
 use lib.ListN.{length, length-append}
 use lib.Seq.{sets}
-use Rattle.wire.specs.Limits.{maxRequestBytes}
+use Rattle.wire.specs.Limits.{maxRequestBytes, maxStatements, statementRowNumbers, contextRowNumbers}
+use Rattle.wire.specs.Internal.Columns.{statementBoolean}
 use Rattle.grammar.specs.declared.Cursor.{Cursor}
 use Rattle.grammar.specs.declared.Fit.{Fit}
+use Rattle.grammar.specs.declared.Fit.the-variants as Fit
 use Rattle.grammar.specs.declared.Refusal.{Refusal}
 use Rattle.grammar.specs.declared.Step.{Step}
 use Rattle.grammar.specs.declared.Step.the-variants as Step
+use Rattle.grammar.specs.Tree.{Statement}
+use Rattle.grammar.specs.Sizes.{ownConditions}
+use Rattle.grammar.specs.Rows.{booleanNumber}
 use Rattle.grammar.specs.Reader.{Read, read, refused, onRead, withConditions}
 use Rattle.grammar.specs.Internal.Steps.{noKind}
 use Rattle.grammar.proofs.Went.{Went}
 use Rattle.tables.specs.Tables.{Tables, tables, contextsAlone, nothing, joined, laid, Wrote}
-use Rattle.tables.specs.Written.{listed, numbered, withPlace}
+use Rattle.tables.specs.Written.{listed, numbered, withPlace, withNumber}
 use Rattle.tables.proofs.Stores.{sets-append}
 use Rattle.tables.proofs.Laid.{Follows, laid-laid}
-use Rattle.tables.proofs.Rows.{numbered-is, place-noted}
-use Rattle.tables.proofs.Chains.{by-read, stop, on-next, stopped}
+use Rattle.tables.proofs.Rows.{numbered-is, place-noted, number-noted}
+use Rattle.tables.proofs.Chains.{by-read, stop, fill, on-next, stopped}
+use Rattle.reader.specs.Readers.{Under}
 
 -- tables of the same lengths
 pub record SameLengths (t t′ : Tables) : Type 0 where
@@ -94,24 +100,27 @@ beside {x} st nd w = by-read x
     (λ a q e. record { answer = w .answer; filled = rw e (ap (λ (t : Tables). tables st (t .contexts) nd) (rw e at (w .filled))) })
     (λ n p e. record { answer = w .answer; filled = rw e })
 
--- a part with conditions, which get their numbers after it
-pub record Noted {A : Type 0} (x : Read A) (bytes : A → List ℕ) (contexts places : A → List ℕ) (c : Cursor) (t t′ : Tables) (q : Cursor) : Type 0 where
+-- a part with conditions, which get their numbers after it; st is the statements' table before
+pub record Noted {A : Type 0} (x : Read A) (bytes : A → List ℕ) (contexts places : A → List ℕ) (c : Cursor) (st : List ℕ) (t t′ : Tables)
+    (q : Cursor) : Type 0 where
   pub part : A
   pub last : Cursor
   pub is : x ≡ read part last
   pub number : q ≡ withConditions last (length (places part))
   pub place : q .at ≡ c .at + length (bytes part)
   pub counted : q .statements ≡ c .statements
+  pub own : t .statements ≡ sets st ((c .statements - 1) * statementRowNumbers + statementBoolean)
+      (listed (booleanNumber (length (places part)) (c .conditions)))
   pub reached : Reached c q (tables [] (contexts part) (places part)) t t′
 
 -- a place, or none, is noted after a part
-pub noted-part : {A : Type 0} {x : Read A} {bytes contexts places : A → List ℕ} {s : List ℕ} {c q q₁ : Cursor} {st ct nd ct₁ nd₁ : List ℕ} {r : Step}
-    {f : Fit} (many : A → ℕ) (p : ℕ) → ((a : A) → x ≡ read a q → Went s c (bytes a) 0 (many a) 0 q) → ((a : A) → length (contexts a) ≡ many a * 5) →
+pub noted-part : {A : Type 0} {x : Read A} {bytes contexts places : A → List ℕ} {s : List ℕ} {c q q₁ : Cursor} {st st₁ ct nd ct₁ nd₁ : List ℕ} {r : Step}
+    {f : Fit} (many : A → ℕ) (p : ℕ) → ((a : A) → x ≡ read a q → Went s c (bytes a) 0 (many a) 0 q) → ((a : A) → length (contexts a) ≡ many a * contextRowNumbers) →
     ((a : A) → x ≡ read a q → listed p ≡ places a) →
     Wrote x noKind c (λ a. contextsAlone (contexts a)) (contextsAlone ct) (contextsAlone ct₁) r → r ≡ Step.Next f q →
-    c .conditions ≤ maxRequestBytes → p ≤ maxRequestBytes → q₁ ≡ numbered q p → nd₁ ≡ withPlace nd q p →
-    Noted x bytes contexts places c (tables st ct nd) (tables st ct₁ nd₁) q₁
-noted-part {places} {c} {q} {q₁} {st} {ct} {nd} {ct₁} {nd₁} many p went counted listing w e few short i j = on-next w e (λ a h k o.
+    c .statements ≤ maxStatements → c .conditions < c .statements → p ≤ maxRequestBytes → q₁ ≡ numbered q p → nd₁ ≡ withPlace nd q p →
+    st₁ ≡ withNumber st (c .statements - 1) q p → Noted x bytes contexts places c st (tables st₁ ct nd) (tables st₁ ct₁ nd₁) q₁
+noted-part {places} {c} {q} {q₁} {st} {ct} {nd} {ct₁} {nd₁} many p went counted listing w e rows few short i j m = on-next w e (λ a h k o.
     let g = went a h in
     let same : q .conditions ≡ c .conditions = omega (arith, g .noted) in
     let small : q .conditions ≤ maxRequestBytes = omega (arith, same) in
@@ -124,6 +133,7 @@ noted-part {places} {c} {q} {q₁} {st} {ct} {nd} {ct₁} {nd₁} many p went co
       number = number;
       place = ap (λ (z : Cursor). z .at) number ∙ g .place;
       counted = ap (λ (z : Cursor). z .statements) number ∙ omega (arith, g .counted);
+      own = m ∙ number-noted q small st (c .statements - 1) p (omega arith) (omega (arith, same)) ∙ rw (same, listing a h);
       reached = record {
         filled = rw (noted, ap (λ (t : Tables). t .contexts) o);
         follows = record {
@@ -133,3 +143,27 @@ noted-part {places} {c} {q} {q₁} {st} {ct} {nd} {ct₁} {nd₁} many p went co
         };
       };
     })
+
+-- ---- a statement under its code
+
+module _ {x : Read Statement} {c : Cursor} {rows : Statement → Tables} {t t′ : Tables} where
+  -- it was refused
+  pub under-stop : {n : Refusal} {p : ℕ} → x ≡ refused n p → Under x c rows t t′ (Step.Refused n p)
+  under-stop e = record { numbered = t .statements; number = rw e; wrote = stop e }
+
+  pub under-stopped : {t₀ : Tables} {r : Step} {n : Refusal} {p : ℕ} → Wrote x noKind c rows t₀ t′ r → r ≡ Step.Refused n p →
+      Under x c rows t t′ r
+  under-stopped w e = rw e (under-stop (stopped w e))
+
+  -- it has no boolean of its own
+  pub unnumbered : {r : Step} → ((a : Statement) (q : Cursor) → x ≡ read a q → ownConditions a ≡ 0) → Wrote x noKind c rows t t′ r →
+      Under x c rows t t′ r
+  unnumbered h w = record {
+    numbered = t .statements;
+    number = by-read x (λ a q e. rw (e, h a q e)) (λ n p e. rw e);
+    wrote = w;
+  }
+
+  pub under-fill : {a : Statement} {q : Cursor} → x ≡ read a q → ownConditions a ≡ 0 → t′ ≡ laid t c (rows a) →
+      Under x c rows t t′ (Step.Next Fit.NoKind q)
+  under-fill e h g = record { numbered = t .statements; number = rw (e, h); wrote = fill e refl g }

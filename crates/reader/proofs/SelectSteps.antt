@@ -27,7 +27,7 @@ use Rattle.grammar.specs.Tree.{Statement, Receives, last, more}
 use Rattle.grammar.specs.Environment.{Environment, Scope}
 use Rattle.grammar.specs.Scope.{declared, updating}
 use Rattle.grammar.specs.Bytes.{statementBytes}
-use Rattle.grammar.specs.Sizes.{statementCount, contextCount}
+use Rattle.grammar.specs.Sizes.{statementCount, contextCount, conditionCount}
 use Rattle.grammar.specs.Rows.{size, statementRows, receivesRows, receivesContextRows}
 use Rattle.grammar.specs.Conditions.{conditions, receivesConditions}
 use Rattle.grammar.specs.Reader.{Read, read, refused, onRead, Reader, byte, peek, code, countStatement, withStatement}
@@ -36,12 +36,13 @@ use Rattle.grammar.specs.Internal.Steps.{messageStep}
 use Rattle.grammar.specs.Demands.{Octets}
 use Rattle.grammar.proofs.StepLaws.{message-read, message-refused}
 use Rattle.grammar.proofs.RowCounts.{statement-rows, context-rows}
+use Rattle.grammar.proofs.FewConditions.{conditions-count}
 use Rattle.grammar.proofs.Went.{Went, inside, taken-read, onward, undo, needed, tested-read, byte-went, code-went, counted-went}
 use Rattle.grammar.proofs.SoundStatements.{statement-sound}
 use Rattle.tables.specs.Tables.{Tables, tables}
-use Rattle.tables.specs.Written.{finished}
-use Rattle.tables.proofs.Laid.{row-over}
-use Rattle.tables.proofs.Rows.{finished-next}
+use Rattle.tables.specs.Written.{withBoolean, finished}
+use Rattle.tables.proofs.Laid.{row-whole}
+use Rattle.tables.proofs.Rows.{boolean-row, finished-next}
 use Rattle.tables.proofs.Chains.{by-read, stop, fill, likewise}
 use Rattle.openings.specs.declared.heads.Ending.{Ending}
 use Rattle.openings.specs.declared.heads.Ending.the-variants as Ending
@@ -255,12 +256,13 @@ module _ (s : List ℕ) (e : Environment) (sc : Scope) (level : Level) (ms : Lis
       body-went = statement-sound s octets e (level .left - 1) sc q (v .part) q₁ (v .is) .went
 
       -- its row stands above those of its statement
-      pub receive-reached : {d scope : List ℕ} {a : Step} {st₂ : List ℕ} → Given s d scope c (level .left) → Given s d scope q₁
+      pub receive-reached : {d scope : List ℕ} {a : Step} {st₀ st₂ : List ℕ} → Given s d scope c (level .left) → Given s d scope q₁
           (level .left) →
-          level .parent ≤ maxStatements → a ≡ Step.Next f q₁ → st₂ ≡ finished s st₁ c (level .parent) a →
-          Reached c q₁ (receivesTables e sc (level .parent) c (last (m .0) (v .part))) (tables st ct nd) (tables st₂ ct₁ nd₁)
+          level .parent ≤ maxStatements → st ≡ withBoolean st₀ (c .statements) 0 → a ≡ Step.Next f q₁ →
+          st₂ ≡ finished s st₁ c (level .parent) a →
+          Reached c q₁ (receivesTables e sc (level .parent) c (last (m .0) (v .part))) (tables st₀ ct nd) (tables st₂ ct₁ nd₁)
       unfolding receivesRows receivesContextRows receivesConditions
-      receive-reached {st₂} g g₁ few j se =
+      receive-reached {st₀} {st₂} g g₁ few ze j se =
           let w = receive-way .went in
           let o = body-went in
           let te = v .reached .filled in
@@ -269,14 +271,17 @@ module _ (s : List ℕ) (e : Environment) (sc : Scope) (level : Level) (ms : Lis
           let held : q .contexts ≡ c .contexts = omega (arith, w .declared) in
           let marks : q .conditions ≡ c .conditions = omega (arith, w .noted) in
           let end : q₁ .at ≡ c .at + 2 + size (v .part) = omega (arith, o .place) in
-          let row : st₂ ≡ sets st (c .statements * 4) (receivesRows (last (m .0) (v .part)) (c .at) (c .statements) (level .parent)) =
+          let none : st ≡ set st₀ (c .statements * 5 + 4) 0 = ze ∙ boolean-row st₀ (c .statements) 0 (g .statements-few) (omega arith) in
+          let row : st₂ ≡ sets st₀ (c .statements * 5)
+          (receivesRows (last (m .0) (v .part)) (c .at) (c .statements) (level .parent) (c .conditions)) =
           se ∙ rw j (finished-next s st₁ c (level .parent) f q₁ (g .statements-few) (omega (arith, g .inside, g .short)) few
           (omega (arith, g₁ .inside, g .short)))
-          ∙ ap (λ z. sets z (c .statements * 4) (c .at ∷ byteAt s (c .at) ∷ level .parent ∷ q₁ .at ∷ []))
-          (ap (λ (z : Tables). z .statements) te)
-          ∙ row-over st (statementRows (v .part) (q .at) (q .statements) (q .statements)) (c .statements * 4) (q .statements * 4) (c .at)
-          (byteAt s (c .at)) (level .parent) (q₁ .at) (omega (arith, counts))
-          ∙ rw (receive-way .first, end, there, counts) in
+          ∙ ap (λ z. sets z (c .statements * 5) (c .at ∷ byteAt s (c .at) ∷ level .parent ∷ q₁ .at ∷ []))
+          (ap (λ (z : Tables). z .statements) te ∙
+          ap (λ z. sets z (q .statements * 5) (statementRows (v .part) (q .at) (q .statements) (q .statements) (q .conditions))) none)
+          ∙ row-whole st₀ (statementRows (v .part) (q .at) (q .statements) (q .statements) (q .conditions)) (c .statements * 5)
+          (q .statements * 5) 0 (c .at) (byteAt s (c .at)) (level .parent) (q₁ .at) (omega (arith, counts))
+          ∙ rw (receive-way .first, end, there, counts, marks) in
           record {
             filled = rw (row, ap (λ (z : Tables). z .contexts) te, ap (λ (z : Tables). z .conditions) te, held, marks, there);
             follows = record {
@@ -285,7 +290,7 @@ module _ (s : List ℕ) (e : Environment) (sc : Scope) (level : Level) (ms : Lis
                 w .counted,
                 o .counted,
                 statement-rows (v .part) (c .at + 2) (c .statements + 1)
-                    (c .statements + 1),
+                    (c .statements + 1) (c .conditions),
               );
               contexts = omega (arith, w .declared, o .declared, context-rows (e .relations) sc (v .part) (c .at + 2));
               conditions = omega (
@@ -320,8 +325,10 @@ module _ (s : List ℕ) (e : Environment) (sc : Scope) (level : Level) (ms : Lis
             let w = receive-way .went in
             let there : q₁ .at ≡ c .at + 2 + size (v .part) = omega (arith, w .place, body-went .place) in
             let counts : q₁ .statements ≡ c .statements + 1 + statementCount (v .part) = omega (arith, w .counted, body-went .counted) in
+            let marks : q₁ .conditions ≡ c .conditions + conditionCount (v .part) =
+            omega (arith, w .noted, body-went .noted, conditions-count (e .relations) sc (v .part) (q .at)) in
             likewise (whole some ∙ rw (receiveRest, v .is, y .seen, y .no-end)) (made-of (λ rs. more (m .0) (v .part) rs) reached
-            (λ rs q₂ i₂. rw (there, counts, map-append (λ x. x .place) (conditions (e .relations) sc (v .part) (c .at + 2)) _)) w₂)
+            (λ rs q₂ i₂. rw (there, counts, marks, map-append (λ x. x .place) (conditions (e .relations) sc (v .part) (c .at + 2)) _)) w₂)
 
 -- no receive is left
 pub receives-full : (s : List ℕ) (e : Environment) (sc : Scope) (level : Level) (n : ℕ) (ms : List ℕ) (c : Cursor) {t t′ : Tables} → n ≡ 0 →
@@ -362,21 +369,22 @@ module _ {s d scope : List ℕ} {e : Environment} {sc : Scope} {level : Level} {
       turn-given = receive-given s e sc level (inv .before) at told i (inv .given)
 
       module _ (some : 0 < left) {inner : Level} (ie : inner ≡ levelBelow q level) {st₁ ct₁ nd₁ : List ℕ} {a : Step}
-          (w : StatementRead inner e sc s q (tables st ct nd) (tables st₁ ct₁ nd₁) a) where
+          {st₀ : List ℕ} (ze : st₀ ≡ withBoolean st (at .statements) 0)
+          (w : StatementRead inner e sc s q (tables st₀ ct nd) (tables st₁ ct₁ nd₁) a) where
         pub turn-stopped : {r : Refusal} {p : ℕ} {t′ : Tables} → a ≡ Step.Refused r p → SelectRead level e sc s c t t′ a
         turn-stopped j = inv .rest (receive-stopped s e sc level (inv .before) at told i ie w some j)
 
         module _ {st₂ : List ℕ} (few : level .parent ≤ maxStatements)
             (se : st₂ ≡ finished s st₁ at (level .parent) a) {f : Fit} {q₁ : Cursor}
             (j : a ≡ Step.Next f q₁) {h : Ending} (z : h ≡ endingOf (peek s q₁)) where
-          abbrev body : StatementPart s e sc (levelBelow q level) q (tables st ct nd) (tables st₁ ct₁ nd₁) f q₁
+          abbrev body : StatementPart s e sc (levelBelow q level) q (tables st₀ ct nd) (tables st₁ ct₁ nd₁) f q₁
           body = receive-body s e sc level (inv .before) at told i ie w (inv .given .octets) j
 
           next-given : Given s d scope q₁ (level .left)
           next-given = after-given s e sc level (inv .before) at told i ie w (inv .given) j
 
           reached : Reached at q₁ (receivesTables e sc (level .parent) at (last (m .0) (body .part))) (tables st ct nd) (tables st₂ ct₁ nd₁)
-          reached = receive-reached s e sc level (inv .before) at told i (inv .given .octets) body (inv .given) next-given few j se
+          reached = receive-reached s e sc level (inv .before) at told i (inv .given .octets) body (inv .given) next-given few ze j se
 
           pub turn-cut : {r : Refusal} {p : ℕ} {t′ : Tables} → h ≡ Ending.Refused r p → SelectRead level e sc s c t t′ (Step.Refused r p)
           turn-cut k = inv .rest (receives-cut s e sc level (inv .before) at told i (inv .given .octets) body reached some z k)

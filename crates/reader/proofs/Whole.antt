@@ -33,8 +33,9 @@ use Rattle.messages.specs.Entries.{rowsHeld}
 use Rattle.messages.specs.Declaring.{Declares}
 use Rattle.references.specs.Promises.{environmentOf}
 use Rattle.tables.specs.Tables.{Tables, tables, laid, Wrote}
-use Rattle.tables.proofs.Laid.{row-over}
-use Rattle.tables.proofs.Rows.{statement-row}
+use Rattle.tables.proofs.Laid.{row-whole}
+use Rattle.tables.specs.Written.{withBoolean}
+use Rattle.tables.proofs.Rows.{statement-row, boolean-row}
 use Rattle.tables.proofs.Chains.{by-read}
 use Rattle.openings.specs.Streams.{relations}
 use Rattle.reader.specs.declared.request.Whole.{Whole}
@@ -90,10 +91,12 @@ module _ (s d pt : List ℕ) (c : Cursor) (begun : Begun s d pt c) where
           omega (arith, inside w within, begun .beside .short)
 
       -- the rows of the statements, then that of the outer begin
-      rows-whole : (t t₁ : Tables) → t₁ ≡ laid t c₁ (statementsTables (around ms) outermost 1 c₁ ss) →
-          tables (outerRow (t₁ .statements) (Step.Next Fit.NoKind c₂)) (t₁ .contexts) (t₁ .conditions) ≡ over t (requestTables d whole)
+      rows-whole : (st st₀ ct nd : List ℕ) (t₁ : Tables) → st₀ ≡ withBoolean st 0 0 →
+          t₁ ≡ laid (tables st₀ ct nd) c₁ (statementsTables (around ms) outermost 1 c₁ ss) →
+          tables (outerRow (t₁ .statements) (Step.Next Fit.NoKind c₂)) (t₁ .contexts) (t₁ .conditions) ≡
+          over (tables st ct nd) (requestTables d whole)
       unfolding requestStatementRows requestContextRows requestConditions
-      rows-whole t t₁ h =
+      rows-whole st st₀ ct nd t₁ h₀ h =
           let w = after-messages in
           let n : c₁ .statements ≡ 1 = omega (arith, w .counted, begun .statements) in
           let k : c₁ .contexts ≡ 0 = omega (arith, w .declared, begun .contexts) in
@@ -102,12 +105,14 @@ module _ (s d pt : List ℕ) (c : Cursor) (begun : Begun s d pt c) where
           rw (
             row,
             h,
+            h₀,
+            boolean-row st 0 0 (omega arith) (omega arith),
             n,
             k,
             q,
             starts,
             ends,
-            row-over (t .statements) (statementsRows ss (statementsStart whole) 1 1) 0 4 1 blr.begin 0 (outerEnd whole) refl,
+            row-whole st (statementsRows ss (statementsStart whole) 1 1 0) 0 5 0 1 blr.begin 0 (outerEnd whole) refl,
           )
 
   -- ---- the whole, from the answers of the parts
@@ -141,17 +146,18 @@ module _ (s d pt : List ℕ) (c : Cursor) (begun : Begun s d pt c) where
             labels-fit = omega (arith, no-labels);
           }
 
-      module _ (t t₁ : Tables) (r : Step) (w : StatementsRead outer (environmentOf d a) (scopeOf d zeros) s c₁ t t₁ r) where
+      module _ (st st₀ ct nd : List ℕ) (t₁ : Tables) (r : Step) (h₀ : st₀ ≡ withBoolean st 0 0)
+          (w : StatementsRead outer (environmentOf d a) (scopeOf d zeros) s c₁ (tables st₀ ct nd) t₁ r) where
         abbrev Goal : Type 0
         Goal =
-            Requested (bodyOf (relations d) s c) d pt pt₁ t (tables (outerRow (t₁ .statements) r) (t₁ .contexts) (t₁ .conditions))
+            Requested (bodyOf (relations d) s c) d pt pt₁ (tables st ct nd) (tables (outerRow (t₁ .statements) r) (t₁ .contexts) (t₁ .conditions))
             (record { step = onStep r (λ f q. stepOf noKind (endOf s q)); parameters = rowsHeld a })
 
         -- the statements were read beside the messages
         by-messages : (ms : List Message) → declared ≡ read ms c₁ → Goal
         unfolding bodyOf environmentOf outerStatements
         by-messages ms i =
-            let known : Wrote (outerStatements (relations d) ms s c₁) noKind c₁ (statementsTables (around ms) outermost 1 c₁) t t₁ r =
+            let known : Wrote (outerStatements (relations d) ms s c₁) noKind c₁ (statementsTables (around ms) outermost 1 c₁) (tables st₀ ct nd) t₁ r =
             rw (rw i at (h .held), nothing-held d) at w in
             by-read (outerStatements (relations d) ms s c₁)
             (λ ss c₂ j.
@@ -164,7 +170,7 @@ module _ (s d pt : List ℕ) (c : Cursor) (begun : Begun s d pt c) where
               answer-is = rw (b, u, k);
               rows-are = rw (b, rw i at (h .rows));
               parameters-filled = rw (b, rw i at (h .filled));
-              filled = rw (b, u) (rows-whole ms c₁ i ss c₂ j t t₁ v);
+              filled = rw (b, u) (rows-whole ms c₁ i ss c₂ j st st₀ ct nd t₁ h₀ v);
             })
             (λ n p k. whole-refused n p (rw (bodyOf, i, j, k)) (rw (u, k))))
             (λ n p j. let u : r ≡ Step.Refused n p = rw j at (known .answer) in whole-refused n p (rw (bodyOf, i, j)) (rw u))

@@ -18,6 +18,7 @@ use messages::declared::row_count;
 use messages::reading::read_messages;
 use scopes::scope::SCOPE;
 use steps::due_code;
+use tables::statements::put_boolean;
 use tables::statements::put_statement;
 use wire::blr::BEGIN;
 use wire::blr::EOC;
@@ -117,6 +118,7 @@ fn body(
         left: MAX_DEPTH - 1,
         parent: 1,
     };
+    put_boolean(statements, 0, 0);
     let ended = read_statements(
         request,
         dictionary,

@@ -35,6 +35,7 @@ use scopes::scope::SCOPE;
 use tables::conditions::note;
 use tables::contexts::close;
 use tables::statements::finish;
+use tables::statements::put_boolean;
 use wire::codes::StatementCode;
 use wire::limits::MAX_STATEMENTS;
 
@@ -127,6 +128,7 @@ fn read_statement(
 {
     match statement_at(request, c, level.left) {
         StatementHead::Is(x) => {
+            put_boolean(statements, c.statements, 0);
             let r = read_coded(
                 request,
                 dictionary,
@@ -343,6 +345,7 @@ fn read_heading(
     request: &[u8],
     dictionary: &[u8],
     around: &[u32; AROUND],
+    statements: &mut [u32],
     contexts: &mut [u32],
     conditions: &mut [u32],
     inside: &mut [u16; SCOPE],
@@ -351,8 +354,8 @@ fn read_heading(
 ) -> Headed
     requires { ⌜ (Inside (now request) (now dictionary) (now inside) x (levels + 1)) × (opensScope (x .code) ≡ true) ⌝ }
     ensures { λ b. ⌜ HeadingRead levels (environmentOf (now (dictionary .entry)) (now (around .entry))) (now (request .entry))
-        (now (dictionary .entry)) x (now (contexts .entry)) (now (contexts .exit)) (now (conditions .entry)) (now (conditions .exit))
-        (now (inside .entry)) (now (inside .exit)) b ⌝ }
+        (now (dictionary .entry)) x (tables (now (statements .entry)) (now (contexts .entry)) (now (conditions .entry)))
+        (tables (now (statements .exit)) (now (contexts .exit)) (now (conditions .exit))) (now (inside .entry)) (now (inside .exit)) b ⌝ }
 {
     let k = x.code;
     let opened = read_opened(request, dictionary, around, contexts, inside, x);
@@ -376,7 +379,8 @@ fn read_heading(
             ready: clauses,
         };
     };
-    let at = note(conditions, second, cs.such);
+    let c = x.after;
+    let at = note(statements, conditions, c.statements - 1, second, cs.such);
     Headed {
         opened: opened,
         ready: Step::Next(Fit::NoKind, at),
@@ -407,6 +411,7 @@ fn read_opening(
         request,
         dictionary,
         around,
+        statements,
         contexts,
         conditions,
         &mut inside,
@@ -458,7 +463,7 @@ fn read_if(
     let Step::Next(_, first) = b else {
         return b;
     };
-    let noted = note(conditions, first, c.at);
+    let noted = note(statements, conditions, c.statements - 1, first, c.at);
     let one = read_statement(
         request,
         dictionary,
@@ -515,6 +520,7 @@ fn read_select(
         left -= 1;
         match receive_at(request, around, scope, &seen, at, level.left) {
             MessageStep::Is(m, first) => {
+                put_boolean(statements, at.statements, 0);
                 let one = read_statement(
                     request,
                     dictionary,

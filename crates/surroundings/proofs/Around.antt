@@ -61,7 +61,7 @@ module _ (d : List ℕ) (rs : List Relation) (h : dictionary d ≡ proper rs) (m
 
 -- ---- for a condition of an allowed request
 
-rows-count : (ds : List Declared) → length (rowsOf ds) ≡ length ds * 5
+rows-count : (ds : List Declared) → length (rowsOf ds) ≡ length ds * 6
 unfolding rowsOf
 rows-count [] = omega arith
 rows-count (x ∷ ds) = let i = rows-count ds in omega (arith, i)
@@ -86,7 +86,7 @@ module _ (s d : List ℕ) (rs : List Relation) (t : Request) (a : Accepted s d r
   -- the slots are the contexts in scope
   pub slots-in-scope : slotsFrom d ct (x .place) (contextsCount (t .statements)) 0 ≡ map (slotFor d) (x .scope .contexts)
   slots-in-scope =
-      let g : drop (0 * 5) ct ≡ rowsOf (declarations rs t) ++ more = f ∙ ap (λ z. z ++ more) (rows-are rs t) in
+      let g : drop (0 * 6) ct ≡ rowsOf (declarations rs t) ++ more = f ∙ ap (λ z. z ++ more) (rows-are rs t) in
       ap (λ z. slotsFrom d ct (x .place) z 0) (sym (declared-count rs t))
       ∙ slots-are d ct (x .place) (declarations rs t) 0 more g
       ∙ ap (map (slotFor d)) (sym (scope-by-rows s d rs t a n x c))

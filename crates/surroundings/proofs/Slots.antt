@@ -37,18 +37,18 @@ first-place xs p = let z : p + 0 ≡ p = omega arith in z
 -- ---- the rows
 
 module _ (d t : List ℕ) (q : ℕ) where
-  pub slots-are : (ds : List Declared) (row : ℕ) (rest : List ℕ) → drop (row * 5) t ≡ rowsOf ds ++ rest →
+  pub slots-are : (ds : List Declared) (row : ℕ) (rest : List ℕ) → drop (row * 6) t ≡ rowsOf ds ++ rest →
       slotsFrom d t q (length ds) row ≡ map (slotFor d) (contextsAt q ds)
   unfolding slotsFrom contextsAt rowsOf
   slots-are [] row rest f = refl
   slots-are (x ∷ ds) row rest f =
       let l = rowsOf (x ∷ ds) ++ rest in
       rw (
-        cell-is t l (row * 5) 0 f,
-        cell-is t l (row * 5) 2 f,
-        cell-is t l (row * 5) 3 f,
-        cell-is t l (row * 5) 4 f,
-        slots-are ds (row + 1) rest (next-is t l (row * 5) 5 ((row + 1) * 5) f (omega arith)),
+        cell-is t l (row * 6) 0 f,
+        cell-is t l (row * 6) 2 f,
+        cell-is t l (row * 6) 3 f,
+        cell-is t l (row * 6) 4 f,
+        slots-are ds (row + 1) rest (next-is t l (row * 6) 6 ((row + 1) * 6) f (omega arith)),
       )
       (by (holdsAt q x))
     where

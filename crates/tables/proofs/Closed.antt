@@ -17,7 +17,7 @@ use Rattle.grammar.specs.Tree.{Stream, Heading, loop, modify, handler, receive,
 use Rattle.grammar.specs.Bytes.{streamBytes, headingBytes}
 use Rattle.grammar.specs.Environment.{Context, Scope, streamContext, modifyContext}
 use Rattle.grammar.specs.Sizes.{headingContexts}
-use Rattle.grammar.specs.Rows.{contextRow, streamRows, headingRows}
+use Rattle.grammar.specs.Rows.{relationId, contextRow, streamRows, headingRows}
 use Rattle.tables.specs.Tables.{openRow}
 use Rattle.tables.specs.Written.{inTable, closed, closedAfter}
 use Rattle.tables.proofs.Laid.{set-sets}
@@ -31,7 +31,7 @@ closed-none ct row n start end z = rw z
 
 pub closed-on : (ct : List ℕ) (row n start end : ℕ) → (n ≡ 0 → ⊥) →
     closed ct row n start end ≡
-    closed (set (set ct (row * 5 + 2) (inTable start)) (row * 5 + 3) (inTable end)) (row + 1) (n - 1) start end
+    closed (set (set ct (row * 6 + 2) (inTable start)) (row * 6 + 3) (inTable end)) (row + 1) (n - 1) start end
 unfolding closed
 closed-on ct row zero start end z = absurd (z refl)
 closed-on ct row (suc n) start end z = rw (sub-one (suc n))
@@ -43,14 +43,14 @@ set-first : (rest l : List ℕ) (i a x : ℕ) → set (sets l i (a ∷ rest)) i 
 set-first rest l i a x = set-sets rest (set l i a) i (suc i) x (omega arith) ∙ ap (λ k. sets k (suc i) rest) (set-set l i a x)
 
 -- a row of a context gets its scope
-close-row : (l rest : List ℕ) (i a b c d e start end : ℕ) →
-    set (set (sets l i (a ∷ b ∷ c ∷ d ∷ e ∷ rest)) (i + 2) start) (i + 3) end ≡ sets l i (a ∷ b ∷ start ∷ end ∷ e ∷ rest)
-close-row l rest i a b c d e start end =
+close-row : (l rest : List ℕ) (i a b c d start end : ℕ) →
+    set (set (sets l i (a ∷ b ∷ c ∷ d ∷ rest)) (i + 2) start) (i + 3) end ≡ sets l i (a ∷ b ∷ start ∷ end ∷ rest)
+close-row l rest i a b c d start end =
     rw (add-two, add-three)
-    (ap (λ k. set k (suc (suc (suc i))) end) (set-first (d ∷ e ∷ rest) (set (set l i a) (suc i) b) (suc (suc i)) c start)
-    ∙ set-first (e ∷ rest) (set (set (set l i a) (suc i) b) (suc (suc i)) start) (suc (suc (suc i))) d end)
+    (ap (λ k. set k (suc (suc (suc i))) end) (set-first (d ∷ rest) (set (set l i a) (suc i) b) (suc (suc i)) c start)
+    ∙ set-first rest (set (set (set l i a) (suc i) b) (suc (suc i)) start) (suc (suc (suc i))) d end)
 
-next-row : (row : ℕ) → (row + 1) * 5 ≡ suc (suc (suc (suc (suc (row * 5)))))
+next-row : (row : ℕ) → (row + 1) * 6 ≡ suc (suc (suc (suc (suc (suc (row * 6))))))
 next-row row = omega arith
 
 -- contexts, each with its place
@@ -63,16 +63,16 @@ placedRows [] start end = []
 placedRows (x ∷ xs) start end = contextRow (x .0) (x .1) start end ++ placedRows xs start end
 
 rows-closed : (xs : List Placed) (l rest : List ℕ) (row start end : ℕ) → start ≤ maxRequestBytes → end ≤ maxRequestBytes →
-    closed (sets l (row * 5) (placedRows xs 0 0 ++ rest)) row (length xs) start end ≡
-    sets l (row * 5) (placedRows xs start end ++ rest)
+    closed (sets l (row * 6) (placedRows xs 0 0 ++ rest)) row (length xs) start end ≡
+    sets l (row * 6) (placedRows xs start end ++ rest)
 unfolding closed
 rows-closed [] l rest row start end h k = refl
 rows-closed (x ∷ xs) l rest row start end h k =
-    let opened = sets l (row * 5) (placedRows (x ∷ xs) 0 0 ++ rest) in
-    let own = sets l (row * 5) (contextRow (x .0) (x .1) start end) in
-    ap₂ (λ a b. closed (set (set opened (row * 5 + 2) a) (row * 5 + 3) b) (row + 1) (length xs) start end)
+    let opened = sets l (row * 6) (placedRows (x ∷ xs) 0 0 ++ rest) in
+    let own = sets l (row * 6) (contextRow (x .0) (x .1) start end) in
+    ap₂ (λ a b. closed (set (set opened (row * 6 + 2) a) (row * 6 + 3) b) (row + 1) (length xs) start end)
     (in-table start h) (in-table end k)
-    ∙ ap (λ z. closed z (row + 1) (length xs) start end) (close-row l (placedRows xs 0 0 ++ rest) (row * 5) _ _ 0 0 _ start end)
+    ∙ ap (λ z. closed z (row + 1) (length xs) start end) (close-row l (relationId (x .0 .relation) ∷ x .0 .opener ∷ (placedRows xs 0 0 ++ rest)) (row * 6) _ _ 0 0 start end)
     ∙ subst
     (λ j.
     closed (sets own j (placedRows xs 0 0 ++ rest)) (row + 1) (length xs) start end ≡ sets own j (placedRows xs start end ++ rest))

@@ -6,7 +6,7 @@ use lib.Dec.{leb}
 use lib.ListN.{set}
 use lib.Seq.{sets}
 use Rattle.wire.specs.Limits.{maxRequestBytes, maxStatements, maxContexts, statementRowNumbers, contextRowNumbers}
-use Rattle.wire.specs.Internal.Columns.{contextStart, contextEnd}
+use Rattle.wire.specs.Internal.Columns.{statementBoolean, contextStart, contextEnd}
 use Rattle.wire.specs.Words.{byteAt}
 use Rattle.grammar.specs.declared.Cursor.{Cursor}
 use Rattle.grammar.specs.declared.Step.{Step}
@@ -17,15 +17,19 @@ use Rattle.grammar.specs.Reader.{withConditions}
 abbrev pub inTable : ℕ → ℕ
 inTable x = x % 4294967296
 
--- the row of a statement; a row above the greatest count is not written
+-- the row of a statement but for the number of its boolean; a row above the greatest count is not written
 abbrev pub withStatementRow : List ℕ → ℕ → ℕ → ℕ → ℕ → ℕ → List ℕ
 withStatementRow t row place code parent end =
     cond (leb row maxStatements) (sets t (row * statementRowNumbers) (inTable place ∷ code ∷ inTable parent ∷ inTable end ∷ [])) t
 
+-- a number as that of the boolean of a statement; a row above the greatest count is not written
+abbrev pub withBoolean : List ℕ → ℕ → ℕ → List ℕ
+withBoolean t row n = cond (leb row maxStatements) (set t (row * statementRowNumbers + statementBoolean) (inTable n)) t
+
 -- the row of a context whose scope is not yet known; a row above the greatest count is not written
-abbrev pub withContextRow : List ℕ → ℕ → ℕ → ℕ → ℕ → List ℕ
-withContextRow t row number place relation =
-    cond (leb row maxContexts) (sets t (row * contextRowNumbers) (number ∷ inTable place ∷ 0 ∷ 0 ∷ relation ∷ [])) t
+abbrev pub withContextRow : List ℕ → ℕ → ℕ → ℕ → ℕ → ℕ → List ℕ
+withContextRow t row number place relation opener =
+    cond (leb row maxContexts) (sets t (row * contextRowNumbers) (number ∷ inTable place ∷ 0 ∷ 0 ∷ relation ∷ opener ∷ [])) t
 
 -- a statement that was read up to a step, whose code stands at a cursor
 abbrev pub finished : List ℕ → List ℕ → Cursor → ℕ → Step → List ℕ
@@ -56,6 +60,11 @@ listed (suc p) = suc p ∷ []
 abbrev pub numbered : Cursor → ℕ → Cursor
 numbered c zero = c
 numbered c (suc p) = cond (leb (c .conditions) maxRequestBytes) (withConditions c 1) c
+
+-- the number plus one of a condition, written into the row of its statement
+abbrev pub withNumber : List ℕ → ℕ → Cursor → ℕ → List ℕ
+withNumber st row c zero = st
+withNumber st row c (suc p) = cond (leb (c .conditions) maxRequestBytes) (withBoolean st row (c .conditions + 1)) st
 
 -- the place of a condition, written at its number
 abbrev pub withPlace : List ℕ → Cursor → ℕ → List ℕ

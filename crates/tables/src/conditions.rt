@@ -1,14 +1,22 @@
-// The places of conditions.
+// The places of conditions, and their numbers in the rows of statements.
 ghost use mathlib.Core.Path.{_≡_};
-ghost use Rattle.tables.specs.Written.{withPlace, numbered};
+ghost use Rattle.tables.specs.Written.{withPlace, withNumber, numbered};
 use crate::NUMBERS;
+use crate::statements::put_boolean;
 use grammar::Cursor;
 use wire::limits::MAX_REQUEST_BYTES;
 use wire::table::put;
 
-// A condition that was read, from a place on, gets a number; 0 is no place.
-pub fn note(conditions: &mut [u32], c: Cursor, place: usize) -> Cursor
-    ensures { λ r. ⌜ (r ≡ numbered c place) × (now (conditions .exit) ≡ withPlace (now (conditions .entry)) c place) ⌝ }
+// A condition that was read, from a place on, gets a number, which the row of its statement tells; 0 is no place.
+pub fn note(
+    statements: &mut [u32],
+    conditions: &mut [u32],
+    row: usize,
+    c: Cursor,
+    place: usize,
+) -> Cursor
+    ensures { λ r. ⌜ (r ≡ numbered c place) × ((now (conditions .exit) ≡ withPlace (now (conditions .entry)) c place)
+        × (now (statements .exit) ≡ withNumber (now (statements .entry)) row c place)) ⌝ }
 {
     if place == 0 {
         return c;
@@ -17,6 +25,7 @@ pub fn note(conditions: &mut [u32], c: Cursor, place: usize) -> Cursor
         return c;
     }
     put(conditions, c.conditions, (place % NUMBERS) as u32);
+    put_boolean(statements, row, c.conditions + 1);
     let mut next = c;
     next.conditions = c.conditions + 1;
     next

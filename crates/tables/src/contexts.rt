@@ -11,6 +11,7 @@ use wire::limits::MAX_CONTEXTS;
 use wire::numbers::ContextNumber;
 use wire::rows::CONTEXT_END;
 use wire::rows::CONTEXT_NUMBER;
+use wire::rows::CONTEXT_OPENER;
 use wire::rows::CONTEXT_PLACE;
 use wire::rows::CONTEXT_RELATION;
 use wire::rows::CONTEXT_START;
@@ -23,8 +24,9 @@ pub fn put_context(
     number: ContextNumber,
     place: usize,
     relation: u32,
+    opener: u8,
 )
-    ensures { λ _. ⌜ now (table .exit) ≡ withContextRow (now (table .entry)) row (number .0) place relation ⌝ }
+    ensures { λ _. ⌜ now (table .exit) ≡ withContextRow (now (table .entry)) row (number .0) place relation opener ⌝ }
 {
     if row <= MAX_CONTEXTS {
         let at = row * CONTEXT_ROW;
@@ -33,6 +35,7 @@ pub fn put_context(
         put(table, at + CONTEXT_START, 0);
         put(table, at + CONTEXT_END, 0);
         put(table, at + CONTEXT_RELATION, relation);
+        put(table, at + CONTEXT_OPENER, opener as u32);
     }
 }
 

@@ -91,22 +91,23 @@ readingSize = 2
 abbrev pub missingReading : ℕ
 missingReading = 65535
 
--- the numbers of a row of each table; 01: "four-, six- and five-number rows"
+-- the numbers of a row of each table; 02, No. 7: "Each statement row gets a fifth number", "Each context row gets a sixth"
 abbrev pub statementRowNumbers : ℕ
-statementRowNumbers = 4
+statementRowNumbers = 5
 
 abbrev pub parameterRowNumbers : ℕ
 parameterRowNumbers = 6
 
 abbrev pub contextRowNumbers : ℕ
-contextRowNumbers = 5
+contextRowNumbers = 6
 
--- 01: "tables below 2048, 1536, 160 numbers": a row for each statement, parameter and context
+-- 01: "tables below 2048, 1536, 160 numbers"; 02, No. 7: "smallest sizes change to 2560 and 192 numbers": a row for each statement,
+-- parameter and context
 abbrev pub statementTableNumbers : ℕ
-statementTableNumbers = 2048
+statementTableNumbers = 2560
 
 abbrev pub parameterTableNumbers : ℕ
 parameterTableNumbers = 1536
 
 abbrev pub contextTableNumbers : ℕ
-contextTableNumbers = 160
+contextTableNumbers = 192

@@ -65,13 +65,13 @@ pub const READING_SIZE: usize = 2;
 pub const MISSING_READING: u32 = 65535;
 
 // The numbers of a row of each table.
-pub const STATEMENT_ROW: usize = 4;
+pub const STATEMENT_ROW: usize = 5;
 
 pub const PARAMETER_ROW: usize = 6;
 
-pub const CONTEXT_ROW: usize = 5;
+pub const CONTEXT_ROW: usize = 6;
 
-// "tables below 2048, 1536, 160 numbers": a row for each statement, parameter and context.
+// "smallest sizes change to 2560 and 192 numbers": a row for each statement, parameter and context.
 pub const STATEMENT_TABLE: usize = MAX_STATEMENTS * STATEMENT_ROW;
 
 pub const PARAMETER_TABLE: usize = MAX_PARAMETERS * PARAMETER_ROW;

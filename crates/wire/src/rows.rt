@@ -9,6 +9,9 @@ pub const STATEMENT_PARENT: usize = 2;
 
 pub const STATEMENT_END: usize = 3;
 
+// "a fifth number, its boolean's number plus one, or 0 where it has none"
+pub const STATEMENT_BOOLEAN: usize = 4;
+
 // "Parameter row: message, parameter, type, scale byte, offset, bytes held."
 pub const PARAMETER_MESSAGE: usize = 0;
 
@@ -32,3 +35,6 @@ pub const CONTEXT_START: usize = 2;
 pub const CONTEXT_END: usize = 3;
 
 pub const CONTEXT_RELATION: usize = 4;
+
+// "a sixth, the code that opened it"
+pub const CONTEXT_OPENER: usize = 5;

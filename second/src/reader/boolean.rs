@@ -13,12 +13,12 @@ use crate::wire::{
 };
 
 impl Reader<'_> {
-    /// A boolean that isn't inside another.
-    pub fn condition(&mut self, level: usize) -> Result<(), Refusal> {
+    /// A boolean that isn't inside another; gives its number.
+    pub fn condition(&mut self, level: usize) -> Result<usize, Refusal> {
         let boolean = self.boolean(level)?;
         let contexts = self.scope.contexts.clone();
         self.parsed.conditions.push(Condition { boolean, contexts });
-        Ok(())
+        Ok(self.parsed.conditions.len() - 1)
     }
 
     /// One boolean at a level.

@@ -30,12 +30,12 @@ use cursor::Cursor;
 use parsed::Parsed;
 use scope::Scope;
 
-pub use tables::Counts;
+pub use tables::{Counts, WIDTHS};
 
 /// Greatest length of a request.
 pub const GREATEST_LENGTH: usize = 65_535;
-/// Least lengths of the tables of statements, parameters and contexts.
-pub const TABLE_LENGTHS: [usize; 3] = [2048, 1536, 160];
+/// Least lengths of the tables of statements, parameters and contexts, by No. 7 of document 02.
+pub const TABLE_LENGTHS: [usize; 3] = [2560, 1536, 192];
 
 /// Reads a request beside a dictionary and fills the lent tables.
 pub fn read(

@@ -9,6 +9,8 @@ pub struct Statement {
     pub code: u8,
     pub parent: Option<usize>,
     pub end: usize,
+    /// The number of an if's condition or of a for's rse condition.
+    pub condition: Option<usize>,
 }
 
 /// A message with the types of its parameters.
@@ -30,7 +32,8 @@ impl Message {
     }
 }
 
-/// A context: its number, its scope and the index of its relation in the dictionary.
+/// A context: its number, its scope, the index of its relation in the dictionary, and the code that
+/// opened it: for, store or modify.
 #[derive(Clone, Debug)]
 pub struct Context {
     pub number: u8,
@@ -38,7 +41,7 @@ pub struct Context {
     pub start: usize,
     pub end: usize,
     pub relation: usize,
-    pub is_of_for: bool,
+    pub opener: u8,
 }
 
 /// The kind and the scale of a value; the scale is 0 for text and date.

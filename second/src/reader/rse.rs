@@ -8,34 +8,34 @@ use super::parsed::Role;
 use super::Reader;
 use crate::refusal::{self, refuse, Refusal};
 use crate::wire::{
-    ASCENDING, BOOLEAN, DESCENDING, END, LEFT_OUT_CLAUSES, LEFT_OUT_STREAMS, RELATION, RSE, SORT,
-    STREAMS,
+    ASCENDING, BOOLEAN, DESCENDING, END, FOR, LEFT_OUT_CLAUSES, LEFT_OUT_STREAMS, RELATION, RSE,
+    SORT, STREAMS,
 };
 
 impl Reader<'_> {
-    /// The rse of a for; its values and its boolean are at `level`. Gives the number of streams,
-    /// whose contexts are left in scope.
-    pub fn rse(&mut self, level: usize) -> Result<usize, Refusal> {
+    /// The rse of a for with its row; its values and its boolean are at `level`. Gives the number of
+    /// streams, whose contexts are left in scope.
+    pub fn rse(&mut self, row: usize, level: usize) -> Result<usize, Refusal> {
         self.due(RSE)?;
         let count = self.cursor.count()?;
         let first = self.parsed.contexts.len();
         for _ in 0..count {
-            self.stream(first, true)?;
+            self.stream(first, FOR)?;
         }
         self.open_scope(first);
-        self.clauses(level)?;
+        self.clauses(row, level)?;
         Ok(usize::from(count))
     }
 
-    /// One stream; contexts declared from `first` on are of the same rse.
-    pub fn stream(&mut self, first: usize, is_of_for: bool) -> Result<usize, Refusal> {
+    /// One stream of what a code opens; contexts declared from `first` on are of the same rse.
+    pub fn stream(&mut self, first: usize, opener: u8) -> Result<usize, Refusal> {
         let place = self.cursor.place();
         let code = self.cursor.code(&STREAMS, &LEFT_OUT_STREAMS)?;
         self.room_for_context(place)?;
         let relation = self.relation(code)?;
         let number = self.new_context(first)?;
         self.note(Role::Stream, code);
-        Ok(self.declare(number, place, relation, is_of_for))
+        Ok(self.declare(number, place, relation, opener))
     }
 
     /// The name or id of a relation: 12 at its count byte or its word.
@@ -52,13 +52,13 @@ impl Reader<'_> {
     }
 
     /// Clauses up to the 255; one that was read is not due again.
-    fn clauses(&mut self, level: usize) -> Result<(), Refusal> {
+    fn clauses(&mut self, row: usize, level: usize) -> Result<(), Refusal> {
         let mut due = vec![END, BOOLEAN, SORT];
         loop {
             let code = self.cursor.code(&due, &LEFT_OUT_CLAUSES)?;
             match code {
                 END => return Ok(()),
-                BOOLEAN => self.condition(level)?,
+                BOOLEAN => self.condition_of(row, level)?,
                 _ => self.sort(level)?,
             }
             self.note(Role::Clause, code);

@@ -7,7 +7,7 @@
 use super::parsed::{Context, Role, Statement};
 use super::Reader;
 use crate::refusal::{self, refuse, Refusal};
-use crate::wire::{RECEIVE, SEND};
+use crate::wire::{FOR, RECEIVE, SEND};
 
 /// Most levels of statements, values and booleans.
 pub const GREATEST_DEPTH: usize = 32;
@@ -55,7 +55,7 @@ impl Reader<'_> {
         if is_conversation && !self.scope.updates.is_empty() {
             return refuse(refusal::WRONG_STATEMENT, place);
         }
-        self.parsed.statements.push(Statement { place, code, parent, end: 0 });
+        self.parsed.statements.push(Statement { place, code, parent, end: 0, condition: None });
         self.note(Role::Statement, code);
         Ok(row)
     }
@@ -92,7 +92,7 @@ impl Reader<'_> {
     /// A ctx byte that names a context of a for: 11 at it, then 14 at the statement.
     pub fn context_of_for(&mut self, statement: usize) -> Result<usize, Refusal> {
         let context = self.context_in_scope()?;
-        if !self.parsed.contexts[context].is_of_for {
+        if self.parsed.contexts[context].opener != FOR {
             return refuse(refusal::WRONG_STATEMENT, statement);
         }
         Ok(context)
@@ -112,9 +112,9 @@ impl Reader<'_> {
         Ok(number)
     }
 
-    /// Declares a context; its scope is set later.
-    pub fn declare(&mut self, number: u8, place: usize, relation: usize, is_of_for: bool) -> usize {
-        let context = Context { number, place, start: 0, end: 0, relation, is_of_for };
+    /// Declares a context that a code opens; its scope is set later.
+    pub fn declare(&mut self, number: u8, place: usize, relation: usize, opener: u8) -> usize {
+        let context = Context { number, place, start: 0, end: 0, relation, opener };
         self.parsed.contexts.push(context);
         self.parsed.contexts.len() - 1
     }

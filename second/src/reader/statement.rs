@@ -62,7 +62,7 @@ impl Reader<'_> {
 
     /// Rse, then a statement in the scope of its contexts.
     fn for_loop(&mut self, row: usize, level: usize) -> Result<(), Refusal> {
-        let streams = self.rse(level + 1)?;
+        let streams = self.rse(row, level + 1)?;
         self.statement(row, level + 1)?;
         self.close_scope(streams);
         Ok(())
@@ -70,12 +70,19 @@ impl Reader<'_> {
 
     /// Boolean, statement, then 255 or a second statement.
     fn if_statement(&mut self, row: usize, level: usize) -> Result<(), Refusal> {
-        self.condition(level + 1)?;
+        self.condition_of(row, level + 1)?;
         self.statement(row, level + 1)?;
         if self.cursor.peek()? == END {
             return self.due(END);
         }
         self.statement(row, level + 1)
+    }
+
+    /// The condition of an if or of a for's rse, kept in the statement's row.
+    pub fn condition_of(&mut self, row: usize, level: usize) -> Result<(), Refusal> {
+        let number = self.condition(level)?;
+        self.parsed.statements[row].condition = Some(number);
+        Ok(())
     }
 
     /// From-ctx of a for, new to-ctx, and a statement in its scope.
@@ -84,13 +91,13 @@ impl Reader<'_> {
         let from = self.context_of_for(place)?;
         let number = self.new_context(self.parsed.contexts.len())?;
         let relation = self.parsed.contexts[from].relation;
-        let context = self.declare(number, place, relation, false);
+        let context = self.declare(number, place, relation, MODIFY);
         self.update(row, context, level)
     }
 
     /// Stream, and a statement in the scope of its context.
     fn store(&mut self, row: usize, level: usize) -> Result<(), Refusal> {
-        let context = self.stream(self.parsed.contexts.len(), false)?;
+        let context = self.stream(self.parsed.contexts.len(), STORE)?;
         self.update(row, context, level)
     }
 

@@ -4,9 +4,15 @@
 //! it. Parameter row: message, parameter, type, scale byte, offset, bytes held. Context row:
 //! number, place of the stream or modify code, scope start, scope end, relation id (modify: of its
 //! from-ctx). Rows stand in reading order."
+//!
+//! Document 02, No. 7: "Each statement row gets a fifth number, its boolean's number plus one, or 0
+//! where it has none. Each context row gets a sixth, the code that opened it".
 
 use super::parsed::{Message, Parsed};
 use crate::dictionary::Dictionary;
+
+/// The numbers in a row of statements, of parameters, of contexts.
+pub const WIDTHS: [usize; 3] = [5, 6, 6];
 
 /// The counts of rows.
 #[derive(Clone, Copy, Debug, PartialEq, Eq)]
@@ -32,13 +38,15 @@ fn cell(number: usize) -> u32 {
 
 /// Fills the first rows of the table of statements.
 pub fn fill_statements(parsed: &Parsed, table: &mut [u32]) {
-    for (row, statement) in table.chunks_mut(4).zip(&parsed.statements) {
+    for (row, statement) in table.chunks_mut(WIDTHS[0]).zip(&parsed.statements) {
         let parent = statement.parent.map_or(0, |parent| parent + 1);
+        let condition = statement.condition.map_or(0, |number| number + 1);
         row.copy_from_slice(&[
             cell(statement.place),
             u32::from(statement.code),
             cell(parent),
             cell(statement.end),
+            cell(condition),
         ]);
     }
 }
@@ -46,7 +54,7 @@ pub fn fill_statements(parsed: &Parsed, table: &mut [u32]) {
 /// Fills the first rows of the table of parameters.
 pub fn fill_parameters(parsed: &Parsed, table: &mut [u32]) {
     let rows = parsed.messages.iter().flat_map(parameter_rows);
-    for (row, numbers) in table.chunks_mut(6).zip(rows) {
+    for (row, numbers) in table.chunks_mut(WIDTHS[1]).zip(rows) {
         row.copy_from_slice(&numbers);
     }
 }
@@ -69,13 +77,14 @@ fn parameter_rows(message: &Message) -> Vec<[u32; 6]> {
 
 /// Fills the first rows of the table of contexts.
 pub fn fill_contexts(parsed: &Parsed, dictionary: &Dictionary, table: &mut [u32]) {
-    for (row, context) in table.chunks_mut(5).zip(&parsed.contexts) {
+    for (row, context) in table.chunks_mut(WIDTHS[2]).zip(&parsed.contexts) {
         row.copy_from_slice(&[
             u32::from(context.number),
             cell(context.place),
             cell(context.start),
             cell(context.end),
             u32::from(dictionary.relations[context.relation].id),
+            u32::from(context.opener),
         ]);
     }
 }

@@ -14,6 +14,10 @@ statementParent = 2
 abbrev pub statementEnd : ℕ
 statementEnd = 3
 
+-- 02, No. 7: "a fifth number, its boolean's number plus one, or 0 where it has none"
+abbrev pub statementBoolean : ℕ
+statementBoolean = 4
+
 -- 01: "Parameter row: message, parameter, type, scale byte, offset, bytes held."
 abbrev pub parameterMessage : ℕ
 parameterMessage = 0
@@ -48,3 +52,7 @@ contextEnd = 3
 
 abbrev pub contextRelation : ℕ
 contextRelation = 4
+
+-- 02, No. 7: "a sixth, the code that opened it"
+abbrev pub contextOpener : ℕ
+contextOpener = 5

@@ -17,7 +17,7 @@ unfolding beforeOf
 returns c =
     let args′ = c .before .before .before .args in
     let if1′ = c .if1 in
-    rw (beforeOf, lt-leb 2048 (args′ .statements) (if1′ .taken))
+    rw (beforeOf, lt-leb 2560 (args′ .statements) (if1′ .taken))
 
 -- src/before.rt:32:9
 returns-2 : tie.Need-returns-2
@@ -26,7 +26,7 @@ returns-2 c =
     let args′ = c .before .before .before .before .args in
     let if1′ = c .before .if1 in
     let if2′ = c .if2 in
-    rw (beforeOf, le-leb 2048 (args′ .statements) (if1′ .left), lt-leb 1536 (args′ .parameters) (if2′ .taken))
+    rw (beforeOf, le-leb 2560 (args′ .statements) (if1′ .left), lt-leb 1536 (args′ .parameters) (if2′ .taken))
 
 -- src/before.rt:35:9
 returns-3 : tie.Need-returns-3
@@ -38,9 +38,9 @@ returns-3 c =
     let if3′ = c .if3 in
     rw (
       beforeOf,
-      le-leb 2048 (args′ .statements) (if1′ .left),
+      le-leb 2560 (args′ .statements) (if1′ .left),
       le-leb 1536 (args′ .parameters) (if2′ .left),
-      lt-leb 160 (args′ .contexts) (if3′ .taken),
+      lt-leb 192 (args′ .contexts) (if3′ .taken),
     )
 
 -- src/before.rt:38:9
@@ -54,9 +54,9 @@ returns-4 c =
     let if4′ = c .if4 in
     rw (
       beforeOf,
-      le-leb 2048 (args′ .statements) (if1′ .left),
+      le-leb 2560 (args′ .statements) (if1′ .left),
       le-leb 1536 (args′ .parameters) (if2′ .left),
-      le-leb 160 (args′ .contexts) (if3′ .left),
+      le-leb 192 (args′ .contexts) (if3′ .left),
       lt-leb (length (args′ .request .now)) 65535 (if4′ .taken),
     )
 
@@ -85,9 +85,9 @@ returns-5 c =
     let check′ = c .before .before .check in
     rw (
       beforeOf,
-      le-leb 2048 (args′ .statements) (if1′ .left),
+      le-leb 2560 (args′ .statements) (if1′ .left),
       le-leb 1536 (args′ .parameters) (if2′ .left),
-      le-leb 160 (args′ .contexts) (if3′ .left),
+      le-leb 192 (args′ .contexts) (if3′ .left),
       le-leb (length (args′ .request .now)) 65535 (if4′ .left),
     )
     (proper-goes (dictionary (args′ .dictionary .now)) (sym (enum-told′ .given .1) ∙ check′ .ensures))
@@ -105,9 +105,9 @@ returns-6 c =
     let check′ = c .before .before .before .check in
     rw (
       beforeOf,
-      le-leb 2048 (args′ .statements) (if1′ .left),
+      le-leb 2560 (args′ .statements) (if1′ .left),
       le-leb 1536 (args′ .parameters) (if2′ .left),
-      le-leb 160 (args′ .contexts) (if3′ .left),
+      le-leb 192 (args′ .contexts) (if3′ .left),
       le-leb (length (args′ .request .now)) 65535 (if4′ .left),
     )
     (fault-stops (dictionary (args′ .dictionary .now)) _ (sym (p′ .given .1) ∙ check′ .ensures))

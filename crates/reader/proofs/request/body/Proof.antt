@@ -40,11 +40,14 @@ sub-t17 : tie.Need-sub-t17
 sub-t17 c = search needs
 
 -- src/request.rt:120:9
+put-boolean-requires : tie.Need-put-boolean-requires
+put-boolean-requires c κs = search needs
+
 read-statements-requires : tie.Need-read-statements-requires
 read-statements-requires c κs =
-    let pre′ = c .before .before .before .before .before .before .before .before .before .before .before .before .before .before .before .before .before .before .before .pre in
-    let read-messages′ = c .before .before .before .before .before .before .before .before .before .before .read-messages in
-    let declared′ = c .before .before .before .before .before .before .declared in
+    let pre′ = c .before .before .before .before .before .before .before .before .before .before .before .before .before .before .before .before .before .before .before .before .before .before .before .pre in
+    let read-messages′ = c .before .before .before .before .before .before .before .before .before .before .before .before .before .before .read-messages in
+    let declared′ = c .before .before .before .before .before .before .before .before .before .before .declared in
     (given-after _ _ _ _ (pre′) _ _ _ (read-messages′ .ensures) _ _ (declared′ .given .1), omega arith)
 
 -- src/request.rt:131:5
@@ -81,12 +84,14 @@ returns-2 c =
     let outer-row′ = c .before .before .before .before .before .outer-row in
     let end′ = c .before .before .end in
     let row-count′ = c .row-count in
-    let pre′ = c .before .before .before .before .before .before .before .before .before .before .before .before .before .before .before .before .before .before .before .before .before .before .before .before .before .before .before .before .before .before .before .before .before .pre in
-    let read-messages′ = c .before .before .before .before .before .before .before .before .before .before .before .before .before .before .before .before .before .before .before .before .before .before .before .before .read-messages in
-    let declared′ = c .before .before .before .before .before .before .before .before .before .before .before .before .before .before .before .before .before .before .before .before .declared in
+    let pre′ = c .before .before .before .before .before .before .before .before .before .before .before .before .before .before .before .before .before .before .before .before .before .before .before .before .before .before .before .before .before .before .before .before .before .before .before .before .before .pre in
+    let read-messages′ = c .before .before .before .before .before .before .before .before .before .before .before .before .before .before .before .before .before .before .before .before .before .before .before .before .before .before .before .before .read-messages in
+    let declared′ = c .before .before .before .before .before .before .before .before .before .before .before .before .before .before .before .before .before .before .before .before .before .before .before .before .declared in
+    let put-boolean′ = c .before .before .before .before .before .before .before .before .before .before .before .before .before .before .before .before .before .before .before .before .before .put-boolean in
     let read-statements′ = c .before .before .before .before .before .before .before .before .before .before .before .before .before .read-statements in
     rw (outer-row′ .ensures, end′ .ensures, row-count′ .ensures)
-    (whole-body _ _ _ _ (pre′) _ _ _ (read-messages′ .ensures) _ _ (declared′ .given .1) _ _ _ (read-statements′ .ensures))
+    (whole-body _ _ _ _ (pre′) _ _ _ (read-messages′ .ensures) _ _ (declared′ .given .1) _ _ _ _ _ _ (put-boolean′ .ensures)
+    (read-statements′ .ensures))
 
 pub body-spec : {M : Type 1} → statement M
 body-spec =
@@ -98,6 +103,7 @@ body-spec =
     same-length
     returns
     sub-t17
+    put-boolean-requires
     read-statements-requires
     outer-row-requires
     end-requires

@@ -27,8 +27,8 @@ same-length c = search needs
 -- src/statements.rt:360:9
 returns : tie.Need-returns
 returns c =
-    let args′ = c .before .before .before .before .before .before .before .before .before .before .args in
-    let pre′ = c .before .before .before .before .before .before .before .before .before .before .pre in
+    let args′ = c .before .before .before .before .before .before .before .before .before .before .before .args in
+    let pre′ = c .before .before .before .before .before .before .before .before .before .before .before .pre in
     let match′ = c .match in
     let read-opened′ = c .before .before .before .read-opened in
     opening-read _ _ _ _ (relations-known _ (args′ .around .now)) (args′ .levels) _ (pre′ .0) (pre′ .1)
@@ -50,8 +50,8 @@ same-length-2 c = search needs
 -- src/statements.rt:366:9
 returns-2 : tie.Need-returns-2
 returns-2 c =
-    let args′ = c .before .before .before .before .before .before .before .before .before .before .before .before .before .args in
-    let pre′ = c .before .before .before .before .before .before .before .before .before .before .before .before .before .pre in
+    let args′ = c .before .before .before .before .before .before .before .before .before .before .before .before .before .before .args in
+    let pre′ = c .before .before .before .before .before .before .before .before .before .before .before .before .before .before .pre in
     let enum-told′ = c .before .before .enum-told in
     let read-opened′ = c .before .before .before .before .before .before .read-opened in
     let enum-told2′ = c .enum-told2 in
@@ -77,8 +77,8 @@ same-length-3 c = search needs
 -- src/statements.rt:376:9
 returns-3 : tie.Need-returns-3
 returns-3 c =
-    let args′ = c .before .before .before .before .before .before .before .before .before .before .before .before .before .before .before .before .before .before .before .before .before .args in
-    let pre′ = c .before .before .before .before .before .before .before .before .before .before .before .before .before .before .before .before .before .before .before .before .before .pre in
+    let args′ = c .before .before .before .before .before .before .before .before .before .before .before .before .before .before .before .before .before .before .before .before .before .before .args in
+    let pre′ = c .before .before .before .before .before .before .before .before .before .before .before .before .before .before .before .before .before .before .before .before .before .before .pre in
     let enum-told′ = c .before .before .before .before .before .before .before .before .before .before .enum-told in
     let read-opened′ = c .before .before .before .before .before .before .before .before .before .before .before .before .before .before .read-opened in
     let opened′ = c .before .before .before .before .before .before .before .before .opened in
@@ -89,34 +89,42 @@ returns-3 c =
     (enum-told′ .given .1)) (opened′ .given .1) (read-clauses′ .ensures) (enum-told3′ .given .1)
 
 -- src/statements.rt:381:9
+sub-note : tie.Need-sub-note
+sub-note c =
+    let pre′ = c .before .before .before .before .before .before .before .before .before .before .before .before .before .before .before .before .before .before .before .before .before .before .before .before .before .before .before .pre in
+    omega (arith, pre′ .0 .noted)
+
 note-requires : tie.Need-note-requires
 note-requires c κs = search needs
 
 -- src/statements.rt:342:1
 same-length-4 : tie.Need-same-length-4
-same-length-4 c =
-    let read-clauses′ = c .before .before .before .before .before .before .before .before .before .read-clauses in
-    let read-opened′ = c .before .before .before .before .before .before .before .before .before .before .before .before .before .before .before .before .before .before .before .read-opened in
+same-length-4 c = search needs
+
+same-length-5 : tie.Need-same-length-5
+same-length-5 c =
+    let read-clauses′ = c .before .before .before .before .before .before .before .before .before .before .before .before .before .before .read-clauses in
+    let read-opened′ = c .before .before .before .before .before .before .before .before .before .before .before .before .before .before .before .before .before .before .before .before .before .before .before .before .read-opened in
     omega (arith, read-clauses′ .kept .1 .1 .1 .1 .0, read-opened′ .kept .1 .1 .1 .0)
 
 -- src/statements.rt:342:1
-same-length-5 : tie.Need-same-length-5
-same-length-5 c = search needs
+same-length-6 : tie.Need-same-length-6
+same-length-6 c = search needs
 
 -- src/statements.rt:342:1
 returns-4 : tie.Need-returns-4
 returns-4 c =
-    let args′ = c .before .before .before .before .before .before .before .before .before .before .before .before .before .before .before .before .before .before .before .before .before .before .before .before .before .before .args in
-    let pre′ = c .before .before .before .before .before .before .before .before .before .before .before .before .before .before .before .before .before .before .before .before .before .before .before .before .before .before .pre in
-    let enum-told′ = c .before .before .before .before .before .before .before .before .before .before .before .before .before .before .before .enum-told in
-    let read-opened′ = c .before .before .before .before .before .before .before .before .before .before .before .before .before .before .before .before .before .before .before .read-opened in
-    let opened′ = c .before .before .before .before .before .before .before .before .before .before .before .before .before .opened in
-    let read-clauses′ = c .before .before .before .before .before .before .before .before .before .read-clauses in
-    let clauses′ = c .before .before .before .before .before .clauses in
-    let note′ = c .before .before .note in
+    let args′ = c .before .before .before .before .before .before .before .before .before .before .before .before .before .before .before .before .before .before .before .before .before .before .before .before .before .before .before .before .before .before .before .before .args in
+    let pre′ = c .before .before .before .before .before .before .before .before .before .before .before .before .before .before .before .before .before .before .before .before .before .before .before .before .before .before .before .before .before .before .before .before .pre in
+    let enum-told′ = c .before .before .before .before .before .before .before .before .before .before .before .before .before .before .before .before .before .before .before .before .enum-told in
+    let read-opened′ = c .before .before .before .before .before .before .before .before .before .before .before .before .before .before .before .before .before .before .before .before .before .before .before .before .read-opened in
+    let opened′ = c .before .before .before .before .before .before .before .before .before .before .before .before .before .before .before .before .before .before .opened in
+    let read-clauses′ = c .before .before .before .before .before .before .before .before .before .before .before .before .before .before .read-clauses in
+    let clauses′ = c .before .before .before .before .before .before .before .before .before .before .clauses in
+    let note′ = c .before .before .before .before .note in
     for-read _ _ _ (environmentOf (args′ .dictionary .now) (args′ .around .now)) (relations-known _ (args′ .around .now)) (args′ .levels) _
     (pre′ .0) (enum-told′ .given .1) (read-opened′ .ensures (pre′ .0 .here) (prepared (pre′ .0 .given)) .for-opens (enum-told′ .given .1))
-    (opened′ .given .1) (read-clauses′ .ensures) (clauses′ .given .1) (note′ .ensures .0) (note′ .ensures .1)
+    (opened′ .given .1) (read-clauses′ .ensures) (clauses′ .given .1) (note′ .ensures .0) (note′ .ensures .1 .0) (note′ .ensures .1 .1)
 
 pub read-heading-spec : {M : Type 1} → statement M
 read-heading-spec =
@@ -135,7 +143,9 @@ read-heading-spec =
     enum-told-3
     same-length-3
     returns-3
+    sub-note
     note-requires
     same-length-4
     same-length-5
+    same-length-6
     returns-4)

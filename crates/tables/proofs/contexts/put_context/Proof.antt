@@ -1,5 +1,5 @@
 use native.Mathlib.Nat.{add-zero}
-use native.Mathlib.Numerals.{add-one, add-two, add-three, add-four}
+use native.Mathlib.Numerals.{add-one, add-two, add-three, add-four, add-five}
 use borrow.Author.Tests.{le-leb, lt-leb}
 use Rattle.wire.specs.Limits.{maxContexts}
 use borrow.Author.Needs.{needs}
@@ -45,23 +45,28 @@ add-put-5 c = search needs
 put-requires-5 : tie.Need-put-requires-5
 put-requires-5 c κs = search needs
 
+add-put-6 : tie.Need-add-put-6
+add-put-6 c = search needs
+
+put-requires-6 : tie.Need-put-requires-6
+put-requires-6 c κs = search needs
+
 same-length : tie.Need-same-length
 same-length c = search needs
 
 returns : tie.Need-returns
 returns c =
-    let args′ = c .before .before .before .before .before .before .before .before .before .before .before .before .before .before .before
-    .before .before .before .before .before .before .before .before .args in
-    let if1′ = c .before .before .before .before .before .before .before .before .before .before .before .before .before .before .before
-    .before .before .before .before .before .before .if1 in
-    let put5′ = c .before .before .put5 in
-    let put4′ = c .before .before .before .before .before .before .put4 in
-    let put3′ = c .before .before .before .before .before .before .before .before .before .before .put3 in
-    let put2′ = c .before .before .before .before .before .before .before .before .before .before .before .before .before .before .put2 in
-    let put′ = c .before .before .before .before .before .before .before .before .before .before .before .before .before .before .before
-    .before .before .before .put in
+    let args′ = c .before .before .before .before .before .before .before .before .before .before .before .before .before .before .before .before .before .before .before .before .before .before .before .before .before .before .before .args in
+    let if1′ = c .before .before .before .before .before .before .before .before .before .before .before .before .before .before .before .before .before .before .before .before .before .before .before .before .before .if1 in
+    let put6′ = c .before .before .put6 in
+    let put5′ = c .before .before .before .before .before .before .put5 in
+    let put4′ = c .before .before .before .before .before .before .before .before .before .before .put4 in
+    let put3′ = c .before .before .before .before .before .before .before .before .before .before .before .before .before .before .put3 in
+    let put2′ = c .before .before .before .before .before .before .before .before .before .before .before .before .before .before .before .before .before .before .put2 in
+    let put′ = c .before .before .before .before .before .before .before .before .before .before .before .before .before .before .before .before .before .before .before .before .before .before .put in
     rw (
       le-leb (args′ .row) maxContexts (if1′ .taken),
+      put6′ .ensures,
       put5′ .ensures,
       put4′ .ensures,
       put3′ .ensures,
@@ -72,6 +77,7 @@ returns c =
       add-two,
       add-three,
       add-four,
+      add-five,
     )
 
 returns-2 : tie.Need-returns-2
@@ -97,6 +103,8 @@ put-context-spec =
     put-requires-4
     add-put-5
     put-requires-5
+    add-put-6
+    put-requires-6
     same-length
     returns
     returns-2)

@@ -34,15 +34,20 @@ returns t c =
     let enum-told′ = c .enum-told in
     λ p h. if-stopped _ _ _ (args′ .level) p _ (read-boolean′ .ensures) (enum-told′ .given .1)
 
+pub sub-note : (t : ℕ) → read-if-lts.Need-sub-note (calls t) (read-if-at t) read-if.Post
+sub-note t c =
+    let pre′ = c .before .before .before .before .before .before .before .before .before .before .before .before .before .before .before .pre in
+    omega (arith, pre′ .1 .1 .1)
+
 pub note-requires : (t : ℕ) → read-if-lts.Need-note-requires (calls t) (read-if-at t) read-if.Post
 note-requires t c κs = search needs
 
 pub read-statement-requires : (t : ℕ) → read-if-lts.Need-read-statement-requires (calls t) (read-if-at t) read-if.Post
 read-statement-requires t c κs =
-    let pre′ = c .before .before .before .before .before .before .before .before .before .before .before .before .before .before .before .before .before .before .before .pre in
-    let read-boolean′ = c .before .before .before .before .before .before .before .before .before .before .before .before .read-boolean in
-    let b′ = c .before .before .before .before .before .before .before .before .b in
-    let note′ = c .before .before .before .before .before .note in (
+    let pre′ = c .before .before .before .before .before .before .before .before .before .before .before .before .before .before .before .before .before .before .before .before .before .before .before .pre in
+    let read-boolean′ = c .before .before .before .before .before .before .before .before .before .before .before .before .before .before .before .before .read-boolean in
+    let b′ = c .before .before .before .before .before .before .before .before .before .before .before .before .b in
+    let note′ = c .before .before .before .before .before .before .before .note in (
       omega (arith, pre′ .0),
       (
         boolean-given (pre′ .1 .0) _ _ _ (pre′ .1 .1 .1) (read-boolean′ .ensures) (b′ .given .1) (note′ .ensures .0),
@@ -67,15 +72,15 @@ same-length-4 t c = search needs
 
 pub returns-2 : (t : ℕ) → read-if-lts.Need-returns-2 (calls t) (read-if-at t) read-if.Post
 returns-2 t c =
-    let args′ = c .before .before .before .before .before .before .before .before .before .before .before .before .before .before .before .before .before .before .before .before .before .before .before .before .before .before .before .before .args in
-    let pre′ = c .before .before .before .before .before .before .before .before .before .before .before .before .before .before .before .before .before .before .before .before .before .before .before .before .before .before .before .before .pre in
-    let read-boolean′ = c .before .before .before .before .before .before .before .before .before .before .before .before .before .before .before .before .before .before .before .before .before .read-boolean in
-    let b′ = c .before .before .before .before .before .before .before .before .before .before .before .before .before .before .before .before .before .b in
-    let note′ = c .before .before .before .before .before .before .before .before .before .before .before .before .before .before .note in
+    let args′ = c .before .before .before .before .before .before .before .before .before .before .before .before .before .before .before .before .before .before .before .before .before .before .before .before .before .before .before .before .before .before .before .before .args in
+    let pre′ = c .before .before .before .before .before .before .before .before .before .before .before .before .before .before .before .before .before .before .before .before .before .before .before .before .before .before .before .before .before .before .before .before .pre in
+    let read-boolean′ = c .before .before .before .before .before .before .before .before .before .before .before .before .before .before .before .before .before .before .before .before .before .before .before .before .before .read-boolean in
+    let b′ = c .before .before .before .before .before .before .before .before .before .before .before .before .before .before .before .before .before .before .before .before .before .b in
+    let note′ = c .before .before .before .before .before .before .before .before .before .before .before .before .before .before .before .before .note in
     let read-statement′ = c .before .before .before .before .before .before .before .before .read-statement in
     let enum-told2′ = c .enum-told2 in
-    λ p h. first-stopped _ _ _ (args′ .level) p _ (condition-part (pre′ .1 .0) (omega (arith, h)) _ _ _ (read-boolean′ .ensures)
-    (b′ .given .1) (note′ .ensures .0) (note′ .ensures .1)) (read-statement′ .ensures) (enum-told2′ .given .1)
+    λ p h. first-stopped _ _ _ (args′ .level) p _ (condition-part (pre′ .1 .0) (omega (arith, h)) (pre′ .1 .1 .1) _ _ _ (read-boolean′ .ensures)
+    (b′ .given .1) (note′ .ensures .0) (note′ .ensures .1 .0) (note′ .ensures .1 .1)) (read-statement′ .ensures) (enum-told2′ .given .1)
 
 pub ending-at-requires : (t : ℕ) → read-if-lts.Need-ending-at-requires (calls t) (read-if-at t) read-if.Post
 ending-at-requires t c κs = search needs
@@ -88,11 +93,11 @@ enum-told-3 t c = search needs
 
 pub read-statement-requires-2 : (t : ℕ) → read-if-lts.Need-read-statement-requires-2 (calls t) (read-if-at t) read-if.Post
 read-statement-requires-2 t c κs =
-    let pre′ = c .before .before .before .before .before .before .before .before .before .before .before .before .before .before .before .before .before .before .before .before .before .before .before .before .before .before .before .before .before .before .before .before .before .before .before .pre in
-    let read-boolean′ = c .before .before .before .before .before .before .before .before .before .before .before .before .before .before .before .before .before .before .before .before .before .before .before .before .before .before .before .before .read-boolean in
-    let b′ = c .before .before .before .before .before .before .before .before .before .before .before .before .before .before .before .before .before .before .before .before .before .before .before .before .b in
-    let note′ = c .before .before .before .before .before .before .before .before .before .before .before .before .before .before .before .before .before .before .before .before .before .note in
-    let args′ = c .before .before .before .before .before .before .before .before .before .before .before .before .before .before .before .before .before .before .before .before .before .before .before .before .before .before .before .before .before .before .before .before .before .before .before .args in
+    let pre′ = c .before .before .before .before .before .before .before .before .before .before .before .before .before .before .before .before .before .before .before .before .before .before .before .before .before .before .before .before .before .before .before .before .before .before .before .before .before .before .before .pre in
+    let read-boolean′ = c .before .before .before .before .before .before .before .before .before .before .before .before .before .before .before .before .before .before .before .before .before .before .before .before .before .before .before .before .before .before .before .before .read-boolean in
+    let b′ = c .before .before .before .before .before .before .before .before .before .before .before .before .before .before .before .before .before .before .before .before .before .before .before .before .before .before .before .before .b in
+    let note′ = c .before .before .before .before .before .before .before .before .before .before .before .before .before .before .before .before .before .before .before .before .before .before .before .note in
+    let args′ = c .before .before .before .before .before .before .before .before .before .before .before .before .before .before .before .before .before .before .before .before .before .before .before .before .before .before .before .before .before .before .before .before .before .before .before .before .before .before .before .args in
     let read-statement′ = c .before .before .before .before .before .before .before .before .before .before .before .before .before .before .before .read-statement in
     let one′ = c .before .before .before .before .before .before .before .one in (
       omega (arith, pre′ .0),
@@ -113,7 +118,7 @@ same-length-5 t c = search needs
 pub same-length-6 : (t : ℕ) → read-if-lts.Need-same-length-6 (calls t) (read-if-at t) read-if.Post
 same-length-6 t c =
     let read-statement′ = c .before .before .before .before .before .before .before .before .before .before .before .before .before .read-statement in
-    let read-boolean′ = c .before .before .before .before .before .before .before .before .before .before .before .before .before .before .before .before .before .before .before .before .before .before .before .before .before .before .read-boolean in
+    let read-boolean′ = c .before .before .before .before .before .before .before .before .before .before .before .before .before .before .before .before .before .before .before .before .before .before .before .before .before .before .before .before .before .before .read-boolean in
     omega (arith, read-statement′ .kept .1 .1 .1 .1 .1 .0, read-boolean′ .kept .1 .1 .1 .1 .0)
 
 pub same-length-7 : (t : ℕ) → read-if-lts.Need-same-length-7 (calls t) (read-if-at t) read-if.Post
@@ -121,51 +126,55 @@ same-length-7 t c = search needs
 
 pub returns-3 : (t : ℕ) → read-if-lts.Need-returns-3 (calls t) (read-if-at t) read-if.Post
 returns-3 t c =
-    let args′ = c .before .before .before .before .before .before .before .before .before .before .before .before .before .before .before .before .before .before .before .before .before .before .before .before .before .before .before .before .before .before .before .before .before .args in
-    let pre′ = c .before .before .before .before .before .before .before .before .before .before .before .before .before .before .before .before .before .before .before .before .before .before .before .before .before .before .before .before .before .before .before .before .before .pre in
-    let read-boolean′ = c .before .before .before .before .before .before .before .before .before .before .before .before .before .before .before .before .before .before .before .before .before .before .before .before .before .before .read-boolean in
-    let b′ = c .before .before .before .before .before .before .before .before .before .before .before .before .before .before .before .before .before .before .before .before .before .before .b in
-    let note′ = c .before .before .before .before .before .before .before .before .before .before .before .before .before .before .before .before .before .before .before .note in
+    let args′ = c .before .before .before .before .before .before .before .before .before .before .before .before .before .before .before .before .before .before .before .before .before .before .before .before .before .before .before .before .before .before .before .before .before .before .before .before .before .args in
+    let pre′ = c .before .before .before .before .before .before .before .before .before .before .before .before .before .before .before .before .before .before .before .before .before .before .before .before .before .before .before .before .before .before .before .before .before .before .before .before .before .pre in
+    let read-boolean′ = c .before .before .before .before .before .before .before .before .before .before .before .before .before .before .before .before .before .before .before .before .before .before .before .before .before .before .before .before .before .before .read-boolean in
+    let b′ = c .before .before .before .before .before .before .before .before .before .before .before .before .before .before .before .before .before .before .before .before .before .before .before .before .before .before .b in
+    let note′ = c .before .before .before .before .before .before .before .before .before .before .before .before .before .before .before .before .before .before .before .before .before .note in
     let read-statement′ = c .before .before .before .before .before .before .before .before .before .before .before .before .before .read-statement in
     let one′ = c .before .before .before .before .before .one in
     let ending-at′ = c .before .before .before .ending-at in
     let after′ = c .before .after in
-    λ p h. if-done _ _ _ (args′ .level) p _ (condition-part (pre′ .1 .0) (omega (arith, h)) _ _ _ (read-boolean′ .ensures) (b′ .given .1)
-    (note′ .ensures .0) (note′ .ensures .1)) h (pre′ .1 .1 .0)
+    λ p h. if-done _ _ _ (args′ .level) p _ (condition-part (pre′ .1 .0) (omega (arith, h)) (pre′ .1 .1 .1) _ _ _ (read-boolean′ .ensures) (b′ .given .1)
+    (note′ .ensures .0) (note′ .ensures .1 .0) (note′ .ensures .1 .1)) h (pre′ .1 .1 .0)
     (statement-part _ _ _ (args′ .level) _ (pre′ .1 .0 .octets) (read-statement′ .ensures) (one′ .given .1)) (ending-at′ .ensures)
     (after′ .given .1)
 
 pub same-length-8 : (t : ℕ) → read-if-lts.Need-same-length-8 (calls t) (read-if-at t) read-if.Post
-same-length-8 t c = search needs
+same-length-8 t c =
+    let read-statement2′ = c .before .before .before .before .before .before .read-statement2 in
+    let read-statement′ = c .before .before .before .before .before .before .before .before .before .before .before .before .before .before .before .before .before .before .before .before .before .before .read-statement in
+    let note′ = c .before .before .before .before .before .before .before .before .before .before .before .before .before .before .before .before .before .before .before .before .before .before .before .before .before .before .before .before .before .before .note in
+    omega (arith, read-statement2′ .kept .1 .1 .1 .1 .0, read-statement′ .kept .1 .1 .1 .1 .0, note′ .kept .0)
 
 pub same-length-9 : (t : ℕ) → read-if-lts.Need-same-length-9 (calls t) (read-if-at t) read-if.Post
 same-length-9 t c =
     let read-statement2′ = c .before .before .before .before .before .before .read-statement2 in
     let read-statement′ = c .before .before .before .before .before .before .before .before .before .before .before .before .before .before .before .before .before .before .before .before .before .before .read-statement in
-    let read-boolean′ = c .before .before .before .before .before .before .before .before .before .before .before .before .before .before .before .before .before .before .before .before .before .before .before .before .before .before .before .before .before .before .before .before .before .before .before .read-boolean in
+    let read-boolean′ = c .before .before .before .before .before .before .before .before .before .before .before .before .before .before .before .before .before .before .before .before .before .before .before .before .before .before .before .before .before .before .before .before .before .before .before .before .before .before .before .read-boolean in
     omega (arith, read-statement2′ .kept .1 .1 .1 .1 .1 .0, read-statement′ .kept .1 .1 .1 .1 .1 .0, read-boolean′ .kept .1 .1 .1 .1 .0)
 
 pub same-length-10 : (t : ℕ) → read-if-lts.Need-same-length-10 (calls t) (read-if-at t) read-if.Post
 same-length-10 t c =
     let read-statement2′ = c .before .before .before .before .before .before .read-statement2 in
     let read-statement′ = c .before .before .before .before .before .before .before .before .before .before .before .before .before .before .before .before .before .before .before .before .before .before .read-statement in
-    let note′ = c .before .before .before .before .before .before .before .before .before .before .before .before .before .before .before .before .before .before .before .before .before .before .before .before .before .before .before .before .note in
-    omega (arith, read-statement2′ .kept .1 .1 .1 .1 .1 .1 .0, read-statement′ .kept .1 .1 .1 .1 .1 .1 .0, note′ .kept .0)
+    let note′ = c .before .before .before .before .before .before .before .before .before .before .before .before .before .before .before .before .before .before .before .before .before .before .before .before .before .before .before .before .before .before .note in
+    omega (arith, read-statement2′ .kept .1 .1 .1 .1 .1 .1 .0, read-statement′ .kept .1 .1 .1 .1 .1 .1 .0, note′ .kept .1 .0)
 
 pub returns-4 : (t : ℕ) → read-if-lts.Need-returns-4 (calls t) (read-if-at t) read-if.Post
 returns-4 t c =
-    let args′ = c .before .before .before .before .before .before .before .before .before .before .before .before .before .before .before .before .before .before .before .before .before .before .before .before .before .before .before .before .before .before .before .before .before .before .before .before .before .before .before .before .before .before .args in
-    let pre′ = c .before .before .before .before .before .before .before .before .before .before .before .before .before .before .before .before .before .before .before .before .before .before .before .before .before .before .before .before .before .before .before .before .before .before .before .before .before .before .before .before .before .before .pre in
-    let read-boolean′ = c .before .before .before .before .before .before .before .before .before .before .before .before .before .before .before .before .before .before .before .before .before .before .before .before .before .before .before .before .before .before .before .before .before .before .before .read-boolean in
-    let b′ = c .before .before .before .before .before .before .before .before .before .before .before .before .before .before .before .before .before .before .before .before .before .before .before .before .before .before .before .before .before .before .before .b in
-    let note′ = c .before .before .before .before .before .before .before .before .before .before .before .before .before .before .before .before .before .before .before .before .before .before .before .before .before .before .before .before .note in
+    let args′ = c .before .before .before .before .before .before .before .before .before .before .before .before .before .before .before .before .before .before .before .before .before .before .before .before .before .before .before .before .before .before .before .before .before .before .before .before .before .before .before .before .before .before .before .before .before .before .args in
+    let pre′ = c .before .before .before .before .before .before .before .before .before .before .before .before .before .before .before .before .before .before .before .before .before .before .before .before .before .before .before .before .before .before .before .before .before .before .before .before .before .before .before .before .before .before .before .before .before .before .pre in
+    let read-boolean′ = c .before .before .before .before .before .before .before .before .before .before .before .before .before .before .before .before .before .before .before .before .before .before .before .before .before .before .before .before .before .before .before .before .before .before .before .before .before .before .before .read-boolean in
+    let b′ = c .before .before .before .before .before .before .before .before .before .before .before .before .before .before .before .before .before .before .before .before .before .before .before .before .before .before .before .before .before .before .before .before .before .before .before .b in
+    let note′ = c .before .before .before .before .before .before .before .before .before .before .before .before .before .before .before .before .before .before .before .before .before .before .before .before .before .before .before .before .before .before .note in
     let read-statement′ = c .before .before .before .before .before .before .before .before .before .before .before .before .before .before .before .before .before .before .before .before .before .before .read-statement in
     let one′ = c .before .before .before .before .before .before .before .before .before .before .before .before .before .before .one in
     let ending-at′ = c .before .before .before .before .before .before .before .before .before .before .before .before .ending-at in
     let enum-told3′ = c .before .before .before .before .before .before .before .before .before .before .enum-told3 in
     let read-statement2′ = c .before .before .before .before .before .before .read-statement2 in
-    λ p h. if-goes _ _ _ (args′ .level) p _ (condition-part (pre′ .1 .0) (omega (arith, h)) _ _ _ (read-boolean′ .ensures) (b′ .given .1)
-    (note′ .ensures .0) (note′ .ensures .1)) h (pre′ .1 .1 .0)
+    λ p h. if-goes _ _ _ (args′ .level) p _ (condition-part (pre′ .1 .0) (omega (arith, h)) (pre′ .1 .1 .1) _ _ _ (read-boolean′ .ensures) (b′ .given .1)
+    (note′ .ensures .0) (note′ .ensures .1 .0) (note′ .ensures .1 .1)) h (pre′ .1 .1 .0)
     (statement-part _ _ _ (args′ .level) _ (pre′ .1 .0 .octets) (read-statement′ .ensures) (one′ .given .1)) (ending-at′ .ensures)
     (pre′ .1 .0 .octets) (enum-told3′ .given .1) (read-statement2′ .ensures)
 
@@ -175,7 +184,7 @@ same-length-11 t c = search needs
 pub same-length-12 : (t : ℕ) → read-if-lts.Need-same-length-12 (calls t) (read-if-at t) read-if.Post
 same-length-12 t c =
     let read-statement′ = c .before .before .before .before .before .before .before .before .before .before .before .before .before .read-statement in
-    let read-boolean′ = c .before .before .before .before .before .before .before .before .before .before .before .before .before .before .before .before .before .before .before .before .before .before .before .before .before .before .read-boolean in
+    let read-boolean′ = c .before .before .before .before .before .before .before .before .before .before .before .before .before .before .before .before .before .before .before .before .before .before .before .before .before .before .before .before .before .before .read-boolean in
     omega (arith, read-statement′ .kept .1 .1 .1 .1 .1 .0, read-boolean′ .kept .1 .1 .1 .1 .0)
 
 pub same-length-13 : (t : ℕ) → read-if-lts.Need-same-length-13 (calls t) (read-if-at t) read-if.Post
@@ -183,16 +192,16 @@ same-length-13 t c = search needs
 
 pub returns-5 : (t : ℕ) → read-if-lts.Need-returns-5 (calls t) (read-if-at t) read-if.Post
 returns-5 t c =
-    let args′ = c .before .before .before .before .before .before .before .before .before .before .before .before .before .before .before .before .before .before .before .before .before .before .before .before .before .before .before .before .before .before .before .before .before .args in
-    let pre′ = c .before .before .before .before .before .before .before .before .before .before .before .before .before .before .before .before .before .before .before .before .before .before .before .before .before .before .before .before .before .before .before .before .before .pre in
-    let read-boolean′ = c .before .before .before .before .before .before .before .before .before .before .before .before .before .before .before .before .before .before .before .before .before .before .before .before .before .before .read-boolean in
-    let b′ = c .before .before .before .before .before .before .before .before .before .before .before .before .before .before .before .before .before .before .before .before .before .before .b in
-    let note′ = c .before .before .before .before .before .before .before .before .before .before .before .before .before .before .before .before .before .before .before .note in
+    let args′ = c .before .before .before .before .before .before .before .before .before .before .before .before .before .before .before .before .before .before .before .before .before .before .before .before .before .before .before .before .before .before .before .before .before .before .before .before .before .args in
+    let pre′ = c .before .before .before .before .before .before .before .before .before .before .before .before .before .before .before .before .before .before .before .before .before .before .before .before .before .before .before .before .before .before .before .before .before .before .before .before .before .pre in
+    let read-boolean′ = c .before .before .before .before .before .before .before .before .before .before .before .before .before .before .before .before .before .before .before .before .before .before .before .before .before .before .before .before .before .before .read-boolean in
+    let b′ = c .before .before .before .before .before .before .before .before .before .before .before .before .before .before .before .before .before .before .before .before .before .before .before .before .before .before .b in
+    let note′ = c .before .before .before .before .before .before .before .before .before .before .before .before .before .before .before .before .before .before .before .before .before .note in
     let read-statement′ = c .before .before .before .before .before .before .before .before .before .before .before .before .before .read-statement in
     let one′ = c .before .before .before .before .before .one in
     let ending-at′ = c .before .before .before .ending-at in
     let r′ = c .before .r in
-    λ p h. if-cut _ _ _ (args′ .level) p _ (condition-part (pre′ .1 .0) (omega (arith, h)) _ _ _ (read-boolean′ .ensures) (b′ .given .1)
-    (note′ .ensures .0) (note′ .ensures .1)) h (pre′ .1 .1 .0)
+    λ p h. if-cut _ _ _ (args′ .level) p _ (condition-part (pre′ .1 .0) (omega (arith, h)) (pre′ .1 .1 .1) _ _ _ (read-boolean′ .ensures) (b′ .given .1)
+    (note′ .ensures .0) (note′ .ensures .1 .0) (note′ .ensures .1 .1)) h (pre′ .1 .1 .0)
     (statement-part _ _ _ (args′ .level) _ (pre′ .1 .0 .octets) (read-statement′ .ensures) (one′ .given .1)) (ending-at′ .ensures)
     (r′ .given .1)
