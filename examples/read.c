@@ -1,37 +1,97 @@
-/* Reads document 01's request S beside the relation BEDS, and prints the counts of rows or the refusal.
+/* Reads a request beside the dictionary of a house, and prints its rows as the program greenblr-listing does, or the refusal in words.
  *
- *     rt staticlib exports
- *     cc -Iinclude examples/read.c target/staticlib/libexports.a -o read && ./read
+ *     cc read.c $(pkg-config --cflags --libs greenblr) -o read
+ *     ./read            the request below
+ *     ./read 04024c..   a request in hex
  */
+#include <greenblr.h>
 #include <stdio.h>
+#include <string.h>
 
-#include "blr.h"
-
+/* Relation 1, BEDS: HEAT, a reading in tenths of a degree, and NAME, a text of 4. */
 static const uint8_t dictionary[] = {
-    11, 0, 1, 0, 1, 0, 4, 'B', 'E', 'D', 'S',                     /* relation 1, BEDS */
-    15, 0, 2, 0, 0, 0, 200, 255, 2, 0, 4, 'H', 'E', 'A', 'T',     /* field 0, HEAT: a reading of scale -1 */
-    15, 0, 2, 0, 1, 0, 14, 0, 4, 0, 4, 'N', 'A', 'M', 'E',        /* field 1, NAME: a text of 4 */
+    11, 0, 1, 0, 1, 0, 4, 'B', 'E', 'D', 'S',
+    15, 0, 2, 0, 0, 0, GREENBLR_CODE_HOUSE_READING, 255, 2, 0, 4, 'H', 'E', 'A', 'T',
+    15, 0, 2, 0, 1, 0, GREENBLR_CODE_TEXT, 0, 4, 0, 4, 'N', 'A', 'M', 'E',
 };
 
-static const uint8_t request[] = {
-    0x04, 0x02, 0x04, 0x00, 0x01, 0x00, 0x07, 0x00, 0x07, 0x43, 0x01, 0x4B, 0x01, 0x00,
-    0x00, 0x47, 0x31, 0x18, 0x00, 0x00, 0x00, 0x15, 0x07, 0xFF, 0x2C, 0x01, 0xFF, 0x0E,
-    0x00, 0x01, 0x15, 0x07, 0x00, 0x01, 0x00, 0x19, 0x00, 0x00, 0x00, 0xFF, 0x4C,
+/* For each bed whose HEAT is above 30.0, send message 0 with the number 1. */
+static const uint8_t hot_beds[] = {
+    GREENBLR_CODE_VERSION4,
+    GREENBLR_CODE_BEGIN,
+    GREENBLR_CODE_MESSAGE, 0, 1, 0,
+        GREENBLR_CODE_SHORT, 0,
+    GREENBLR_CODE_FOR,
+        GREENBLR_CODE_RSE, 1,
+            GREENBLR_CODE_RID, 1, 0, 0,
+            GREENBLR_CODE_BOOLEAN,
+                GREENBLR_CODE_GTR,
+                    GREENBLR_CODE_FID, 0, 0, 0,
+                    GREENBLR_CODE_LITERAL, GREENBLR_CODE_SHORT, 255, 300 & 255, 300 >> 8,
+        GREENBLR_CODE_END,
+        GREENBLR_CODE_SEND, 0,
+            GREENBLR_CODE_ASSIGNMENT,
+                GREENBLR_CODE_LITERAL, GREENBLR_CODE_SHORT, 0, 1, 0,
+                GREENBLR_CODE_PARAMETER, 0, 0, 0,
+    GREENBLR_CODE_END,
+    GREENBLR_CODE_EOC,
 };
 
-int main(void)
+/* The bytes of a text in hex: how many there are, or -1 if it is none, or longer than a request can be. */
+static long bytes_of(const char *hex, uint8_t *bytes)
 {
-    static uint32_t statements[BLR_STATEMENT_NUMBERS];
-    static uint32_t parameters[BLR_PARAMETER_NUMBERS];
-    static uint32_t contexts[BLR_CONTEXT_NUMBERS];
+    size_t length = strlen(hex);
+    if (length % 2 != 0 || length / 2 > GREENBLR_MAX_REQUEST_BYTES || strspn(hex, "0123456789abcdefABCDEF") != length)
+        return -1;
+    for (size_t i = 0; i < length / 2; i++) {
+        unsigned byte = 0;
+        sscanf(hex + 2 * i, "%2x", &byte);
+        bytes[i] = (uint8_t)byte;
+    }
+    return (long)(length / 2);
+}
+
+static void print_rows(const char *name, const uint32_t *table, size_t count, size_t row)
+{
+    for (size_t n = 0; n < count; n++) {
+        printf("%s", name);
+        for (size_t i = 0; i < row; i++)
+            printf(" %lu", (unsigned long)table[n * row + i]);
+        printf("\n");
+    }
+}
+
+static int read_and_print(const uint8_t *request, size_t length)
+{
+    static uint32_t statements[GREENBLR_STATEMENT_TABLE];
+    static uint32_t parameters[GREENBLR_PARAMETER_TABLE];
+    static uint32_t contexts[GREENBLR_CONTEXT_TABLE];
     size_t answer[3];
-    uint32_t refusal = blr_read(request, sizeof request, dictionary, sizeof dictionary,
-                                statements, BLR_STATEMENT_NUMBERS, parameters, BLR_PARAMETER_NUMBERS,
-                                contexts, BLR_CONTEXT_NUMBERS, answer);
-    if (refusal != 0) {
-        printf("refused %u at %zu\n", (unsigned)refusal, answer[0]);
+    uint32_t refusal = greenblr_read(request, length, dictionary, sizeof dictionary,
+                                     statements, GREENBLR_STATEMENT_TABLE,
+                                     parameters, GREENBLR_PARAMETER_TABLE,
+                                     contexts, GREENBLR_CONTEXT_TABLE, answer);
+    if (refusal != GREENBLR_REFUSAL_NONE) {
+        printf("refused %lu at %zu: %s\n", (unsigned long)refusal, answer[0], greenblr_refusal_text(refusal));
         return 1;
     }
-    printf("%zu statements, %zu parameters, %zu contexts\n", answer[0], answer[1], answer[2]);
+    printf("request %zu\n", length);
+    print_rows("statement", statements, answer[0], GREENBLR_STATEMENT_ROW);
+    print_rows("parameter", parameters, answer[1], GREENBLR_PARAMETER_ROW);
+    print_rows("context", contexts, answer[2], GREENBLR_CONTEXT_ROW);
     return 0;
+}
+
+int main(int count, char **words)
+{
+    static uint8_t given[GREENBLR_MAX_REQUEST_BYTES];
+    long length;
+    if (count < 2)
+        return read_and_print(hot_beds, sizeof hot_beds);
+    length = bytes_of(words[1], given);
+    if (length < 0) {
+        fprintf(stderr, "not a request in hex\n");
+        return 2;
+    }
+    return read_and_print(given, (size_t)length);
 }

@@ -1,12 +1,12 @@
 //! The proved functions, behind safe ones. Nothing checks these declarations against the Rattle source
-//! `crates/exports/src/lib.rt`, `crates/exports/src/stores.rt` and `crates/leaf_exports/src/lib.rt`: they pass numbers and slices only, and every function there is total.
+//! `crates/greenblr/src/lib.rt`, `crates/greenblr/src/stores.rt` and `crates/leaf_exports/src/lib.rt`: they pass numbers and slices only, and every function there is total.
 
 use second::store::Call;
 use std::cmp::Ordering;
 
 #[allow(improper_ctypes)]
 extern "C" {
-    fn blr_read(
+    fn greenblr_read(
         request: *const u8,
         request_length: usize,
         dictionary: *const u8,
@@ -19,7 +19,7 @@ extern "C" {
         contexts_length: usize,
         answer: *mut usize,
     ) -> u32;
-    fn blr_evaluate(
+    fn greenblr_evaluate(
         request: *const u8,
         request_length: usize,
         dictionary: *const u8,
@@ -30,7 +30,7 @@ extern "C" {
         records: *const u8,
         records_length: usize,
     ) -> u64;
-    fn blr_store_make(
+    fn greenblr_store_make(
         dictionary: *const u8,
         dictionary_length: usize,
         buffer: *mut u8,
@@ -38,7 +38,7 @@ extern "C" {
         relation: u32,
         answer: *mut usize,
     ) -> u32;
-    fn blr_store_add(
+    fn greenblr_store_add(
         dictionary: *const u8,
         dictionary_length: usize,
         buffer: *mut u8,
@@ -47,7 +47,7 @@ extern "C" {
         entry_length: usize,
         answer: *mut usize,
     ) -> u32;
-    fn blr_store_erase(
+    fn greenblr_store_erase(
         dictionary: *const u8,
         dictionary_length: usize,
         buffer: *mut u8,
@@ -55,7 +55,7 @@ extern "C" {
         position: usize,
         answer: *mut usize,
     ) -> u32;
-    fn blr_store_replace(
+    fn greenblr_store_replace(
         dictionary: *const u8,
         dictionary_length: usize,
         buffer: *mut u8,
@@ -65,14 +65,14 @@ extern "C" {
         entry_length: usize,
         answer: *mut usize,
     ) -> u32;
-    fn blr_store_read(
+    fn greenblr_store_read(
         dictionary: *const u8,
         dictionary_length: usize,
         buffer: *const u8,
         buffer_length: usize,
         answer: *mut usize,
     ) -> u32;
-    fn blr_store_find(
+    fn greenblr_store_find(
         dictionary: *const u8,
         dictionary_length: usize,
         buffer: *const u8,
@@ -282,7 +282,7 @@ pub fn read(
     let mut answer = [usize::MAX; 3];
     // Each slice passes as a pointer and its length, and is borrowed for the call alone.
     let number = unsafe {
-        blr_read(
+        greenblr_read(
             request.as_ptr(),
             request.len(),
             dictionary.as_ptr(),
@@ -302,7 +302,7 @@ pub fn read(
     }
 }
 
-/// The answer of an evaluation, as include/blr.h lays it out.
+/// The answer of an evaluation, as include/greenblr.h lays it out.
 pub fn evaluation(
     request: &[u8],
     dictionary: &[u8],
@@ -312,7 +312,7 @@ pub fn evaluation(
 ) -> u64 {
     // Each slice passes as a pointer and its length, and is borrowed for the call alone.
     unsafe {
-        blr_evaluate(
+        greenblr_evaluate(
             request.as_ptr(),
             request.len(),
             dictionary.as_ptr(),
@@ -370,14 +370,14 @@ pub fn store_call(dictionary: &[u8], buffer: &mut [u8], call: &Call) -> Result<(
     // Each slice passes as a pointer and its length, and is borrowed for the call alone.
     let number = unsafe {
         match call {
-            Call::Make(id) => blr_store_make(words, length, bytes, room, *id, out),
+            Call::Make(id) => greenblr_store_make(words, length, bytes, room, *id, out),
             Call::Add(entry) => {
-                blr_store_add(words, length, bytes, room, entry.as_ptr(), entry.len(), out)
+                greenblr_store_add(words, length, bytes, room, entry.as_ptr(), entry.len(), out)
             }
-            Call::Erase(position) => blr_store_erase(words, length, bytes, room, *position, out),
+            Call::Erase(position) => greenblr_store_erase(words, length, bytes, room, *position, out),
             Call::Replace(position, entry) => {
                 let (pointer, size) = (entry.as_ptr(), entry.len());
-                blr_store_replace(words, length, bytes, room, *position, pointer, size, out)
+                greenblr_store_replace(words, length, bytes, room, *position, pointer, size, out)
             }
         }
     };
@@ -389,7 +389,7 @@ pub fn store_read(dictionary: &[u8], buffer: &[u8]) -> Result<[usize; 3], (u32, 
     let mut answer = [usize::MAX; 3];
     let (bytes, room) = (buffer.as_ptr(), buffer.len());
     let out = answer.as_mut_ptr();
-    let number = unsafe { blr_store_read(dictionary.as_ptr(), dictionary.len(), bytes, room, out) };
+    let number = unsafe { greenblr_store_read(dictionary.as_ptr(), dictionary.len(), bytes, room, out) };
     stored(number, answer)
 }
 
@@ -403,7 +403,7 @@ pub fn store_find(
     let (bytes, room) = (buffer.as_ptr(), buffer.len());
     let out = answer.as_mut_ptr();
     let number = unsafe {
-        blr_store_find(dictionary.as_ptr(), dictionary.len(), bytes, room, position, out)
+        greenblr_store_find(dictionary.as_ptr(), dictionary.len(), bytes, room, position, out)
     };
     stored(number, answer)
 }
