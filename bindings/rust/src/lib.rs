@@ -1,7 +1,7 @@
 //! greenblr reads BLR requests, evaluates their conditions over the records of a greenhouse, and keeps records in a buffer. BLR
 //! is the binary request language of the InterBase and Rdb family. This crate calls the proved library `libgreenblr.a`.
 //!
-//! A node that can't measure sends 65535. That is no reading: a condition that needs it comes out as
+//! A node that can't measure sends 65535. That is no reading: a comparison with it comes out as
 //! [`Truth::Missing`], and never as an answer about 65535.
 //!
 //! - [`Dictionary::new`] takes the relations and fields that all else is read beside.
