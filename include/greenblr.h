@@ -3,7 +3,7 @@
  * BLR is the binary request language of the InterBase and Rdb family. The library checks a request beside a house dictionary
  * and lists what it holds (greenblr_read), evaluates a condition of it over records (greenblr_evaluate), and keeps the records
  * of one relation in a buffer of the caller's (greenblr_store_make and five more). A node that can't measure sends 65535: that is
- * no reading, and a condition that needs it comes out as missing.
+ * no reading, and a comparison with it is missing, neither true nor false.
  *
  * All calls
  * - Every call returns, whatever the bytes are; nothing has to be tested before it. This is proved, and so is what each call gives.
@@ -15,7 +15,7 @@
  * - The library trusts its caller in this alone: that a pointer has as much behind it as its length says.
  *
  * Machines: the archive is for x86-64 Linux with 64-bit pointers, and needs memcpy and memset of the C library, nothing else.
- * C99 and later, and C++, can include this header. Stack: the requests that were tried use up to 427 kilobytes, which is measured
+ * C99 and later, and C++, can include this header. Stack: the requests that were tried use up to 52 kilobytes, which is measured
  * and not proved.
  *
  * Names: all start with greenblr_ or GREENBLR_, so this header can stand in one file with InterBase's ibase.h and blr.h, in
@@ -292,7 +292,7 @@ uint32_t greenblr_store_add(const uint8_t *dictionary, size_t dictionary_length,
                             uint8_t *buffer, size_t buffer_length,
                             const uint8_t *entry, size_t entry_length, size_t answer[3]);
 
-/* Takes the record at a position out; those after it move down by one. answer: zeros. */
+/* Takes the record at a position out; those after it move down by one position. answer: zeros. */
 uint32_t greenblr_store_erase(const uint8_t *dictionary, size_t dictionary_length,
                               uint8_t *buffer, size_t buffer_length,
                               size_t position, size_t answer[3]);
