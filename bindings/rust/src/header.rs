@@ -66,6 +66,7 @@ fn rows_are_the_headers() {
         ("MAX_STATEMENTS", MAX_STATEMENTS),
         ("MAX_PARAMETERS", MAX_PARAMETERS),
         ("MAX_CONTEXTS", MAX_CONTEXTS),
+        ("STORE_HEADER", STORE_HEADER),
     ] {
         assert_eq!(named(name), Some(number), "{name}");
     }

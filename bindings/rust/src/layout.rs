@@ -31,3 +31,6 @@ pub const MAX_CONTEXTS: usize = 32;
 pub const STATEMENT_TABLE: usize = MAX_STATEMENTS * STATEMENT_ROW;
 pub const PARAMETER_TABLE: usize = MAX_PARAMETERS * PARAMETER_ROW;
 pub const CONTEXT_TABLE: usize = MAX_CONTEXTS * CONTEXT_ROW;
+
+/// The bytes of a store's header; the entries of its records follow.
+pub const STORE_HEADER: usize = 10;

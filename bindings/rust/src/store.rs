@@ -1,6 +1,7 @@
 //! A store: the records of one relation in a buffer of the caller's.
 
 use crate::ffi::{self, Answered};
+use crate::layout::STORE_HEADER as HEADER;
 use crate::refusal::Refusal;
 use crate::request::Dictionary;
 
@@ -104,9 +105,15 @@ impl<'a> Store<'a> {
         self.buffer.get(place..place.checked_add(length)?)
     }
 
-    /// The entries of the records in order. Each step finds its record anew.
+    /// The entries of the records in order. The buffer is tested once, and then gone through by the lengths of the entries.
     pub fn iter(&self) -> impl Iterator<Item = &[u8]> + '_ {
-        (0..self.len()).filter_map(|position| self.get(position))
+        let mut rest = self.buffer.get(HEADER..).unwrap_or_default();
+        (0..self.len()).map_while(move |_| {
+            let length = usize::from(u16::from_le_bytes([*rest.first()?, *rest.get(1)?]));
+            let entry = rest.get(..length)?;
+            rest = &rest[length..];
+            Some(entry)
+        })
     }
 
     /// The bytes of the buffer: a header, the records, zeros.

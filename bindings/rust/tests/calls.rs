@@ -177,6 +177,7 @@ fn a_store_is_a_list() {
     }
     assert_eq!((store.len(), store.missing_count()), (3, 1));
     assert_eq!(store.iter().count(), 3);
+    assert!(store.iter().enumerate().all(|(i, entry)| store.get(i) == Some(entry)));
     assert_eq!(store.get(1), Some(&bed(Field::Reading(300))[..]));
     // 65535 has got its missing bit, and its bytes stay
     assert_eq!(store.get(2).unwrap()[6..9], [1, 255, 255]);
