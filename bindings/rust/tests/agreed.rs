@@ -1,0 +1,136 @@
+//! The evaluations and calls on stores of second/tests/agreed through this crate: answers, causes, refusals, places, buffers.
+
+use greenblr::{Cause, Dictionary, Refusal, Request, Store, Truth};
+use std::fs;
+
+fn lines(name: &str) -> Vec<String> {
+    let path = format!("{}/../../second/tests/agreed/{name}", env!("CARGO_MANIFEST_DIR"));
+    let text = fs::read_to_string(&path).unwrap_or_else(|error| panic!("{path}: {error}"));
+    text.lines().map(str::to_string).collect()
+}
+
+/// Bytes in hex: `-` for none, `(bb*count)` for a run.
+fn bytes(text: &str) -> Vec<u8> {
+    let mut made = Vec::new();
+    let mut rest = text.trim_start_matches('-');
+    let byte = |pair: &str| u8::from_str_radix(pair, 16).expect("hex");
+    while !rest.is_empty() {
+        if let Some((run, after)) = rest.strip_prefix('(').and_then(|run| run.split_once(')')) {
+            let (pair, count) = run.split_once('*').expect("a run");
+            made.resize(made.len() + count.parse::<usize>().expect("a count"), byte(pair));
+            rest = after;
+        } else {
+            made.push(byte(&rest[..2]));
+            rest = &rest[2..];
+        }
+    }
+    made
+}
+
+fn refused(refusal: Refusal) -> String {
+    format!("refused {} {}", refusal.number(), refusal.place())
+}
+
+/// The outcome of an evaluation in the words of the files.
+fn outcome(words: &[&str]) -> Result<String, Refusal> {
+    let ["evaluate", dictionary, request, condition, messages, records] = words else {
+        panic!("no evaluation: {words:?}");
+    };
+    let (dictionary, request) = (bytes(dictionary), bytes(request));
+    let dictionary = Dictionary::new(&dictionary)?;
+    let request = Request::read(&dictionary, &request)?;
+    let condition = condition.parse().expect("a number");
+    Ok(match request.evaluate(condition, &bytes(messages), &bytes(records))? {
+        Truth::True => "true".to_string(),
+        Truth::False => "false".to_string(),
+        Truth::Missing(Cause::Bit) => "missing bit".to_string(),
+        Truth::Missing(Cause::Reading) => "missing reading".to_string(),
+        Truth::Missing(Cause::Flag) => "missing flag".to_string(),
+        other => format!("{other:?}"),
+    })
+}
+
+#[test]
+fn evaluations_agree() {
+    for (name, count) in [("evaluations.txt", 166), ("no-01.txt", 28), ("no-03.txt", 42)] {
+        let lines = lines(name);
+        assert_eq!(lines.len(), count);
+        for line in lines {
+            let (input, due) = line.split_once(" = ").expect("an outcome");
+            let words: Vec<&str> = input.split(' ').collect();
+            let given = outcome(&words).unwrap_or_else(refused);
+            // Two of the files were agreed on without causes.
+            let given = if due == "missing" { &given[..due.len()] } else { &given[..] };
+            assert_eq!(given, due, "{line}");
+        }
+    }
+}
+
+/// What a call on a store leaves in the buffer, or what reading it tells, in the words of the files.
+fn called(dictionary: &[u8], buffer: &mut [u8], call: &[&str]) -> Result<Option<String>, Refusal> {
+    let dictionary = Dictionary::new(dictionary)?;
+    let position = |word: &str| word.parse::<usize>().expect("a position");
+    match call {
+        ["make", id] => {
+            Store::make(&dictionary, buffer, id.parse().expect("an id"))?;
+        }
+        ["add", entry] => Store::open(&dictionary, buffer)?.add(&bytes(entry))?,
+        ["erase", at] => Store::open(&dictionary, buffer)?.erase(position(at))?,
+        ["replace", at, entry] => {
+            Store::open(&dictionary, buffer)?.replace(position(at), &bytes(entry))?;
+        }
+        ["records"] => {
+            let store = Store::open(&dictionary, buffer)?;
+            let mut told =
+                format!("relation {} missing {} records", store.relation(), store.missing_count());
+            if store.is_empty() {
+                told.push_str(" none");
+            }
+            for entry in store.iter() {
+                told.push(' ');
+                entry.iter().for_each(|byte| told.push_str(&format!("{byte:02x}")));
+            }
+            return Ok(Some(told));
+        }
+        _ => panic!("no call: {call:?}"),
+    }
+    Ok(None)
+}
+
+/// Whether two tellings of a store are the same, runs of equal bytes written out.
+fn same(given: &str, due: &str) -> bool {
+    let plain = |text: &str| -> Vec<String> {
+        text.split(' ')
+            .enumerate()
+            .map(|(i, word)| if i < 5 { word.to_string() } else { written_out(word) })
+            .collect()
+    };
+    plain(given) == plain(due)
+}
+
+fn written_out(word: &str) -> String {
+    match word {
+        "none" => word.to_string(),
+        _ => format!("{:?}", bytes(word)),
+    }
+}
+
+#[test]
+fn stores_agree() {
+    let lines = lines("no-10.txt");
+    assert_eq!(lines.len(), 126);
+    for line in lines {
+        let (input, due) = line.split_once(" = ").expect("an outcome");
+        let words: Vec<&str> = input.split(' ').collect();
+        let (dictionary, before) = (bytes(words[0]), bytes(words[1]));
+        let mut buffer = before.clone();
+        match called(&dictionary, &mut buffer, &words[2..]) {
+            Ok(None) => assert_eq!(buffer, bytes(due), "{line}"),
+            Ok(Some(told)) => assert!(same(&told, due) && buffer == before, "{told}\n{line}"),
+            Err(refusal) => {
+                assert_eq!(refused(refusal), due, "{line}");
+                assert_eq!(buffer, before, "{line}");
+            }
+        }
+    }
+}
