@@ -9,10 +9,11 @@
  * - Every call returns, whatever the bytes are; nothing has to be tested before it. This is proved, and so is what each call gives.
  * - Nothing is allocated, and nothing global is kept: no state stands between two calls. Any number of threads may call at once,
  *   each with tables, answers and buffers of its own.
- * - A pointer of length 0 may be NULL, or anything else. No other pointer may be NULL, and `answer` never: it has room for three.
- * - The length of a table is the count of its 32-bit numbers, not of its bytes.
+ *
+ * What the caller has to keep to, since no call can test it
+ * - A pointer has as much behind it as its length says: bytes, or of a table 32-bit numbers. `answer` has room for three numbers.
+ * - A pointer of length 0 may be NULL, or anything else. No other pointer may be NULL, and `answer` never.
  * - What a call writes (tables, answer, the buffer of a store) may not overlap anything else that it is given.
- * - The library trusts its caller in this alone: that a pointer has as much behind it as its length says.
  *
  * Machines: the archive is for x86-64 Linux with 64-bit pointers, and needs memcpy and memset of the C library, nothing else.
  * C99 and later, and C++, can include this header. Stack: the requests that were tried use up to 52 kilobytes, which is measured
