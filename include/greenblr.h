@@ -68,7 +68,8 @@ typedef char greenblr_size_t_has_64_bits[sizeof(size_t) == 8 ? 1 : -1];
 #define GREENBLR_STATEMENT_CODE 1       /* its code: GREENBLR_CODE_BEGIN and the like */
 #define GREENBLR_STATEMENT_PARENT 2     /* row number, from 0, of the statement that holds it, plus one; 0 for the outer begin */
 #define GREENBLR_STATEMENT_END 3        /* place after it */
-#define GREENBLR_STATEMENT_ROW 4        /* numbers a row */
+#define GREENBLR_STATEMENT_BOOLEAN 4    /* number of its condition plus one (an if's, or that of a for's rse); 0 where it has none */
+#define GREENBLR_STATEMENT_ROW 5        /* numbers a row */
 
 /* A row of the parameters. */
 #define GREENBLR_PARAMETER_MESSAGE 0    /* number of its message */
@@ -85,7 +86,8 @@ typedef char greenblr_size_t_has_64_bits[sizeof(size_t) == 8 ? 1 : -1];
 #define GREENBLR_CONTEXT_START 2        /* place where its scope starts */
 #define GREENBLR_CONTEXT_END 3          /* place where its scope ends */
 #define GREENBLR_CONTEXT_RELATION 4     /* id of its relation */
-#define GREENBLR_CONTEXT_ROW 5          /* numbers a row */
+#define GREENBLR_CONTEXT_OPENER 5       /* code that opened it: GREENBLR_CODE_FOR, GREENBLR_CODE_STORE or GREENBLR_CODE_MODIFY */
+#define GREENBLR_CONTEXT_ROW 6          /* numbers a row */
 
 /* The least numbers that each table must have, so that the rows of every request fit. With less in one, every request is refused
  * with 1. */

@@ -1,11 +1,12 @@
 //! The rows of the three tables, as include/greenblr.h lays them out: tests/header.rs holds these numbers against it.
 
 /// Numbers of a statement's row, and the place of each in it.
-pub const STATEMENT_ROW: usize = 4;
+pub const STATEMENT_ROW: usize = 5;
 pub const STATEMENT_PLACE: usize = 0;
 pub const STATEMENT_CODE: usize = 1;
 pub const STATEMENT_PARENT: usize = 2;
 pub const STATEMENT_END: usize = 3;
+pub const STATEMENT_BOOLEAN: usize = 4;
 
 /// Numbers of a parameter's row, and the place of each in it.
 pub const PARAMETER_ROW: usize = 6;
@@ -17,12 +18,13 @@ pub const PARAMETER_OFFSET: usize = 4;
 pub const PARAMETER_BYTES: usize = 5;
 
 /// Numbers of a context's row, and the place of each in it.
-pub const CONTEXT_ROW: usize = 5;
+pub const CONTEXT_ROW: usize = 6;
 pub const CONTEXT_NUMBER: usize = 0;
 pub const CONTEXT_PLACE: usize = 1;
 pub const CONTEXT_START: usize = 2;
 pub const CONTEXT_END: usize = 3;
 pub const CONTEXT_RELATION: usize = 4;
+pub const CONTEXT_OPENER: usize = 5;
 
 /// The most rows of each table, and with them its least numbers.
 pub const MAX_STATEMENTS: usize = 512;

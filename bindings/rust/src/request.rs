@@ -86,7 +86,7 @@ pub struct Request<'a> {
 impl<'a> Request<'a> {
     /// Reads a request beside a dictionary: the rows of its statements, parameters and contexts, or a refusal, 2 or 4 to 16.
     ///
-    /// Any bytes may be given. The library uses up to 427 kilobytes of stack for the requests that were tried; that is measured
+    /// Any bytes may be given. The library uses up to 52 kilobytes of stack for the requests that were tried; that is measured
     /// and not proved.
     pub fn read(dictionary: &Dictionary<'a>, bytes: &'a [u8]) -> Result<Request<'a>, Refusal> {
         let mut statements = vec![0; STATEMENT_TABLE];
@@ -170,6 +170,8 @@ pub struct Statement {
     pub parent: Option<usize>,
     /// The place after it.
     pub end: usize,
+    /// The number of its own condition, which [`Request::evaluate`] takes: an if's, or that of a for's rse.
+    pub condition: Option<usize>,
 }
 
 /// A parameter of a message.
@@ -202,6 +204,8 @@ pub struct Context {
     pub scope: Range<usize>,
     /// The id of its relation.
     pub relation: u16,
+    /// The code of the statement that opened it: a for, a store or a modify.
+    pub opener: StatementCode,
 }
 
 // A row's numbers are what the library promises of them: bytes and words fit, and the casts below lose nothing.
@@ -212,6 +216,7 @@ fn statement(row: &[u32]) -> Statement {
         code: StatementCode::from_code(row[STATEMENT_CODE] as u8),
         parent: (row[STATEMENT_PARENT] as usize).checked_sub(1),
         end: row[STATEMENT_END] as usize,
+        condition: (row[STATEMENT_BOOLEAN] as usize).checked_sub(1),
     }
 }
 
@@ -232,6 +237,7 @@ fn context(row: &[u32]) -> Context {
         place: row[CONTEXT_PLACE] as usize,
         scope: row[CONTEXT_START] as usize..row[CONTEXT_END] as usize,
         relation: row[CONTEXT_RELATION] as u16,
+        opener: StatementCode::from_code(row[CONTEXT_OPENER] as u8),
     }
 }
 

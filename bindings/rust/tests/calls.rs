@@ -40,14 +40,15 @@ fn rows_of_s() {
     assert_eq!(request.bytes(), S);
     assert_eq!(request.dictionary(), dictionary);
 
-    let rows: Vec<_> = request.statements().map(|s| (s.place, s.code, s.parent, s.end)).collect();
+    let rows: Vec<_> =
+        request.statements().map(|s| (s.place, s.code, s.parent, s.end, s.condition)).collect();
     assert_eq!(
         rows,
         [
-            (1, StatementCode::Begin, None, 40),
-            (8, StatementCode::For, Some(0), 39),
-            (27, StatementCode::Send, Some(1), 39),
-            (29, StatementCode::Assignment, Some(2), 39),
+            (1, StatementCode::Begin, None, 40, None),
+            (8, StatementCode::For, Some(0), 39, Some(0)),
+            (27, StatementCode::Send, Some(1), 39, None),
+            (29, StatementCode::Assignment, Some(2), 39, None),
         ]
     );
     assert_eq!(request.statements().len(), 4);
@@ -61,8 +62,8 @@ fn rows_of_s() {
     assert_eq!(rows, [(0, 0, Type::Short, 0, 0, 2)]);
 
     let rows: Vec<_> =
-        request.contexts().map(|c| (c.number, c.place, c.scope, c.relation)).collect();
-    assert_eq!(rows, [(0, 11, 15..39, 1)]);
+        request.contexts().map(|c| (c.number, c.place, c.scope, c.relation, c.opener)).collect();
+    assert_eq!(rows, [(0, 11, 15..39, 1, StatementCode::For)]);
 }
 
 #[test]
