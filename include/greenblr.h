@@ -75,7 +75,7 @@ typedef char greenblr_size_t_has_64_bits[sizeof(size_t) == 8 ? 1 : -1];
 #define GREENBLR_PARAMETER_MESSAGE 0    /* number of its message */
 #define GREENBLR_PARAMETER_NUMBER 1     /* its number in the message, from 0 */
 #define GREENBLR_PARAMETER_TYPE 2       /* its type: GREENBLR_CODE_SHORT and the like */
-#define GREENBLR_PARAMETER_SCALE 3      /* its scale byte: 255 stands for -1, 254 for -2, to 247 for -9 */
+#define GREENBLR_PARAMETER_SCALE 3      /* its scale byte: 255 stands for -1, 254 for -2, to 247 for -9; of type 16 to 238 for -18 */
 #define GREENBLR_PARAMETER_OFFSET 4     /* its first byte in the message's image, from 0 */
 #define GREENBLR_PARAMETER_BYTES 5      /* the bytes that it takes there */
 #define GREENBLR_PARAMETER_ROW 6        /* numbers a row */
@@ -104,15 +104,16 @@ enum greenblr_refusal {
     GREENBLR_REFUSAL_REQUEST_TOO_LONG = 2,   /* over 65,535 bytes: 0 */
     GREENBLR_REFUSAL_BAD_DICTIONARY = 3,     /* breaks a rule or a greatest size: in the dictionary, the entry's start; 0 if too long */
     GREENBLR_REFUSAL_ENDS_EARLY = 4,         /* the request ends early: its length */
-    GREENBLR_REFUSAL_BAD_VERSION = 5,        /* the first byte is no version that is read: 0 */
-    GREENBLR_REFUSAL_NOT_DUE = 6,            /* a code that is not due here: the code */
+    GREENBLR_REFUSAL_BAD_VERSION = 5,        /* the first byte is no version that is read, neither 4 nor 5: 0 */
+    GREENBLR_REFUSAL_NOT_DUE = 6,            /* a code that is not due here, as type 16 in version 4: the code */
     GREENBLR_REFUSAL_LEFT_OUT = 7,           /* a code of BLR that this library leaves out: the code */
     GREENBLR_REFUSAL_TOO_GREAT = 8,          /* a greatest size passed: the code; parameters: count word; message bytes: descriptor */
     GREENBLR_REFUSAL_BAD_MESSAGE = 9,        /* a message declared or selected twice, or undeclared: the message byte */
     GREENBLR_REFUSAL_NO_PARAMETER = 10,      /* no such parameter: its word */
     GREENBLR_REFUSAL_BAD_CONTEXT = 11,       /* a context in scope already, or not in scope: the context byte */
     GREENBLR_REFUSAL_UNKNOWN = 12,           /* unknown relation or field: the name's count byte, or the id; by a store: 0 */
-    GREENBLR_REFUSAL_UNFIT = 13,             /* kinds or scales don't fit: the operator, assignment or parameter2 */
+    GREENBLR_REFUSAL_UNFIT = 13,             /* kinds or scales don't fit: the operator, assignment or parameter2; version 4
+                                                names a field of type 16: the field or fid */
     GREENBLR_REFUSAL_MISPLACED = 14,         /* a context not of a for, a wrong target, send or receive in store or modify, leave
                                                 outside its label: the statement's code */
     GREENBLR_REFUSAL_BYTES_AFTER_END = 15,   /* bytes after the request's end: the first of them */
@@ -123,7 +124,8 @@ enum greenblr_refusal {
     GREENBLR_REFUSAL_BAD_RECORDS = 22,       /* records not as due: in the records, the first wrong entry; the length given if one lacks;
                                                 the first byte too many */
     GREENBLR_REFUSAL_MALFORMED_TEXT = 23,    /* a varying longer than its size, a cstring without a zero: in the request, the value's code */
-    GREENBLR_REFUSAL_OVERFLOW = 24,          /* a number that does not fit: in the request, the operator */
+    GREENBLR_REFUSAL_OVERFLOW = 24,          /* a number that does not fit in 64 bits, in version 5 also the multiplied
+                                                dividend: in the request, the operator */
     GREENBLR_REFUSAL_ZERO_DIVISOR = 25,      /* a division by zero: in the request, the operator */
     /* Of a store, after 3, and after 12 for its relation. The place is 0. */
     GREENBLR_REFUSAL_MALFORMED_STORE = 50,   /* the buffer holds no store, or has over 65,535 bytes */
@@ -319,8 +321,11 @@ uint32_t greenblr_store_find(const uint8_t *dictionary, size_t dictionary_length
 /* ---- Codes: blr_store of InterBase's blr.h is GREENBLR_CODE_STORE here, and so on; the numbers are the same. One number may stand for
  * several things, each at its own kind of place. */
 
-/* Version and ends. */
+/* Version and ends. A request says its version in its first byte. Version 5 has what version 4 has, and type 16 too. The two differ
+ * in divide: in version 4 a quotient has the first scale less the second; in version 5 it has the sum of both, and the dividend is
+ * first multiplied by ten to minus twice the divisor's scale. Both truncate toward zero. */
 #define GREENBLR_CODE_VERSION4 4
+#define GREENBLR_CODE_VERSION5 5
 #define GREENBLR_CODE_EOC 76
 #define GREENBLR_CODE_END 255
 
@@ -378,10 +383,13 @@ uint32_t greenblr_store_find(const uint8_t *dictionary, size_t dictionary_length
 #define GREENBLR_CODE_RELATION 74
 #define GREENBLR_CODE_RID 75
 
-/* Types. The last is the house's own, and of dictionaries alone: a reading of two bytes, unsigned, with a scale. */
+/* Types. Short, long and int64 are signed numbers of 2, 4 and 8 bytes with a scale. Int64 may stand in any dictionary, but only a
+ * version 5 request may have it in messages and literals, or name a field of it. The last type is the house's own, and of
+ * dictionaries alone: a reading of two bytes, unsigned, with a scale. */
 #define GREENBLR_CODE_SHORT 7
 #define GREENBLR_CODE_LONG 8
 #define GREENBLR_CODE_TEXT 14
+#define GREENBLR_CODE_INT64 16
 #define GREENBLR_CODE_DATE 35
 #define GREENBLR_CODE_VARYING 37
 #define GREENBLR_CODE_CSTRING 40

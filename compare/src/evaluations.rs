@@ -8,10 +8,11 @@ use second::hex;
 
 const DICTIONARY: &str = include_str!("../../second/tests/real/dictionary.hex");
 const CONDITIONS: &str = include_str!("../../second/tests/real/conditions.jsonl");
-const AGREED: [&str; 3] = [
+const AGREED: [&str; 4] = [
     include_str!("../../second/tests/agreed/evaluations.txt"),
     include_str!("../../second/tests/agreed/no-01.txt"),
     include_str!("../../second/tests/agreed/no-03.txt"),
+    include_str!("../../second/tests/agreed/no-08.txt"),
 ];
 
 /// What an evaluation takes.
@@ -93,7 +94,7 @@ fn agreed() -> Vec<(Input, String)> {
         .filter_map(|line| {
             let (input, answer) = line.split_once(" = ")?;
             let words: Vec<&str> = input.split(' ').collect();
-            let [_, dictionary, request, condition, messages, records] = words[..] else {
+            let ["evaluate", dictionary, request, condition, messages, records] = words[..] else {
                 return None;
             };
             let [dictionary, request, messages, records] =

@@ -52,7 +52,8 @@ fn expected(operation: u8, a: Number, b: Number) -> Computed {
         proved::DIVIDE => decimal::divide(a.value, x, b.value, y),
         proved::NEGATE => decimal::negate(a.value).map(|value| (value, x)),
         proved::RESCALE => decimal::rescale(a.value, x, x.min(y)).map(|value| (value, x.min(y))),
-        _ => unreachable!("six operations"),
+        proved::DIVIDE5 => decimal::divide5(a.value, x, b.value, y),
+        _ => unreachable!("seven operations"),
     };
     match result {
         Ok((value, scale)) => Computed::Value(Number { value, scale }),
@@ -64,8 +65,8 @@ fn expected(operation: u8, a: Number, b: Number) -> Computed {
 /// One case of numbers; a difference is told.
 fn numbers(rng: &mut Rng) -> Option<String> {
     let (a, b) = (number(rng), number(rng));
-    let operation = rng.below(7) as u8;
-    if operation == 6 {
+    let operation = rng.below(8) as u8;
+    if operation == 7 {
         let (one, other) = (
             proved::compare(a, b),
             decimal::compare(a.value, nearest(a.scale), b.value, nearest(b.scale)),

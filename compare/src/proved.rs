@@ -159,6 +159,7 @@ pub const MULTIPLY: u8 = 2;
 pub const DIVIDE: u8 = 3;
 pub const NEGATE: u8 = 4;
 pub const RESCALE: u8 = 5;
+pub const DIVIDE5: u8 = 6;
 
 /// The result of an operation, from the number of a refusal, or 0, and the value and scale left in the answer.
 pub fn computed(refusal: u32, answer: [i64; 2]) -> Computed {
@@ -374,7 +375,9 @@ pub fn store_call(dictionary: &[u8], buffer: &mut [u8], call: &Call) -> Result<(
             Call::Add(entry) => {
                 greenblr_store_add(words, length, bytes, room, entry.as_ptr(), entry.len(), out)
             }
-            Call::Erase(position) => greenblr_store_erase(words, length, bytes, room, *position, out),
+            Call::Erase(position) => {
+                greenblr_store_erase(words, length, bytes, room, *position, out)
+            }
             Call::Replace(position, entry) => {
                 let (pointer, size) = (entry.as_ptr(), entry.len());
                 greenblr_store_replace(words, length, bytes, room, *position, pointer, size, out)
@@ -389,7 +392,8 @@ pub fn store_read(dictionary: &[u8], buffer: &[u8]) -> Result<[usize; 3], (u32, 
     let mut answer = [usize::MAX; 3];
     let (bytes, room) = (buffer.as_ptr(), buffer.len());
     let out = answer.as_mut_ptr();
-    let number = unsafe { greenblr_store_read(dictionary.as_ptr(), dictionary.len(), bytes, room, out) };
+    let number =
+        unsafe { greenblr_store_read(dictionary.as_ptr(), dictionary.len(), bytes, room, out) };
     stored(number, answer)
 }
 

@@ -9,6 +9,10 @@ use second::reader::{self, TABLE_LENGTHS};
 const DICTIONARY: &str = include_str!("../../second/tests/real/dictionary.hex");
 const REQUESTS: &str = include_str!("../../second/tests/real/requests.jsonl");
 const CONDITIONS: &str = include_str!("../../second/tests/real/conditions.jsonl");
+const AGREED: [&str; 2] = [
+    include_str!("../../second/tests/agreed/no-07.txt"),
+    include_str!("../../second/tests/agreed/no-08.txt"),
+];
 
 /// Lengths of the three tables: those of the case, exact, great, or a little short in one.
 fn lengths(rng: &mut Rng, case: &Case) -> [usize; 3] {
@@ -77,7 +81,26 @@ fn real() -> Vec<Vec<u8>> {
         .collect()
 }
 
-/// Runs so many generated cases and the real requests, and gives the number of differences.
+/// The readings that independent programs agreed on: dictionary, request and the lengths of the tables.
+fn agreed() -> Vec<(Vec<u8>, Vec<u8>, [usize; 3])> {
+    let bytes = |text: &str| hex::read(text).expect("hex digits");
+    AGREED
+        .iter()
+        .flat_map(|text| text.lines())
+        .filter_map(|line| {
+            let words: Vec<&str> = line.split(' ').collect();
+            let ["read", dictionary, request, statements, parameters, contexts, ..] = words[..]
+            else {
+                return None;
+            };
+            let lengths =
+                [statements, parameters, contexts].map(|word| word.parse().expect("a length"));
+            Some((bytes(dictionary), bytes(request), lengths))
+        })
+        .collect()
+}
+
+/// Runs so many generated cases, the real requests and those agreed on, and gives the number of differences.
 pub fn run(seed: u64, count: usize) -> usize {
     let mut rng = Rng::new(seed);
     let (mut differences, mut numbers) = (0, [0usize; 17]);
@@ -98,8 +121,16 @@ pub fn run(seed: u64, count: usize) -> usize {
     for request in &requests {
         note(differ(&mut rng, &dictionary, request, TABLE_LENGTHS));
     }
+    let agreed = agreed();
+    for (dictionary, request, lengths) in &agreed {
+        note(differ(&mut rng, dictionary, request, *lengths));
+    }
     let unseen: Vec<usize> = (0..17).filter(|number| numbers[*number] == 0).collect();
-    println!("requests: {count} cases and {} real ones, {differences} differences", requests.len());
+    println!(
+        "requests: {count} cases, {} real ones and {} agreed on, {differences} differences",
+        requests.len(),
+        agreed.len()
+    );
     if !unseen.is_empty() {
         println!("requests: no case is refused with {unseen:?}");
     }

@@ -5,6 +5,10 @@
 //! doesn't fit is overflow. Division truncates toward zero." A number is a value and a scale from
 //! -18 to 0, and stands for the value times ten to the scale. The work is done in 128 bits, which
 //! hold every product of two 64-bit values and every value times 10^18.
+//!
+//! Document 02, No. 8, on version 5: "A quotient has the sum of the two scales: the dividend times
+//! ten to minus twice the divisor's scale, divided and truncated toward zero, with overflow if the
+//! multiplied dividend or the quotient doesn't fit; a zero divisor is told first."
 
 use std::cmp::Ordering;
 
@@ -81,6 +85,25 @@ pub fn divide(left: i64, left_scale: i8, right: i64, right_scale: i8) -> Result<
     // Division of 128-bit numbers truncates toward zero.
     let quotient = fit(i128::from(left) / i128::from(right))?;
     Ok((quotient, left_scale - right_scale))
+}
+
+/// Quotient of two numbers in version 5, with its scale, the sum of theirs.
+pub fn divide5(left: i64, left_scale: i8, right: i64, right_scale: i8) -> Result<(i64, i8), Fault> {
+    if right == 0 {
+        return Err(Fault::ZeroDivisor);
+    }
+    let multiplied = multiplied(left, -2 * i32::from(right_scale))?;
+    let quotient = fit(i128::from(multiplied) / i128::from(right))?;
+    Ok((quotient, left_scale + right_scale))
+}
+
+/// The value times ten to a power of 0 to 36, if it fits; only zero does beyond 10^18.
+fn multiplied(value: i64, exponent: i32) -> Result<i64, Fault> {
+    match exponent {
+        0..=18 => fit(i128::from(value) * power_of_ten(exponent)),
+        _ if value == 0 => Ok(0),
+        _ => Err(Fault::Overflow),
+    }
 }
 
 /// The value with its sign changed; the scale stays.

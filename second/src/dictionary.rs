@@ -6,7 +6,7 @@
 //! limit of records (see `record`), not of the dictionary.
 
 use crate::datatype::{self, DataType, Kind};
-use crate::wire::{self, DATE, LONG, READING, SHORT};
+use crate::wire::{self, DATE, INT64, LONG, READING, SHORT};
 
 /// Greatest length of a dictionary.
 pub const GREATEST_LENGTH: usize = 65_535;
@@ -157,13 +157,13 @@ pub fn is_name(name: &[u8]) -> bool {
 /// Whether type, scale and size word are those of a field.
 pub fn is_field_type(data: DataType) -> bool {
     let scale = match data.kind() {
-        Kind::Number => datatype::is_scale(data.scale),
+        Kind::Number => datatype::is_scale_of(data.code, data.scale),
         _ => data.scale == 0,
     };
     let size = match data.code {
         SHORT | READING => data.size == 2,
         LONG => data.size == 4,
-        DATE => data.size == 8,
+        DATE | INT64 => data.size == 8,
         code => datatype::has_size(code) && datatype::is_text_size(data.size),
     };
     scale && size

@@ -3,7 +3,7 @@
 //! Document 01: "The listing program reads an entry of kind 4 (dictionary), then kind 5 (request);
 //! a length, four-, six- and five-number rows as above"; "A refusal prints only `refused 11 at
 //! 18`; input that isn't these two entries, `bad input`." A length word counts the whole entry, so
-//! a body has at most 65,531 bytes. By No. 7 of document 02 the rows have five, six and six numbers.
+//! a body has at most 65,531 bytes. By No. 7 of document 02 rows have five, six and six numbers.
 
 use crate::reader::{self, TABLE_LENGTHS, WIDTHS};
 use crate::wire;

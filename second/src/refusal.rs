@@ -21,7 +21,7 @@ pub const LONG_REQUEST: u32 = 2;
 pub const BAD_DICTIONARY: u32 = 3;
 /// 4: the request ends early.
 pub const ENDS_EARLY: u32 = 4;
-/// 5: the version is not 4.
+/// 5: the version is neither 4 nor 5.
 pub const WRONG_VERSION: u32 = 5;
 /// 6: a code is not due here.
 pub const NOT_DUE: u32 = 6;

@@ -17,6 +17,13 @@ pub fn four_bytes(bytes: &[u8], at: usize) -> Option<u32> {
     Some(u32::from(low) + 65536 * u32::from(high))
 }
 
+/// The signed eight-byte number at a place, or nothing if it isn't whole.
+pub fn signed_eight_bytes(bytes: &[u8], at: usize) -> Option<i64> {
+    let mut number = [0; 8];
+    number.copy_from_slice(bytes.get(at..at + 8)?);
+    Some(i64::from_le_bytes(number))
+}
+
 /// A byte read as a signed number from -128 to 127.
 pub fn signed_byte(byte: u8) -> i8 {
     i8::from_le_bytes([byte])
@@ -33,6 +40,7 @@ pub fn signed_four_bytes(number: u32) -> i32 {
 }
 
 pub const VERSION4: u8 = 4;
+pub const VERSION5: u8 = 5;
 pub const EOC: u8 = 76;
 pub const END: u8 = 255;
 
@@ -94,6 +102,8 @@ pub const RID: u8 = 75;
 pub const SHORT: u8 = 7;
 pub const LONG: u8 = 8;
 pub const TEXT: u8 = 14;
+/// A 64-bit integer, by No. 8 of document 02.
+pub const INT64: u8 = 16;
 pub const DATE: u8 = 35;
 pub const VARYING: u8 = 37;
 pub const CSTRING: u8 = 40;
@@ -114,10 +124,30 @@ pub const BOOLEANS: [u8; 14] =
     [EQL, NEQ, GTR, GEQ, LSS, LEQ, CONTAINING, MATCHING, STARTING, BETWEEN, OR, AND, NOT, MISSING];
 /// The streams that document 01 takes.
 pub const STREAMS: [u8; 2] = [RELATION, RID];
-/// The types of a message's parameters.
+/// The types of a message's parameters in version 4.
 pub const DESCRIPTORS: [u8; 6] = [SHORT, LONG, TEXT, DATE, VARYING, CSTRING];
-/// The types of literals.
+/// The types of a message's parameters in version 5.
+pub const DESCRIPTORS5: [u8; 7] = [SHORT, LONG, TEXT, INT64, DATE, VARYING, CSTRING];
+/// The types of literals in version 4.
 pub const LITERALS: [u8; 3] = [SHORT, LONG, TEXT];
+/// The types of literals in version 5.
+pub const LITERALS5: [u8; 4] = [SHORT, LONG, TEXT, INT64];
+
+/// The types of a message's parameters in a version.
+pub fn descriptors(version: u8) -> &'static [u8] {
+    match version {
+        VERSION5 => &DESCRIPTORS5,
+        _ => &DESCRIPTORS,
+    }
+}
+
+/// The types of literals in a version.
+pub fn literals(version: u8) -> &'static [u8] {
+    match version {
+        VERSION5 => &LITERALS5,
+        _ => &LITERALS,
+    }
+}
 
 // The codes left out, each refused by name in its own kind of place.
 /// dcl_variable, fetch, store2, post.

@@ -14,8 +14,11 @@ const WITHOUT_CAUSES: [File; 2] =
     [(include_str!("agreed/evaluations.txt"), 166), (include_str!("agreed/no-01.txt"), 28)];
 
 /// The files whose missing answers have causes.
-const WITH_CAUSES: [File; 2] =
-    [(include_str!("agreed/no-03.txt"), 42), (include_str!("agreed/no-07.txt"), 42)];
+const WITH_CAUSES: [File; 3] = [
+    (include_str!("agreed/no-03.txt"), 42),
+    (include_str!("agreed/no-07.txt"), 42),
+    (include_str!("agreed/no-08.txt"), 320),
+];
 
 /// The case of an input.
 fn case(input: &str) -> Option<Case> {

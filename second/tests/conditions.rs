@@ -6,10 +6,15 @@ use second::generate::conditions::{self, is_reached};
 use second::reader::parsed::Role;
 use second::wire::{BOOLEANS, STATEMENTS, VALUES};
 
+/// All conditions written by hand and some at random.
+fn some() -> usize {
+    conditions::written().len() + 700
+}
+
 #[test]
 fn conditions_are_reached() {
     for seed in [1, 2, u64::MAX] {
-        for case in conditions::cases(seed, 2000) {
+        for case in conditions::cases(seed, some()) {
             assert!(is_reached(&case), "{}", cases::line(&case));
         }
     }
@@ -17,8 +22,8 @@ fn conditions_are_reached() {
 
 #[test]
 fn conditions_have_every_outcome_and_code() {
-    let tally = Tally::of(conditions::cases(1, 2000));
-    assert_eq!((tally.reads, tally.evaluations), (0, 2000));
+    let tally = Tally::of(conditions::cases(1, some()));
+    assert_eq!((tally.reads, tally.evaluations), (0, some()));
     let least = [
         ("true", 300),
         ("false", 300),
@@ -43,7 +48,7 @@ fn conditions_have_every_outcome_and_code() {
 
 #[test]
 fn conditions_are_small() {
-    for case in conditions::cases(1, 2000) {
+    for case in conditions::cases(1, some()) {
         let (dictionary, request) = case.bytes();
         assert!(dictionary.len() <= 160 && request.len() <= 200, "{}", cases::line(&case));
     }
@@ -52,12 +57,12 @@ fn conditions_are_small() {
 #[test]
 fn conditions_repeat_and_differ_by_seed() {
     let lines = |seed| -> Vec<String> {
-        conditions::cases(seed, 1500).map(|case| cases::line(&case)).collect()
+        conditions::cases(seed, some()).map(|case| cases::line(&case)).collect()
     };
     let (first, second) = (lines(1), lines(2));
     assert_eq!(first, lines(1));
     let written = conditions::written().len();
-    assert!(written >= 1000 && written < 1500);
+    assert!(written >= 1000);
     assert_eq!(first[..written], second[..written]);
     assert_ne!(first[written..], second[written..]);
 }

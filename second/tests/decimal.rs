@@ -1,6 +1,6 @@
 //! Scaled numbers at both ends of their range, and beside plain 128-bit arithmetic.
 
-use second::decimal::{add, compare, divide, multiply, negate, rescale, subtract, Fault};
+use second::decimal::{add, compare, divide, divide5, multiply, negate, rescale, subtract, Fault};
 use second::generate::rng::Rng;
 use std::cmp::Ordering;
 
@@ -57,6 +57,19 @@ fn quotients_truncate_toward_zero() {
     assert_eq!(divide(GREATEST, 0, -1, 0), Ok((-GREATEST, 0)));
     assert_eq!(divide(LEAST, 0, 0, 0), Err(Fault::ZeroDivisor));
     assert_eq!(divide(0, 0, 0, 0), Err(Fault::ZeroDivisor));
+}
+
+#[test]
+fn quotients_of_version_5_add_scales() {
+    assert_eq!(divide5(-7, 0, 2, 0), Ok((-3, 0)));
+    assert_eq!(divide5(7, -1, 2, -1), Ok((350, -2)));
+    assert_eq!(divide5(9, 0, 1, -9), Ok((9_000_000_000_000_000_000, -9)));
+    assert_eq!(divide5(10, 0, 7, -9), Err(Fault::Overflow));
+    assert_eq!(divide5(0, 0, 3, -18), Ok((0, -18)));
+    assert_eq!(divide5(1, 0, GREATEST, -10), Err(Fault::Overflow));
+    assert_eq!(divide5(GREATEST, 0, 0, -18), Err(Fault::ZeroDivisor));
+    assert_eq!(divide5(LEAST, 0, -1, 0), Err(Fault::Overflow));
+    assert_eq!(divide5(LEAST, -18, 1, 0), Ok((LEAST, -18)));
 }
 
 #[test]

@@ -83,7 +83,11 @@ fn types_have_their_scales_and_sizes() {
         assert_eq!(field_fault(field(0, code, 0, 0, "F")), Some(8));
         assert_eq!(field_fault(field(0, code, 0, 256, "F")), Some(8));
     }
-    for code in [0, 9, 10, 11, 16, 27, 199, 201] {
+    for (scale, good) in [(-19, false), (-18, true), (0, true), (1, false)] {
+        assert_eq!(field_fault(field(0, 16, scale, 8, "F")).is_none(), good);
+    }
+    assert_eq!(field_fault(field(0, 16, 0, 4, "F")), Some(8));
+    for code in [0, 9, 10, 11, 15, 17, 27, 199, 201] {
         assert_eq!(field_fault(field(0, code, 0, 8, "F")), Some(8));
     }
 }

@@ -46,7 +46,8 @@ fn heat_is_compared_as_a_reading() {
 #[test]
 fn s_altered_is_refused() {
     let beds = beds();
-    assert_eq!(refused(&altered(0, 5), &beds), (5, 0));
+    assert!(accepted(&altered(0, 5), &beds));
+    assert_eq!(refused(&altered(0, 6), &beds), (5, 0));
     assert_eq!(refused(&altered(18, 1), &beds), (11, 18));
     assert_eq!(refused(&altered(19, 1), &beds), (13, 16));
     assert_eq!(refused(&altered(19, 2), &beds), (12, 19));

@@ -23,7 +23,8 @@ fn whole(parts: &[&[u8]]) -> (u32, usize) {
 #[test]
 fn an_empty_request_and_its_first_bytes() {
     assert_eq!(refused(&[], &[]), (4, 0));
-    assert_eq!(refused(&[5], &[]), (5, 0));
+    assert_eq!(refused(&[6], &[]), (5, 0));
+    assert_eq!(refused(&[5], &[]), (4, 1));
     assert_eq!(refused(&[4], &[]), (4, 1));
     assert_eq!(refused(&[4, 3], &[]), (6, 1));
     assert_eq!(refused(&[4, 2], &[]), (4, 2));
@@ -59,6 +60,40 @@ fn literals_are_judged_field_by_field() {
     for code in [200, 16, 0] {
         assert_eq!(cut(&[&[8, 61, 21, code]]), (6, 5));
     }
+}
+
+/// The refusal of parts within a version and outer begin, beside a field of type 16.
+fn wide(version: u8, parts: &[&[u8]]) -> (u32, usize) {
+    let dictionary = [common::relation(1, "R"), common::field(0, 16, -18, 8, "I")].concat();
+    refused(&[&[version, 2], parts.concat().as_slice()].concat(), &dictionary)
+}
+
+#[test]
+fn version_4_names_no_field_of_type_16() {
+    assert_eq!(wide(4, &[&FOR_BEDS, &[71, 61, 24, 0, 0, 0]]), (13, 11));
+    assert_eq!(wide(4, &[&FOR_BEDS, &[71, 61, 23, 0, 1, b'I']]), (13, 11));
+    assert_eq!(wide(4, &[&FOR_BEDS, &[71, 61, 23, 0, 1, b'J']]), (12, 13));
+    assert_eq!(wide(4, &[&FOR_BEDS, &[70, 1, 72, 24, 0, 0, 0]]), (13, 12));
+    let one = [1, 21, 7, 0, 1, 0];
+    assert_eq!(wide(4, &[&[15, 75, 1, 0, 0], &one, &[24, 0, 0, 0]]), (13, 13));
+    assert_eq!(wide(4, &[&FOR_BEDS, &[255], &one, &[24, 0, 0, 0]]), (14, 10));
+    // Its relation may be named, and in version 5 the field too.
+    assert_eq!(wide(4, &[&FOR_BEDS, &[255, 5]]), (4, 11));
+    assert_eq!(wide(5, &[&FOR_BEDS, &[71, 61, 24, 0, 0, 0]]), (4, 15));
+}
+
+#[test]
+fn type_16_is_of_version_5() {
+    for (version, refusal) in [(4, (6, 6)), (5, (4, 7))] {
+        assert_eq!(wide(version, &[&[4, 0, 1, 0, 16]]), refusal);
+    }
+    for (version, refusal) in [(4, (6, 5)), (5, (4, 6))] {
+        assert_eq!(wide(version, &[&[8, 61, 21, 16]]), refusal);
+    }
+    assert_eq!(wide(5, &[&[4, 0, 1, 0, 16, 237]]), (16, 7));
+    assert_eq!(wide(5, &[&[8, 61, 21, 16, 237]]), (16, 6));
+    assert_eq!(wide(5, &[&[8, 61, 21, 16, 238, 0, 0, 0, 0, 0, 0, 0]]), (4, 14));
+    assert_eq!(wide(5, &[&[8, 61, 21, 8, 246]]), (16, 6));
 }
 
 #[test]

@@ -6,7 +6,7 @@ use second::generate::{readings, targeted, Case};
 
 #[test]
 fn readings_reach_every_refusal() {
-    let tally = Tally::of(readings::cases(1, 700));
+    let tally = Tally::of(readings::cases(1, 1000));
     for number in (1..=16).chain(20..=22) {
         let count = tally.refusals.get(&number).copied().unwrap_or_default();
         assert!(count >= 8, "refusal {number} came {count} times");

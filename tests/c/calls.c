@@ -1,5 +1,6 @@
 /* What greenblr.h says of every call, tried: what may be NULL, the least sizes, what is filled and what is left, the offsets of rows,
- * the parts of an evaluation, the words. Every buffer is a block of the heap of exactly its length, so that valgrind sees a byte too far. */
+ * the versions, the parts of an evaluation, the words. Every buffer is a block of the heap of exactly its length, so that valgrind sees a
+ * byte too far. */
 #include <greenblr.h>
 #include <stdio.h>
 #include <stdlib.h>
@@ -118,6 +119,39 @@ static void refused(void)
     free(contexts);
 }
 
+/* Of the request: version 5 has the same rows, and no other version is read. Of a message: a parameter of type 16, which version 4 has not. */
+static void versions(void)
+{
+    const uint8_t counter_bytes[] = {
+        GREENBLR_CODE_VERSION5, GREENBLR_CODE_BEGIN, GREENBLR_CODE_MESSAGE, 0, 1, 0, GREENBLR_CODE_INT64, 238,
+        GREENBLR_CODE_BEGIN, GREENBLR_CODE_END, GREENBLR_CODE_END, GREENBLR_CODE_EOC,
+    };
+    enum { COUNTER = sizeof counter_bytes };
+    uint8_t *five = copy(request_bytes, REQUEST), *counter = copy(counter_bytes, COUNTER);
+    uint32_t *statements = table(GREENBLR_STATEMENT_TABLE), *parameters = table(GREENBLR_PARAMETER_TABLE), *contexts = table(GREENBLR_CONTEXT_TABLE);
+    size_t answer[3];
+    five[0] = GREENBLR_CODE_VERSION5;
+    EXPECT(greenblr_read(five, REQUEST, dictionary, DICTIONARY, statements, GREENBLR_STATEMENT_TABLE, parameters, GREENBLR_PARAMETER_TABLE,
+                         contexts, GREENBLR_CONTEXT_TABLE, answer) == GREENBLR_REFUSAL_NONE);
+    EXPECT(answer[0] == 4 && answer[1] == 1 && answer[2] == 1);
+    EXPECT(greenblr_answer(greenblr_evaluate(five, REQUEST, dictionary, DICTIONARY, 0, image, IMAGE, bed, BED)) == GREENBLR_TRUE);
+    five[0] = 6;
+    EXPECT(greenblr_read(five, REQUEST, dictionary, DICTIONARY, statements, GREENBLR_STATEMENT_TABLE, parameters, GREENBLR_PARAMETER_TABLE,
+                         contexts, GREENBLR_CONTEXT_TABLE, answer) == GREENBLR_REFUSAL_BAD_VERSION && answer[0] == 0);
+    EXPECT(greenblr_read(counter, COUNTER, NULL, 0, statements, GREENBLR_STATEMENT_TABLE, parameters, GREENBLR_PARAMETER_TABLE,
+                         contexts, GREENBLR_CONTEXT_TABLE, answer) == GREENBLR_REFUSAL_NONE && answer[1] == 1);
+    EXPECT(parameters[GREENBLR_PARAMETER_TYPE] == GREENBLR_CODE_INT64 && parameters[GREENBLR_PARAMETER_SCALE] == 238);
+    EXPECT(parameters[GREENBLR_PARAMETER_OFFSET] == 0 && parameters[GREENBLR_PARAMETER_BYTES] == 8);
+    counter[0] = GREENBLR_CODE_VERSION4;
+    EXPECT(greenblr_read(counter, COUNTER, NULL, 0, statements, GREENBLR_STATEMENT_TABLE, parameters, GREENBLR_PARAMETER_TABLE,
+                         contexts, GREENBLR_CONTEXT_TABLE, answer) == GREENBLR_REFUSAL_NOT_DUE && answer[0] == 6);
+    free(five);
+    free(counter);
+    free(statements);
+    free(parameters);
+    free(contexts);
+}
+
 static uint64_t evaluate(const uint8_t *records, size_t length)
 {
     return greenblr_evaluate(request, REQUEST, dictionary, DICTIONARY, 0, image, IMAGE, records, length);
@@ -221,6 +255,7 @@ int main(void)
     read_with(1, 5);
     rows();
     refused();
+    versions();
     evaluations();
     nulls();
     stores();

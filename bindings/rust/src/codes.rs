@@ -2,6 +2,9 @@
 //!
 //! They are for writing requests. A number may stand for several things, each at its own kind of place: 7 is `FOR` where a
 //! statement is due, and `SHORT` where a type is.
+//!
+//! A request begins with `VERSION4` or `VERSION5`. Version 5 has the type `INT64` too, and its `DIVIDE` is another: the quotient
+//! has the sum of both scales, where in version 4 it has the first less the second.
 
 use std::fmt;
 
@@ -19,14 +22,14 @@ macro_rules! constants {
 }
 
 constants! {
-    VERSION4 = 4 EOC = 76 END = 255
+    VERSION4 = 4 VERSION5 = 5 EOC = 76 END = 255
     ASSIGNMENT = 1 BEGIN = 2 MESSAGE = 4 ERASE = 5 FOR = 7 IF = 8 LOOP = 9 MODIFY = 10 HANDLER = 11 RECEIVE = 12 SELECT = 13
     SEND = 14 STORE = 15 LABEL = 17 LEAVE = 18
     LITERAL = 21 FIELD = 23 FID = 24 PARAMETER = 25 ADD = 34 SUBTRACT = 35 MULTIPLY = 36 DIVIDE = 37 NEGATE = 38 PARAMETER2 = 41
     EQL = 47 NEQ = 48 GTR = 49 GEQ = 50 LSS = 51 LEQ = 52 CONTAINING = 53 MATCHING = 54 STARTING = 55 BETWEEN = 56 OR = 57
     AND = 58 NOT = 59 MISSING = 61
     RSE = 67 SORT = 70 BOOLEAN = 71 ASCENDING = 72 DESCENDING = 73 RELATION = 74 RID = 75
-    SHORT = 7 LONG = 8 TEXT = 14 DATE = 35 VARYING = 37 CSTRING = 40
+    SHORT = 7 LONG = 8 TEXT = 14 INT64 = 16 DATE = 35 VARYING = 37 CSTRING = 40
 }
 
 macro_rules! named {
@@ -113,6 +116,8 @@ named! {
         Long = LONG "long"
         /// 14: a text of n bytes.
         Text = TEXT "text"
+        /// 16: a signed number of 8 bytes, in version 5 alone.
+        Int64 = INT64 "int64"
         /// 35: a date of 8 bytes.
         Date = DATE "date"
         /// 37: a text of up to n bytes after a word that holds its length.

@@ -10,6 +10,8 @@ pub enum Field<'a> {
     Short(i16),
     /// A long: four bytes, signed.
     Long(i32),
+    /// A number of type 16: eight bytes, signed. It is missing by its bit only.
+    Int64(i64),
     /// A date: a day, and a fraction of it.
     Date(i32, u32),
     /// The bytes of a field of any type, all of them: a text filled with blanks, a varying's length word and its bytes.
@@ -43,6 +45,7 @@ pub fn record(relation: u16, fields: &[Field<'_>]) -> Vec<u8> {
             Field::Reading(number) => entry.extend(number.to_le_bytes()),
             Field::Short(number) => entry.extend(number.to_le_bytes()),
             Field::Long(number) => entry.extend(number.to_le_bytes()),
+            Field::Int64(number) => entry.extend(number.to_le_bytes()),
             Field::Date(day, fraction) => {
                 entry.extend(day.to_le_bytes());
                 entry.extend(fraction.to_le_bytes());

@@ -54,9 +54,9 @@ reasons! {
     BadDictionary = 3, "the dictionary breaks a rule or a greatest size";
     /// 4: the request ends early; the place is its length.
     EndsEarly = 4, "the request ends early";
-    /// 5: the first byte is no version that is read.
+    /// 5: the first byte is no version that is read, neither 4 nor 5.
     BadVersion = 5, "the first byte is no version that is read";
-    /// 6: a code that is not due here.
+    /// 6: a code that is not due here, as type 16 in version 4.
     NotDue = 6, "the code is not due here";
     /// 7: a code of BLR that the library leaves out.
     LeftOut = 7, "the code is one that is left out";
@@ -70,7 +70,7 @@ reasons! {
     BadContext = 11, "the context is in scope already, or not in scope";
     /// 12: an unknown relation or field.
     Unknown = 12, "the relation or field is unknown";
-    /// 13: kinds or scales do not fit.
+    /// 13: kinds or scales do not fit, or a request of version 4 names a field of type 16.
     Unfit = 13, "kinds or scales do not fit";
     /// 14: a context that is not of a for, a wrong target, a send or receive in a store or modify, a leave outside its label.
     Misplaced = 14, "the statement, its context or its target may not stand here";
@@ -87,7 +87,7 @@ reasons! {
     BadRecords = 22, "the records are not as due";
     /// 23: a varying is longer than its size, or a cstring has no zero.
     MalformedText = 23, "a varying is longer than its size, or a cstring has no zero";
-    /// 24: a number does not fit.
+    /// 24: a number does not fit in 64 bits; in version 5 also the multiplied dividend.
     Overflow = 24, "a number does not fit";
     /// 25: a division by zero.
     ZeroDivisor = 25, "a division by zero";

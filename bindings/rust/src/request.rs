@@ -147,6 +147,26 @@ impl<'a> Request<'a> {
     /// assert_eq!(heat(65535)?, Truth::Missing(Cause::Reading)); // the node could not measure
     /// # Ok::<(), greenblr::Refusal>(())
     /// ```
+    ///
+    /// A request of version 5 may name fields of eight bytes:
+    ///
+    /// ```
+    /// use greenblr::{codes, record, Cause, Dictionary, Field, Request, Truth};
+    ///
+    /// // relation 1 BEDS; its field 0, DROPS, a number of type 16
+    /// let dictionary = Dictionary::new(b"\x0b\0\x01\0\x01\0\x04BEDS\x10\0\x02\0\0\0\x10\0\x08\0\x05DROPS")?;
+    /// // for each bed that has had over a billion drops, nothing
+    /// let bytes = [
+    ///     codes::VERSION5, 2, 7, 67, 1, 75, 1, 0, 0, 71, 49, 24, 0, 0, 0, 21, 8, 0, 0x00, 0xca, 0x9a,
+    ///     0x3b, 255, 2, 255, 255, 76,
+    /// ];
+    /// let request = Request::read(&dictionary, &bytes)?;
+    /// let drops = |field| request.evaluate(0, &[], &record(1, &[field]));
+    /// assert_eq!(drops(Field::Int64(5_000_000_000))?, Truth::True);
+    /// assert_eq!(drops(Field::Int64(65535))?, Truth::False); // a number as any other
+    /// assert_eq!(drops(Field::Missing(8))?, Truth::Missing(Cause::Bit));
+    /// # Ok::<(), greenblr::Refusal>(())
+    /// ```
     pub fn evaluate(
         &self,
         condition: usize,
@@ -184,7 +204,7 @@ pub struct Parameter {
     pub number: u16,
     /// Its type.
     pub kind: Type,
-    /// Its scale: -1 for tenths. 0 for texts and dates.
+    /// Its scale: -1 for tenths; -9 to 0, of type 16 -18 to 0. 0 for texts and dates.
     pub scale: i8,
     /// Its first byte in the message's image.
     pub offset: usize,

@@ -1,4 +1,5 @@
-//! The evaluations and calls on stores of second/tests/agreed through this crate: answers, causes, refusals, places, buffers.
+//! The evaluations, readings and calls on stores of second/tests/agreed through this crate: answers, causes, rows, refusals, places,
+//! buffers.
 
 use greenblr::{Cause, Dictionary, Refusal, Request, Store, Truth};
 use std::fs;
@@ -64,6 +65,59 @@ fn evaluations_agree() {
             assert_eq!(given, due, "{line}");
         }
     }
+}
+
+/// The rows of a request in the words of the files, from the typed rows.
+fn rows(words: &[&str]) -> Result<String, Refusal> {
+    let ["read", dictionary, request, _, _, _] = words else {
+        panic!("no reading: {words:?}");
+    };
+    let (dictionary, request) = (bytes(dictionary), bytes(request));
+    let dictionary = Dictionary::new(&dictionary)?;
+    let request = Request::read(&dictionary, &request)?;
+    let plus_one = |number: Option<usize>| number.map_or(0, |number| number + 1);
+    let statements: Vec<String> = request
+        .statements()
+        .map(|s| {
+            let (parent, condition) = (plus_one(s.parent), plus_one(s.condition));
+            format!(" {} {} {parent} {} {condition}", s.place, s.code.code(), s.end)
+        })
+        .collect();
+    let parameters: Vec<String> = request
+        .parameters()
+        .map(|p| {
+            let (kind, scale) = (p.kind.code(), p.scale as u8);
+            format!(" {} {} {kind} {scale} {} {}", p.message, p.number, p.offset, p.bytes)
+        })
+        .collect();
+    let contexts: Vec<String> = request
+        .contexts()
+        .map(|c| {
+            let (start, end, opener) = (c.scope.start, c.scope.end, c.opener.code());
+            format!(" {} {} {start} {end} {} {opener}", c.number, c.place, c.relation)
+        })
+        .collect();
+    let tables = [statements, parameters, contexts];
+    let [s, p, c] = tables.each_ref().map(Vec::len);
+    let [statements, parameters, contexts] = tables.map(|table| table.join(" ;"));
+    Ok(format!("accepted {s} {p} {c} |{statements} |{parameters} |{contexts}"))
+}
+
+/// Requests of both versions: all but the inputs of the listing program, which are for the shell.
+#[test]
+fn versions_agree() {
+    let lines = lines("no-08.txt");
+    assert_eq!(lines.len(), 320);
+    let mut run = [0, 0];
+    for line in lines.iter().filter(|line| !line.starts_with("listing ")) {
+        let (input, due) = line.split_once(" = ").expect("an outcome");
+        let words: Vec<&str> = input.split(' ').collect();
+        let is_reading = words[0] == "read";
+        let given = if is_reading { rows(&words) } else { outcome(&words) };
+        assert_eq!(given.unwrap_or_else(refused), due, "{line}");
+        run[usize::from(is_reading)] += 1;
+    }
+    assert_eq!(run, [123, 165]);
 }
 
 /// What a call on a store leaves in the buffer, or what reading it tells, in the words of the files.

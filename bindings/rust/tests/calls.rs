@@ -1,8 +1,8 @@
 //! Requests, evaluations and stores through the crate: document 01's examples, every refusal, and that nothing traps.
 
 use greenblr::{
-    record, Cause, Dictionary, Field, Input, Reason, Refusal, Request, StatementCode, Store, Truth,
-    Type,
+    codes, record, Cause, Dictionary, Field, Input, Reason, Refusal, Request, StatementCode, Store,
+    Truth, Type,
 };
 
 const BEDS: &[u8] = b"\x0b\0\x01\0\x01\0\x04BEDS\
@@ -77,7 +77,8 @@ fn scales_are_signed() {
 
 #[test]
 fn document_01s_alterations() {
-    assert_eq!(refused(&[(0, 5)]), (5, 0));
+    assert_eq!(refused(&[(0, 3)]), (5, 0));
+    assert_eq!(refused(&[(0, 6)]), (5, 0));
     assert_eq!(refused(&[(18, 1)]), (11, 18));
     assert_eq!(refused(&[(19, 1)]), (13, 16));
     assert_eq!(refused(&[(19, 2)]), (12, 19));
@@ -102,6 +103,147 @@ fn answers_of_s() {
     assert!(!answer(Field::Reading(65535)).is_true());
     assert_eq!(answer(Field::Reading(65535)).cause(), Some(Cause::Reading));
     assert_eq!(answer(Field::Reading(65535)).to_string(), "missing");
+}
+
+/// 02, No. 8: S with byte 0 at 5 is accepted, and nothing of it differs.
+#[test]
+fn s_of_version_5() {
+    let mut bytes = S;
+    bytes[0] = codes::VERSION5;
+    let dictionary = beds();
+    let (four, five) = (Request::read(&dictionary, &S), Request::read(&dictionary, &bytes));
+    let (four, five) = (four.unwrap(), five.unwrap());
+    assert!(four.statements().eq(five.statements()));
+    assert!(four.parameters().eq(five.parameters()));
+    assert!(four.contexts().eq(five.contexts()));
+    for heat in [Field::Reading(301), Field::Reading(300), Field::Reading(65535), Field::Missing(2)]
+    {
+        assert_eq!(
+            five.evaluate(0, &[0, 0], &bed(heat)).unwrap(),
+            four.evaluate(0, &[0, 0], &bed(heat)).unwrap()
+        );
+    }
+}
+
+/// Relation 1 BEDS with DROPS, a number of type 16 and scale -18.
+const COUNTED: &[u8] = b"\x0b\0\x01\0\x01\0\x04BEDS\x10\0\x02\0\0\0\x10\xee\x08\0\x05DROPS";
+
+/// A request of a version with one message, of a number of type 16 and scale -18 and a flag of type 16, that asks for the beds whose
+/// drops are those of the message.
+fn counted(version: u8) -> Vec<u8> {
+    let mut bytes = vec![version, codes::BEGIN, codes::MESSAGE, 0, 2, 0];
+    bytes.extend([codes::INT64, 0xee, codes::INT64, 0]);
+    bytes.extend([codes::FOR, codes::RSE, 1, codes::RID, 1, 0, 0, codes::BOOLEAN, codes::EQL]);
+    bytes.extend([codes::FID, 0, 0, 0, codes::PARAMETER2, 0, 0, 0, 1, 0, codes::END]);
+    bytes.extend([codes::BEGIN, codes::END, codes::END, codes::EOC]);
+    bytes
+}
+
+#[test]
+fn numbers_of_eight_bytes() {
+    let dictionary = Dictionary::new(COUNTED).unwrap();
+    let bytes = counted(codes::VERSION5);
+    let request = Request::read(&dictionary, &bytes).unwrap();
+    let rows: Vec<_> =
+        request.parameters().map(|p| (p.number, p.kind, p.scale, p.offset, p.bytes)).collect();
+    assert_eq!(rows, [(0, Type::Int64, -18, 0, 8), (1, Type::Int64, 0, 8, 8)]);
+    assert_eq!(rows[0].1.to_string(), "int64");
+
+    let asked = |field, number: i64, flag: i64| {
+        let message = [number.to_le_bytes(), flag.to_le_bytes()].concat();
+        request.evaluate(0, &message, &record(1, &[field])).unwrap()
+    };
+    for number in [i64::MIN, -1, 0, 65535, i64::MAX] {
+        assert_eq!(asked(Field::Int64(number), number, 0), Truth::True);
+        assert_eq!(asked(Field::Int64(number), number ^ 1 << 62, 0), Truth::False);
+        assert_eq!(asked(Field::Int64(number), number, i64::MIN), Truth::Missing(Cause::Flag));
+    }
+    // missing by its bit, and by nothing else
+    assert_eq!(asked(Field::Missing(8), 0, 0), Truth::Missing(Cause::Bit));
+    assert_eq!(asked(Field::Missing(8), 0, 1), Truth::Missing(Cause::Bit));
+}
+
+/// A store keeps a number of eight bytes as it is: only a reading is marked.
+#[test]
+fn numbers_of_eight_bytes_in_a_store() {
+    let dictionary = Dictionary::new(COUNTED).unwrap();
+    let mut buffer = [0; 10 + 2 * 15];
+    let mut store = Store::make(&dictionary, &mut buffer, 1).unwrap();
+    store.add(&record(1, &[Field::Int64(65535)])).unwrap();
+    store.add(&record(1, &[Field::Missing(8)])).unwrap();
+    assert_eq!((store.len(), store.missing_count()), (2, 1));
+    assert_eq!(store.get(0).unwrap(), record(1, &[Field::Int64(65535)]));
+}
+
+#[test]
+fn version_4_has_no_type_16() {
+    let dictionary = Dictionary::new(COUNTED).unwrap();
+    let told = |bytes: &[u8]| {
+        let refusal = Request::read(&dictionary, bytes).unwrap_err();
+        (refusal.reason(), refusal.place())
+    };
+    // in a message, at the type; in a literal, too
+    assert_eq!(told(&counted(codes::VERSION4)), (Reason::NotDue, 6));
+    let literal = [4, 2, 8, 61, 21, codes::INT64, 0, 0, 0, 0, 0, 0, 0, 0, 0, 2, 255, 255, 255, 76];
+    assert_eq!(told(&literal), (Reason::NotDue, 5));
+    assert!(Request::read(&dictionary, &[&[5], &literal[1..]].concat()).is_ok());
+
+    // a field of it that is named, by its name and by its id, at the field code
+    let named = b"\x04\x02\x07\x43\x01\x4b\x01\0\0\x47\x3d\x17\0\x05DROPS\xff\x02\xff\xff\x4c";
+    assert_eq!(told(named), (Reason::Unfit, 11));
+    assert!(Request::read(&dictionary, &[&[5], &named[1..]].concat()).is_ok());
+    let by_id = b"\x04\x02\x07\x43\x01\x4b\x01\0\0\x47\x3d\x18\0\0\0\xff\x02\xff\xff\x4c";
+    assert_eq!(told(by_id), (Reason::Unfit, 11));
+    assert!(Request::read(&dictionary, &[&[5], &by_id[1..]].concat()).is_ok());
+
+    // its relation may be gone through
+    let streamed = b"\x04\x02\x07\x43\x01\x4b\x01\0\0\xff\x02\xff\xff\x4c";
+    assert!(Request::read(&dictionary, streamed).is_ok());
+
+    // a scale below -18
+    let mut low = counted(codes::VERSION5);
+    low[7] = 0xed;
+    assert_eq!(told(&low), (Reason::OutOfRange, 7));
+}
+
+/// What an equality of a quotient of two shorts with a short comes out as, each a number and its scale, in a version.
+fn quotient(version: u8, numbers: [(i16, i8); 3]) -> Result<Truth, Refusal> {
+    let mut bytes = vec![version, codes::BEGIN, codes::IF, codes::EQL, codes::DIVIDE];
+    for (number, scale) in numbers {
+        bytes.extend([codes::LITERAL, codes::SHORT, scale as u8]);
+        bytes.extend(number.to_le_bytes());
+    }
+    bytes.extend([codes::BEGIN, codes::END, codes::END, codes::END, codes::EOC]);
+    let dictionary = Dictionary::new(&[])?;
+    let request = Request::read(&dictionary, &bytes)?;
+    request.evaluate(0, &[], &[])
+}
+
+/// A quotient's scale is the first less the second in version 4, and the sum of both in version 5.
+#[test]
+fn quotients_by_version() {
+    // 7 by 0.2: 35.0 in version 5; in version 4 the scale would be 1
+    assert_eq!(quotient(5, [(7, 0), (2, -1), (350, -1)]), Ok(Truth::True));
+    assert_eq!(quotient(5, [(7, 0), (2, -1), (35, 0)]), Ok(Truth::True));
+    assert_eq!(quotient(5, [(7, 0), (2, -1), (351, -1)]), Ok(Truth::False));
+    let unfit = quotient(4, [(7, 0), (2, -1), (350, -1)]).unwrap_err();
+    assert_eq!((unfit.reason(), unfit.place()), (Reason::Unfit, 4));
+    // 0.7 by 0.2: 3 in version 4, 3.50 in version 5
+    assert_eq!(quotient(4, [(7, -1), (2, -1), (3, 0)]), Ok(Truth::True));
+    assert_eq!(quotient(5, [(7, -1), (2, -1), (3, 0)]), Ok(Truth::False));
+    assert_eq!(quotient(5, [(7, -1), (2, -1), (350, -2)]), Ok(Truth::True));
+    // 7 by 2, cut toward zero in both
+    for version in [codes::VERSION4, codes::VERSION5] {
+        assert_eq!(quotient(version, [(7, 0), (2, 0), (3, 0)]), Ok(Truth::True));
+        assert_eq!(quotient(version, [(-7, 0), (2, 0), (-3, 0)]), Ok(Truth::True));
+    }
+    // 7 times 10^18 fits in 64 bits, and 10 times 10^18 does not; 0 always does; a zero divisor is told first
+    assert_eq!(quotient(5, [(7, 0), (1, -9), (7000, 0)]), Ok(Truth::False));
+    let told =
+        |numbers| quotient(5, numbers).map_err(|refusal| (refusal.reason(), refusal.place()));
+    assert_eq!(told([(10, 0), (1, -9), (0, 0)]), Err((Reason::Overflow, 4)));
+    assert_eq!(told([(10, 0), (0, -9), (0, 0)]), Err((Reason::ZeroDivisor, 4)));
+    assert_eq!(told([(0, 0), (1, -9), (0, 0)]), Ok(Truth::True));
 }
 
 #[test]

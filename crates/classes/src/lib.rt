@@ -1,6 +1,7 @@
 // The class of a code at each kind of place: due, left out by document 01 by name, or foreign.
 ghost use mathlib.Core.Path.{_≡_};
 ghost use Rattle.wire.specs.Classes.{statementClass, valueClass, targetClass, booleanClass, streamClass, clauseClass, directionClass, descriptorClass, literalClass, fieldClass};
+ghost use Rattle.wire.specs.Versions.{versionOf, widthDue, typeDue, literalDue, fieldDue};
 ghost use Rattle.classes.specs.Classes.{statementClassOf, valueClassOf, targetClassOf, booleanClassOf, streamClassOf, clauseClassOf, directionClassOf, descriptorClassOf, literalClassOf, fieldClassOf};
 use wire::blr;
 use wire::codes::BooleanCode;
@@ -18,6 +19,7 @@ use wire::codes::StreamCode;
 use wire::codes::TextSearch;
 use wire::codes::TextType;
 use wire::codes::ValueCode;
+use wire::codes::Version;
 use wire::codes::Width;
 
 pub enum StatementClass {
@@ -213,6 +215,7 @@ pub fn descriptor_class(code: u8) -> DescriptorClass
     match code {
         blr::SHORT => DescriptorClass::Due(DataType::Number(Width::Short)),
         blr::LONG => DescriptorClass::Due(DataType::Number(Width::Long)),
+        blr::INT64 => DescriptorClass::Due(DataType::Number(Width::Int64)),
         blr::DATE => DescriptorClass::Due(DataType::Date),
         blr::TEXT => DescriptorClass::Due(DataType::Chars(TextType::Text)),
         blr::VARYING => DescriptorClass::Due(DataType::Chars(TextType::Varying)),
@@ -229,6 +232,7 @@ pub fn literal_class(code: u8) -> LiteralClass
     match code {
         blr::SHORT => LiteralClass::Due(LiteralType::NumberLiteral(Width::Short)),
         blr::LONG => LiteralClass::Due(LiteralType::NumberLiteral(Width::Long)),
+        blr::INT64 => LiteralClass::Due(LiteralType::NumberLiteral(Width::Int64)),
         blr::TEXT => LiteralClass::Due(LiteralType::TextLiteral),
         blr::QUAD
         | blr::FLOAT
@@ -248,11 +252,68 @@ pub fn field_class(code: u8) -> FieldClass
     match code {
         blr::SHORT => FieldClass::Due(FieldType::Plain(DataType::Number(Width::Short))),
         blr::LONG => FieldClass::Due(FieldType::Plain(DataType::Number(Width::Long))),
+        blr::INT64 => FieldClass::Due(FieldType::Plain(DataType::Number(Width::Int64))),
         blr::DATE => FieldClass::Due(FieldType::Plain(DataType::Date)),
         blr::TEXT => FieldClass::Due(FieldType::Plain(DataType::Chars(TextType::Text))),
         blr::VARYING => FieldClass::Due(FieldType::Plain(DataType::Chars(TextType::Varying))),
         blr::CSTRING => FieldClass::Due(FieldType::Plain(DataType::Chars(TextType::Cstring))),
         blr::HOUSE_READING => FieldClass::Due(FieldType::Reading),
         _ => FieldClass::Foreign,
+    }
+}
+
+// The version of a request's first byte; any byte but 5 counts as version 4.
+pub fn version_of(code: u8) -> Version
+    ensures { λ r. ⌜ r ≡ versionOf code ⌝ }
+{
+    if code == blr::VERSION5 {
+        Version::Version5
+    } else {
+        Version::Version4
+    }
+}
+
+// Whether a number of a width is due in a version: eight bytes in version 5 alone.
+fn width_due(v: Version, w: Width) -> bool
+    ensures { λ r. ⌜ r ≡ widthDue v w ⌝ }
+{
+    match w {
+        Width::Short => true,
+        Width::Long => true,
+        Width::Int64 => match v {
+            Version::Version4 => false,
+            Version::Version5 => true,
+        },
+    }
+}
+
+// Whether a type of a descriptor is due in a version.
+pub fn type_due(v: Version, t: DataType) -> bool
+    ensures { λ r. ⌜ r ≡ typeDue v t ⌝ }
+{
+    match t {
+        DataType::Number(w) => width_due(v, w),
+        DataType::Date => true,
+        DataType::Chars(_) => true,
+    }
+}
+
+// Whether a type of a literal is due in a version.
+pub fn literal_due(v: Version, t: LiteralType) -> bool
+    ensures { λ r. ⌜ r ≡ literalDue v t ⌝ }
+{
+    match t {
+        LiteralType::NumberLiteral(w) => width_due(v, w),
+        LiteralType::TextLiteral => true,
+    }
+}
+
+// Whether a request of a version may name a field of a type.
+pub fn field_due(v: Version, t: FieldType) -> bool
+    ensures { λ r. ⌜ r ≡ fieldDue v t ⌝ }
+{
+    match t {
+        FieldType::Plain(x) => type_due(v, x),
+        FieldType::Reading => true,
     }
 }

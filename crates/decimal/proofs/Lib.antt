@@ -6,6 +6,7 @@ pub mod Fitted
 pub mod Signed
 pub mod Scales
 pub mod Quotient
+pub mod Raised
 pub mod Ranges
 pub mod Differences
 pub mod Ordered

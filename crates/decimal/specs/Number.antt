@@ -1,11 +1,13 @@
 -- 01: "Numbers are signed 64-bit with a scale, compared exactly over the powers of ten up to 10^18."
-use Prim.Native.Nat.{ℕ, suc, _+_, _-_, _^_, min, max}
+use Prim.Native.Nat.{ℕ, suc, _+_, _-_, _*_, _^_, min, max}
 use mathlib.Core.Bool.{Bool, cond}
 use lib.Dec.{ltb}
 use lib.IntN.{ℤ, pos, negsuc, negℤ, _+ℤ_, _-ℤ_, _*ℤ_}
 use lib.Signed.{mag, quotZ}
 use Rattle.wire.specs.declared.order.Order.{Order}
 use Rattle.wire.specs.Orders.{orderℤ}
+use Rattle.wire.specs.declared.codes.Version.{Version}
+use Rattle.wire.specs.declared.codes.Version.the-variants.{Version4, Version5}
 use Rattle.wire.specs.declared.codes.Operator.{Operator}
 use Rattle.wire.specs.declared.codes.Operator.the-variants.{Add, Subtract, Multiply, Divide}
 use Rattle.decimal.specs.declared.Number.{Number}
@@ -78,14 +80,36 @@ divided a (negsuc n) scale = fitted (quotZ (a .value) (negsuc n)) scale
 unfoldable pub quotient : Number → Number → Computed
 quotient a b = divided a (b .value) (scaleOf (places (a .scale)) -ℤ scaleOf (places (b .scale)))
 
+-- 02, No. 8: "a zero divisor is told first"
+abbrev pub unlessZero : ℤ → Computed → Computed
+unlessZero (pos ℕ.zero) x = ZeroDivisor
+unlessZero (pos (suc n)) x = x
+unlessZero (negsuc n) x = x
+
+-- 02, No. 8: "the dividend times ten to minus twice the divisor's scale", or "overflow if the multiplied dividend .. doesn't fit"
+abbrev pub raisedDividend : Number → Number → Computed
+raisedDividend a b = fitted (a .value *ℤ pos (10 ^ (2 * places (b .scale)))) (scaleOf (places (a .scale)))
+
+-- the quotient of a number that may be overflow
+abbrev pub dividedFrom : Computed → ℤ → ℤ → Computed
+dividedFrom a y scale = a >>= λ x. divided x y scale
+
+-- 02, No. 8: "A quotient has the sum of the two scales: the dividend times ten to minus twice the divisor's scale, divided and truncated
+-- toward zero, with overflow if the multiplied dividend or the quotient doesn't fit; a zero divisor is told first."
+unfoldable pub quotient5 : Number → Number → Computed
+quotient5 a b =
+    unlessZero (b .value) (dividedFrom (raisedDividend a b) (b .value) (scaleOf (places (a .scale) + places (b .scale))))
+
 unfoldable pub negated : Number → Computed
 negated a = fitted (negℤ (a .value)) (scaleOf (places (a .scale)))
 
-unfoldable pub computed : Operator → Number → Number → Computed
-computed Add a b = added a b
-computed Subtract a b = subtracted a b
-computed Multiply a b = multiplied a b
-computed Divide a b = quotient a b
+-- 02, No. 8: "Version 4 keeps its divide rule"
+unfoldable pub computed : Version → Operator → Number → Number → Computed
+computed v Add a b = added a b
+computed v Subtract a b = subtracted a b
+computed v Multiply a b = multiplied a b
+computed Version4 Divide a b = quotient a b
+computed Version5 Divide a b = quotient5 a b
 
 -- 01: "compared exactly over the powers of ten up to 10^18": both at the most places
 unfoldable pub compared : Number → Number → Order

@@ -1,7 +1,8 @@
 // Scaled numbers: a signed 64-bit value with a scale, a signed byte from -18 to 0. The number is the value times ten to the scale.
 ghost use mathlib.Core.Path.{_≡_};
-ghost use Rattle.decimal.specs.Number.{places, rescaled, added, subtracted, multiplied, quotient, negated, computed, compared};
+ghost use Rattle.decimal.specs.Number.{places, rescaled, added, subtracted, multiplied, quotient, quotient5, negated, computed, compared};
 use wire::codes::Operator;
+use wire::codes::Version;
 use wire::order::Order;
 
 mod order;
@@ -72,6 +73,21 @@ pub(crate) fn divide(a: Number, b: Number) -> Computed
     values::quotient_of(a, y, first - second)
 }
 
+// The quotient of version 5, toward zero: the dividend is first raised by the divisor's places, twice.
+pub(crate) fn divide5(a: Number, b: Number) -> Computed
+    ensures { λ r. ⌜ r ≡ quotient5 a b ⌝ }
+{
+    let x = a.value;
+    let y = b.value;
+    if y == 0 {
+        return Computed::ZeroDivisor;
+    }
+    let p = places::places_in(a);
+    let q = places::places_in(b);
+    let dividend = rescaling::raise_twice(x, q, places::scale_of(p));
+    values::quotient_from(dividend, y, places::scale_of(p + q))
+}
+
 pub fn negate(a: Number) -> Computed
     ensures { λ r. ⌜ r ≡ negated a ⌝ }
 {
@@ -79,14 +95,17 @@ pub fn negate(a: Number) -> Computed
     values::opposite(x, places::scale_of(places::places_in(a)))
 }
 
-pub fn compute(o: Operator, a: Number, b: Number) -> Computed
-    ensures { λ r. ⌜ r ≡ computed o a b ⌝ }
+pub fn compute(v: Version, o: Operator, a: Number, b: Number) -> Computed
+    ensures { λ r. ⌜ r ≡ computed v o a b ⌝ }
 {
     match o {
         Operator::Add => add(a, b),
         Operator::Subtract => subtract(a, b),
         Operator::Multiply => multiply(a, b),
-        Operator::Divide => divide(a, b),
+        Operator::Divide => match v {
+            Version::Version4 => divide(a, b),
+            Version::Version5 => divide5(a, b),
+        },
     }
 }
 

@@ -1,6 +1,6 @@
 // A number at more decimal places.
 ghost use mathlib.Core.Path.{_≡_};
-ghost use Prim.Native.Nat.{_≤_, _^_};
+ghost use Prim.Native.Nat.{_*_, _≤_, _^_};
 ghost use lib.IntN.{pos, _*ℤ_};
 ghost use Rattle.decimal.specs.Number.{maxPlaces, fitted, rescaled};
 use super::Computed;
@@ -22,6 +22,18 @@ pub(crate) fn raise(x: i64, k: usize, scale: i8) -> Computed
         return Computed::Value(Number { value: x, scale });
     }
     product(is_negative(x), magnitude(x), false, power(k), scale)
+}
+
+// The value times the same power of ten twice. Where the first product does not fit, the second does not.
+pub(crate) fn raise_twice(x: i64, k: usize, scale: i8) -> Computed
+    requires { ⌜ k ≤ maxPlaces ⌝ }
+    ensures { λ r. ⌜ r ≡ fitted (x *ℤ pos (10 ^ (2 * k))) scale ⌝ }
+{
+    match raise(x, k, scale) {
+        Computed::Value(n) => raise(n.value, k, scale),
+        Computed::Overflow => Computed::Overflow,
+        Computed::ZeroDivisor => Computed::ZeroDivisor,
+    }
 }
 
 // The number at k places, or at its own where these are more.

@@ -3,7 +3,7 @@ ghost use mathlib.Core.Path.{_≡_};
 ghost use Prim.Native.Nat.{_*_, _^_};
 ghost use lib.Dec.{ltb};
 ghost use lib.IntN.{negℤ, _+ℤ_, _*ℤ_};
-ghost use Rattle.decimal.specs.Number.{fits, fitted, divided};
+ghost use Rattle.decimal.specs.Number.{fits, fitted, divided, dividedFrom};
 ghost use Rattle.decimal.specs.Internal.Signs.{signed, complementIf};
 ghost use Rattle.decimal.specs.Internal.Sums.{negatedIf};
 use super::Computed;
@@ -85,4 +85,15 @@ pub(crate) fn quotient_of(a: Number, y: i64, scale: i8) -> Computed
         value: x / y,
         scale,
     })
+}
+
+// The quotient of a number that may be overflow and a value, toward zero.
+pub(crate) fn quotient_from(a: Computed, y: i64, scale: i8) -> Computed
+    ensures { λ r. ⌜ r ≡ dividedFrom a y scale ⌝ }
+{
+    match a {
+        Computed::Value(x) => quotient_of(x, y, scale),
+        Computed::Overflow => Computed::Overflow,
+        Computed::ZeroDivisor => Computed::ZeroDivisor,
+    }
 }

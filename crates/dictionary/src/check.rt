@@ -77,7 +77,7 @@ fn whole_entry(d: &[u8], p: usize, k: usize) -> bool
 fn number_fits(w: Width, scale: u8, size: u32) -> bool
     ensures { λ r. ⌜ r ≡ fitting (Plain (IsNumber w)) scale size ⌝ }
 {
-    if !scale_in_range(scale) {
+    if !scale_in_range(w, scale) {
         return false;
     }
     size as usize == width_bytes(w)
@@ -106,7 +106,7 @@ fn fits(t: FieldType, scale: u8, size: u32) -> bool
 {
     match t {
         FieldType::Plain(x) => plain_fits(x, scale, size),
-        FieldType::Reading => if scale_in_range(scale) {
+        FieldType::Reading => if scale_in_range(Width::Short, scale) {
             size as usize == READING_SIZE
         } else {
             false

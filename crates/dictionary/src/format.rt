@@ -3,17 +3,19 @@ ghost use mathlib.Core.Path.{_≡_};
 ghost use Rattle.dictionary.specs.Format.{widthBytes, textBytes};
 use wire::codes::TextType;
 use wire::codes::Width;
+use wire::limits::INT64_SIZE;
 use wire::limits::LENGTH_WORD;
 use wire::limits::LONG_SIZE;
 use wire::limits::SHORT_SIZE;
 
-// "short 7 and long 8 .. (2 and 4 bytes)"
+// "short 7 and long 8 .. (2 and 4 bytes)"; 02, No. 8: type 16 "of 8 bytes".
 pub fn width_bytes(w: Width) -> usize
     ensures { λ r. ⌜ r ≡ widthBytes w ⌝ }
 {
     match w {
         Width::Short => SHORT_SIZE,
         Width::Long => LONG_SIZE,
+        Width::Int64 => INT64_SIZE,
     }
 }
 

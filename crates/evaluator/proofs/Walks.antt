@@ -4,6 +4,8 @@ use mathlib.Core.Path.{_≡_, refl, sym, ap, _∙_}
 use lib.ListN.{length}
 use Rattle.wire.specs.Words.{byteAt}
 use Rattle.wire.specs.Classes.{valueClass, booleanClass}
+use Rattle.wire.specs.Versions.{versionOf}
+use Rattle.wire.specs.declared.codes.Version.{Version}
 use Rattle.wire.specs.declared.codes.Operator.{Operator}
 use Rattle.wire.specs.declared.codes.Comparison.{Comparison}
 use Rattle.wire.specs.declared.codes.TextSearch.{TextSearch}
@@ -85,12 +87,15 @@ module _ (g : Slices) where
       reference-is e h = value-formed e h
 
     module _ (k : OperationCode) {q : ℕ} {a : Walked Datum} (n : q ≡ next p) (i : a ≡ valuesOf g l q) where
-      pub arithmetic-is : {b : Walked Datum} {o : Operator} {r : Walked Datum} → k ≡ Operation.Arithmetic o → b ≡ (a ▷ λ x u. valuesOf g l u) →
-          r ≡ (a ▷ λ x u. b ▷ λ y e. ended (arithmeticOf o p x y) e) → r ≡ under (operationCode k)
+      pub arithmetic-is : {b : Walked Datum} {o : Operator} {r : Walked Datum} {v : Version} {w : ℕ} → k ≡ Operation.Arithmetic o →
+          b ≡ (a ▷ λ x u. valuesOf g l u) → w ≡ byteAt (g .request) 0 → v ≡ versionOf w →
+          r ≡ (a ▷ λ x u. b ▷ λ y e. ended (arithmeticOf v o p x y) e) → r ≡ under (operationCode k)
       unfolding valueUnder
-      arithmetic-is {b} {o} f j h =
-          h ∙ second-after a b (valuesOf g l) (λ x y e. ended (arithmeticOf o p x y) e) j
-          ∙ ap (λ z. z ▷ λ x u. valuesOf g l u ▷ λ y e. ended (arithmeticOf o p x y) e) (next-value l p n i) ∙ sym (rw f)
+      arithmetic-is {b} {o} {v = v} f j first is h =
+          h ∙ second-after a b (valuesOf g l) (λ x y e. ended (arithmeticOf v o p x y) e) j
+          ∙ ap (λ z. z ▷ λ x u. valuesOf g l u ▷ λ y e. ended (arithmeticOf v o p x y) e) (next-value l p n i)
+          ∙ ap (λ v. valuesOf g l (p + 1) ▷ λ x u. valuesOf g l u ▷ λ y e. ended (arithmeticOf v o p x y) e) (is ∙ ap versionOf first)
+          ∙ sym (rw f)
 
       pub negation-is : {r : Walked Datum} → k ≡ Operation.Negate → r ≡ (a ▷ λ x e. ended (negateOf p x) e) → r ≡ under (operationCode k)
       unfolding valueUnder

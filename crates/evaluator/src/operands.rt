@@ -9,6 +9,7 @@ use crate::forms::value_form;
 use crate::places::place_after;
 use classes::ValueClass;
 use classes::value_class;
+use classes::version_of;
 use inputs::literals::literal;
 use inputs::references::reference;
 use values::Valued;
@@ -148,7 +149,7 @@ fn operation<'a>(
                 levels,
                 a,
             );
-            arithmetic(o, a, b, at)
+            arithmetic(version_of(byte_at(request, 0)), o, a, b, at)
         }
         OperationCode::Negate => negation(a, at),
     }

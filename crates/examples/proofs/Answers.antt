@@ -38,6 +38,7 @@ use Rattle.text.specs.Value
 use Rattle.wire.specs.Classes
 use Rattle.wire.specs.Lists
 use Rattle.wire.specs.Orders
+use Rattle.wire.specs.Versions
 use Rattle.wire.specs.Words
 
 pub data Answer : Type 0 where
@@ -74,7 +75,7 @@ unfolding Number.places Number.fitted Number.rescaled Number.added Number.subtra
 openNumber = tt
 
 unfoldable pub openNumber2 : Unit {0}
-unfolding Number.quotient Number.negated Number.computed Number.compared
+unfolding Number.quotient Number.quotient5 Number.negated Number.computed Number.compared
 openNumber2 = tt
 
 unfoldable pub openDictionary : Unit {0}
@@ -126,7 +127,7 @@ unfolding Conditions.receivesConditions Conditions.requestConditions
 openConditions2 = tt
 
 unfoldable pub openKinds : Unit {0}
-unfolding Kinds.formatKind Kinds.literalKind Kinds.referenceKind Kinds.arithmeticKind Kinds.kindOf Kinds.oneKind Kinds.bothText
+unfolding Kinds.formatKind Kinds.fieldKind Kinds.literalKind Kinds.referenceKind Kinds.arithmeticKind Kinds.kindOf Kinds.oneKind Kinds.bothText
 openKinds = tt
 
 unfoldable pub openKinds2 : Unit {0}
@@ -162,7 +163,7 @@ unfolding Reading.nothingMore Reading.outerStatements Reading.request Reading.re
 openReading = tt
 
 unfoldable pub openReading2 : Unit {0}
-unfolding Reading.parameterTable Reading.contextTable
+unfolding Reading.version Reading.parameterTable Reading.contextTable
 openReading2 = tt
 
 unfoldable pub openRefusals : Unit {0}
@@ -266,7 +267,7 @@ unfolding Decoding.clauses Decoding.rseOf Decoding.many Decoding.manyReceives De
 openDecoding4 = tt
 
 unfoldable pub openDecoding5 : Unit {0}
-unfolding Decoding.atEnd Decoding.descriptor Decoding.request Decoding.decode
+unfolding Decoding.int64 Decoding.atEnd Decoding.descriptor Decoding.version Decoding.request Decoding.decode
 openDecoding5 = tt
 
 unfoldable pub openEvaluation : Unit {0}
@@ -321,6 +322,10 @@ unfoldable pub openWords : Unit {0}
 unfolding Words.signed
 openWords = tt
 
+unfoldable pub openVersions : Unit {0}
+unfolding Versions.isVersion Versions.versionOf
+openVersions = tt
+
 unfoldable pub everything1 : Unit {0}
 unfolding openNumber openNumber2 openDictionary openDictionary2 openFormat openDictionaryNames openRecord openRecord2 openBytes
 everything1 = tt
@@ -346,7 +351,7 @@ unfolding openDecoding2 openDecoding3 openDecoding4 openDecoding5 openEvaluation
 everything6 = tt
 
 unfoldable pub everything7 : Unit {0}
-unfolding openTests openTests2 openValue openClasses openClasses2 openLists openOrders openWords
+unfolding openTests openTests2 openValue openClasses openClasses2 openLists openOrders openWords openVersions
 everything7 = tt
 
 unfoldable pub readAnswer : List ℕ → List ℕ → ℕ → ℕ → ℕ → Answer

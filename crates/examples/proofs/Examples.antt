@@ -36,15 +36,22 @@ evaluated record′ = evaluateAnswer S dictionary 0 (0 ∷ 0 ∷ []) record′
 pub beds : List (List ℕ)
 beds = bed 0 0x2D 0x01 ∷ bed 0 0x2C 0x01 ∷ bed 0 0xFE 0xFF ∷ bed 0 0xFF 0xFF ∷ bed 1 0x2D 0x01 ∷ []
 
-pub expected : List Answer
-expected =
-    -- "P: S gives these rows."; 02, No. 7: a fifth number of a statement's row, and a sixth of a context's
+-- the rows of S; 02, No. 7: a fifth number of a statement's row, and a sixth of a context's
+pub rowsOfS : Answer
+rowsOfS =
     rows
     (1 ∷ 2 ∷ 0 ∷ 40 ∷ 0 ∷ 8 ∷ 7 ∷ 1 ∷ 39 ∷ 1 ∷ 27 ∷ 14 ∷ 2 ∷ 39 ∷ 0 ∷ 29 ∷ 1 ∷ 3 ∷ 39 ∷ 0 ∷ [])
     (0 ∷ 0 ∷ 7 ∷ 0 ∷ 0 ∷ 2 ∷ [])
     (0 ∷ 11 ∷ 15 ∷ 39 ∷ 1 ∷ 7 ∷ [])
-    -- "Byte 0 to 5: 5 at 0. Byte 18 to 1: 11 at 18. Byte 19 to 1: 13 at 16; to 2: 12 at 19. Byte 36 to 5: 9 at 36. Byte 37 to 1: 10 at 37."
-    ∷ refusal 5 0 ∷ refusal 11 18 ∷ refusal 13 16 ∷ refusal 12 19 ∷ refusal 9 36 ∷ refusal 10 37
+
+pub expected : List Answer
+expected =
+    -- "P: S gives these rows."
+    rowsOfS
+    -- 02, No. 8: "5 now for a first byte other than 4 or 5, so 01's S with byte 0 at 5 is accepted", in place of 01's "byte 0 to 5: 5 at 0"
+    ∷ rowsOfS ∷ refusal 5 0
+    -- "Byte 18 to 1: 11 at 18. Byte 19 to 1: 13 at 16; to 2: 12 at 19. Byte 36 to 5: 9 at 36. Byte 37 to 1: 10 at 37."
+    ∷ refusal 11 18 ∷ refusal 13 16 ∷ refusal 12 19 ∷ refusal 9 36 ∷ refusal 10 37
     -- "P: HEAT 301 true, 300 false, 65534 true, 65535 missing, 301 with its bit set missing."
     ∷ isTrue ∷ isFalse ∷ isTrue ∷ isMissing Cause.Reading ∷ isMissing Cause.Bit ∷ []
 
@@ -52,9 +59,9 @@ expected =
 pub computed : List Answer
 computed =
     readAnswer S dictionary statementTableNumbers parameterTableNumbers contextTableNumbers ∷
-    altered 0 5 ∷ altered 18 1 ∷ altered 19 1 ∷ altered 19 2 ∷ altered 36 5 ∷ altered 37 1 ∷ map evaluated beds
+    altered 0 5 ∷ altered 0 6 ∷ altered 18 1 ∷ altered 19 1 ∷ altered 19 2 ∷ altered 36 5 ∷ altered 37 1 ∷ map evaluated beds
 
 -- 01: "The P examples are proved on the definitions as a single list under one theorem"
 pub examples : computed ≡ expected
-unfolding computed expected altered evaluated beds bed S dictionary readAnswer evaluateAnswer
+unfolding computed expected rowsOfS altered evaluated beds bed S dictionary readAnswer evaluateAnswer
 examples = refl

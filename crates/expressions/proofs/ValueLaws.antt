@@ -7,6 +7,7 @@ use native.Mathlib.Omega.{arith}
 use lib.ListN.{length}
 use Rattle.wire.specs.Lists.{isSome}
 use Rattle.wire.specs.Classes.{valueClass}
+use Rattle.wire.specs.declared.codes.Version.{Version}
 use Rattle.wire.specs.declared.codes.Operator.{Operator}
 use Rattle.wire.specs.declared.codes.ReferenceCode.{ReferenceCode}
 use Rattle.wire.specs.declared.codes.ValueCode.{ValueCode}
@@ -84,9 +85,12 @@ module _ (s : List ℕ) (e : Environment) (sc : Scope) (l : ℕ) (c : Cursor) {h
         likewise (value-leveled ∙ rw is) (wrote-moved (value-stands l s c u i .counts) w)
 
     module _ {t : Tables} where
-      pub literal-wrote : {r : Step} → k ≡ Code.Literal → r ≡ stepOf literalFit (readLiteral s q) → ValueWrote s e sc l c t t r
+      pub literal-wrote : {r : Step} {v : Version} → v ≡ e .version → k ≡ Code.Literal → r ≡ stepOf literalFit (readLiteral v s q) →
+          ValueWrote s e sc l c t t r
       unfolding valueUnder kindOf valueRows
-      literal-wrote ke h = under Code.Literal ke (made-of at-start {x = readLiteral s q} literal (λ a. refl) (λ a. refl) (kept h))
+      literal-wrote ve ke h = under Code.Literal ke
+          (made-of at-start {x = readLiteral (e .version) s q} literal (λ a. refl) (λ a. refl)
+          (kept (h ∙ ap (λ v. stepOf literalFit (readLiteral v s q)) ve)))
 
       pub reference-wrote : {r : Step} {code : ReferenceCode} → k ≡ Code.Reference code → r ≡ referenceStep e sc AsValue (c .at) code s q →
           ValueWrote s e sc l c t t r
@@ -120,15 +124,15 @@ module _ (s : List ℕ) (e : Environment) (sc : Scope) (l : ℕ) (c : Cursor) {h
             second-stopped y₁ =
                 under (Code.Arithmetic o) ke (value-part s e sc (l - 1) known w y (λ v. stops w₁ y₁ (λ z. rw (v .is, z))))
 
-            pub arithmetic-wrote : {z : Fit} {q₂ : Cursor} {r : Step} → b ≡ Step.Next z q₂ →
-                r ≡ kindStep (arithmeticKind o (kindIn x) (kindIn z)) (c .at) q₂ → ValueWrote s e sc l c t t₂ r
+            pub arithmetic-wrote : {z : Fit} {q₂ : Cursor} {r : Step} {v : Version} → v ≡ e .version → b ≡ Step.Next z q₂ →
+                r ≡ kindStep (arithmeticKind v o (kindIn x) (kindIn z)) (c .at) q₂ → ValueWrote s e sc l c t t₂ r
             unfolding valueUnder kindOf valueRows
-            arithmetic-wrote {z} {q₂} y₁ h = under (Code.Arithmetic o) ke (value-part s e sc (l - 1) known w y (λ v.
+            arithmetic-wrote {z} {q₂} ve y₁ h = under (Code.Arithmetic o) ke (value-part s e sc (l - 1) known w y (λ v.
                 value-part s e sc (l - 1) known w₁ y₁ (λ v₁.
                 let whole = arithmetic o (v .part) (v₁ .part) in
                 let first = value-stands l s c u i .place in
                 let there : q₁ .at ≡ c .at + 1 + length (valueBytes (v .part)) = omega (arith, first, v .place) in
                 likewise (rw (v .is, v₁ .is))
                 (made-if (reached-on (v .reached) (v₁ .reached)) Unfit (c .at) s (isSome (kindOf e sc whole)) whole
-                (h ∙ rw (v .fit, v₁ .fit, kind-fit (kindOf e sc (v .part)), kind-fit (kindOf e sc (v₁ .part)))
+                (h ∙ rw (ve, v .fit, v₁ .fit, kind-fit (kindOf e sc (v .part)), kind-fit (kindOf e sc (v₁ .part)))
                 (kind-step (valueFit e sc) (kindOf e sc whole) whole (c .at) s q₂ refl)) (rw (first, there))))))

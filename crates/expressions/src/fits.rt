@@ -10,6 +10,7 @@ use grammar::Step;
 use scopes::kinds::arithmetic_fit;
 use scopes::kinds::negated_fit;
 use wire::codes::Operator;
+use wire::codes::Version;
 
 // A value of a kind, or that its parts do not fit.
 fn fitted(k: Fit, at: usize, c: Cursor) -> Step
@@ -34,10 +35,10 @@ pub fn tested(holds: bool, at: usize, c: Cursor) -> Step
     }
 }
 
-pub(crate) fn arithmetic(o: Operator, x: Fit, y: Fit, at: usize, c: Cursor) -> Step
-    ensures { λ r. ⌜ r ≡ kindStep (arithmeticKind o (kindIn x) (kindIn y)) at c ⌝ }
+pub(crate) fn arithmetic(v: Version, o: Operator, x: Fit, y: Fit, at: usize, c: Cursor) -> Step
+    ensures { λ r. ⌜ r ≡ kindStep (arithmeticKind v o (kindIn x) (kindIn y)) at c ⌝ }
 {
-    fitted(arithmetic_fit(o, x, y), at, c)
+    fitted(arithmetic_fit(v, o, x, y), at, c)
 }
 
 pub(crate) fn negation(x: Fit, at: usize, c: Cursor) -> Step

@@ -11,6 +11,7 @@ use grammar::Cursor;
 use grammar::Role;
 use grammar::Step;
 use messages::declared::AROUND;
+use messages::declared::version;
 use references::literal::read_literal;
 use references::reference::read_reference;
 use scopes::scope::SCOPE;
@@ -32,7 +33,7 @@ pub fn read_value(
 {
     match value_at(request, c, levels) {
         ValueHead::Is(k, first) => match k {
-            ValueCode::Literal => read_literal(request, first),
+            ValueCode::Literal => read_literal(request, version(around), first),
             ValueCode::Reference(code) => read_reference(
                 request,
                 dictionary,
@@ -53,7 +54,7 @@ pub fn read_value(
                 let Step::Next(y, after) = b else {
                     return b;
                 };
-                arithmetic(o, x, y, c.at, after)
+                arithmetic(version(around), o, x, y, c.at, after)
             }
             ValueCode::Negate => {
                 let below = levels - 1;

@@ -10,6 +10,9 @@ use borrow.Author.Tests.{leb-true}
 use Rattle.wire.specs.Codes as blr
 use Rattle.wire.specs.Words.{byteAt, wordAt}
 use Rattle.wire.specs.Classes.{Class}
+use Rattle.wire.specs.Versions.{typeDue}
+use Rattle.wire.specs.declared.codes.Version.{Version}
+use Rattle.wire.specs.declared.codes.Width.{Width}
 use Rattle.wire.specs.declared.codes.DataType.{DataType}
 use Rattle.wire.specs.declared.codes.DataType.the-variants.{Number, Date, Chars}
 use Rattle.dictionary.specs.Format.{held, scaleInRange, sizeInRange}
@@ -113,9 +116,9 @@ module _ (s : List ℕ) where
 
   -- ---- messages
 
-  pub scale-stays : Stays s scaleByte
+  pub scale-stays : (w : Width) → Stays s (scaleByte w)
   unfolding scaleByte number
-  scale-stays = tested-stays byte scaleInRange _ refl byte-stays
+  scale-stays w = tested-stays byte (scaleInRange w) _ refl byte-stays
 
   pub size-stays : Stays s sizeWord
   unfolding sizeWord number
@@ -123,29 +126,31 @@ module _ (s : List ℕ) where
 
   descriptor-under-stays : (k : DataType) → Stays s (descriptorUnder k)
   unfolding descriptorUnder
-  descriptor-under-stays (Number w) c h = scale-stays c h onward λ x q i. went i
+  descriptor-under-stays (Number w) c h = scale-stays w c h onward λ x q i. went i
   descriptor-under-stays Date c h = went h
   descriptor-under-stays (Chars t) c h = size-stays c h onward λ x q i. went i
 
-  descriptor-stays : (size : ℕ) → Stays s (descriptor size)
-  unfolding descriptor number
-  descriptor-stays size c h = coded-stays _ c h onward λ t q i. descriptor-under-stays t q i onward λ d q₁ i₁.
-      need-bounded (leb (size + held (descriptorFormat d)) 4096) _ _ _ refl h i₁ onward λ u q₂ i₂. went i₂
+  module _ (v : Version) where
+    descriptor-stays : (size : ℕ) → Stays s (descriptor v size)
+    unfolding descriptor number
+    descriptor-stays size c h = coded-stays _ c h onward λ t q i. need-bounded (typeDue v t) _ _ _ refl h i onward λ u q₁ i₁.
+        descriptor-under-stays t q₁ i₁ onward λ d q₂ i₂.
+        need-bounded (leb (size + held (descriptorFormat d)) 4096) _ _ _ refl h i₂ onward λ u q₃ i₃. went i₃
 
-  descriptors-stays : (n size : ℕ) → Stays s (descriptors n size)
-  unfolding descriptors
-  descriptors-stays zero size c h = went h
-  descriptors-stays (suc n) size c h = descriptor-stays size c h onward λ d q i.
-      descriptors-stays n (size + held (descriptorFormat d)) q i onward λ ds q₁ i₁. went i₁
+    descriptors-stays : (n size : ℕ) → Stays s (descriptors v n size)
+    unfolding descriptors
+    descriptors-stays zero size c h = went h
+    descriptors-stays (suc n) size c h = descriptor-stays size c h onward λ d q i.
+        descriptors-stays n (size + held (descriptorFormat d)) q i onward λ ds q₁ i₁. went i₁
 
-  message-stays : (ms : List Message) → Stays s (message ms)
-  unfolding message number
-  message-stays ms c h = tested-stays byte _ _ refl byte-stays c h onward λ m q i.
-      tested-stays word _ _ refl word-stays q i onward λ n q₁ i₁. descriptors-stays n 0 q₁ i₁ onward λ ds q₂ i₂. went i₂
+    message-stays : (ms : List Message) → Stays s (message v ms)
+    unfolding message number
+    message-stays ms c h = tested-stays byte _ _ refl byte-stays c h onward λ m q i.
+        tested-stays word _ _ refl word-stays q i onward λ n q₁ i₁. descriptors-stays n 0 q₁ i₁ onward λ ds q₂ i₂. went i₂
 
-  pub messages-stays : (k : ℕ) (ms : List Message) → Stays s (messages k ms)
-  unfolding messages number
-  messages-stays zero ms c h = tested-stays peek _ _ refl peek-stays c h onward λ x q i. went i
-  messages-stays (suc k) ms c h = peek-stays c h onward λ x q i. either-bounded (eqb x blr.message) _ _ q
-      (byte-stays q i onward λ y q₁ i₁. message-stays ms q₁ i₁ onward λ m q₂ i₂. messages-stays k (ms ++ (m ∷ [])) q₂ i₂)
-      (went i)
+    pub messages-stays : (k : ℕ) (ms : List Message) → Stays s (messages v k ms)
+    unfolding messages number
+    messages-stays zero ms c h = tested-stays peek _ _ refl peek-stays c h onward λ x q i. went i
+    messages-stays (suc k) ms c h = peek-stays c h onward λ x q i. either-bounded (eqb x blr.message) _ _ q
+        (byte-stays q i onward λ y q₁ i₁. message-stays ms q₁ i₁ onward λ m q₂ i₂. messages-stays k (ms ++ (m ∷ [])) q₂ i₂)
+        (went i)

@@ -11,18 +11,20 @@ use borrow.Author.Tests.{leb-true, ltb-true, ne-eqb}
 use Rattle.wire.specs.Codes as blr
 use Rattle.wire.specs.Limits.{maxDepth}
 use Rattle.wire.specs.Words.{wordAt}
+use Rattle.wire.specs.Versions.{isVersion}
+use Rattle.wire.specs.declared.codes.Version.{Version}
 use Rattle.dictionary.specs.Dictionary.{Relation, entry, Checked, proper, atFault, nextEntry, entries, dictionary}
 use Rattle.grammar.specs.declared.Refusal.{Refusal}
 use Rattle.grammar.specs.declared.Refusal.the-variants.{TablesTooShort, RequestTooLong}
 use Rattle.grammar.specs.Refusals.{number}
 use Rattle.grammar.specs.Tree.{Message, Request}
 use Rattle.grammar.specs.Environment.{outermost}
-use Rattle.grammar.specs.Reader.{Read, read, refused}
-use Rattle.grammar.specs.Reading.{nothingMore, outerStatements, request, start, beside, reading, room, answer}
+use Rattle.grammar.specs.Reader.{byte, Read, read, refused}
+use Rattle.grammar.specs.Reading.{version, nothingMore, outerStatements, request, start, beside, reading, room, answer}
 use Rattle.grammar.specs.Demands.{RefusalWithin}
 use Rattle.grammar.proofs.StepLaws.{absurd-eq}
 use Rattle.grammar.proofs.Went.{both}
-use Rattle.grammar.proofs.Bounded.{OfRequest, Bounded, went, stopped, Stays, _onward_, by-test, code-stays, counted-stays, messages-stays}
+use Rattle.grammar.proofs.Bounded.{byte-stays, tested-stays, OfRequest, Bounded, went, stopped, Stays, _onward_, by-test, code-stays, counted-stays, messages-stays}
 use Rattle.grammar.proofs.BoundedStatements.{many-stays, statement-stays}
 
 -- ---- a request
@@ -32,15 +34,19 @@ module _ (s : List ℕ) where
   unfolding nothingMore number
   nothing-more-stays c h = by-test s (eqb (c .at) (length s)) (λ t. went h) (stopped refl h)
 
-  outer-stays : (d : List Relation) (ms : List Message) → Stays s (outerStatements d ms)
+  outer-stays : (v : Version) (d : List Relation) (ms : List Message) → Stays s (outerStatements v d ms)
   unfolding outerStatements
-  outer-stays d ms = many-stays s 512 _ (statement-stays s (maxDepth - 1) (record { relations = d; messages = ms }) outermost)
+  outer-stays v d ms = many-stays s 512 _ (statement-stays s (maxDepth - 1) (record { version = v; relations = d; messages = ms }) outermost)
+
+  version-stays : Stays s version
+  unfolding version number
+  version-stays c h = tested-stays s byte isVersion _ refl (byte-stays s) c h onward λ b q i. went i
 
   pub request-stays : (d : List Relation) → Stays s (request d)
   unfolding request number
-  request-stays d c h = code-stays s blr.version4 _ refl c h onward λ x q i. code-stays s blr.begin _ refl q i onward λ y q₁ i₁.
-      counted-stays s (q .at) i q₁ i₁ onward λ u q₂ i₂. messages-stays s 16 [] q₂ i₂ onward λ ms q₃ i₃.
-      outer-stays d ms q₃ i₃ onward λ ts q₄ i₄. code-stays s blr.eoc _ refl q₄ i₄ onward λ z q₅ i₅.
+  request-stays d c h = version-stays c h onward λ v q i. code-stays s blr.begin _ refl q i onward λ y q₁ i₁.
+      counted-stays s (q .at) i q₁ i₁ onward λ u q₂ i₂. messages-stays s v 16 [] q₂ i₂ onward λ ms q₃ i₃.
+      outer-stays v d ms q₃ i₃ onward λ ts q₄ i₄. code-stays s blr.eoc _ refl q₄ i₄ onward λ z q₅ i₅.
       nothing-more-stays q₅ i₅ onward λ u₁ q₆ i₆. went i₆
 
 -- ---- the dictionary

@@ -1,14 +1,18 @@
 -- The bytes of a request that the rules allow are read as that request, and as no other.
 use Prim.Native.Nat.{ℕ, _+_, _-_, _≤_}
 use mathlib.Core.Path.{_≡_, refl, sym, ap, _∙_}
+use mathlib.Core.Bool.{true}
 use mathlib.Core.List.{List, [], _∷_, _++_, append-assoc}
 use native.Mathlib.Omega.{arith}
-use lib.ListN.{length}
+use lib.ListN.{length, drop}
 use borrow.Author.Tests.{le-leb, eq-eqb}
 use Rattle.wire.specs.Codes as blr
 use Rattle.wire.specs.Limits.{maxDepth}
 use Rattle.wire.specs.Classes.{statementClass, classify}
 use Rattle.wire.specs.Lists.{among, anyOf}
+use Rattle.wire.specs.Versions.{versionCode, isVersion, versionOf}
+use Rattle.wire.specs.declared.codes.Version.{Version}
+use Rattle.wire.specs.declared.codes.Version.the-variants.{Version4, Version5}
 use Rattle.dictionary.specs.Dictionary.{Relation, proper, dictionary}
 use Rattle.grammar.specs.declared.Refusal.the-variants.{BadVersion, NotDue}
 use Rattle.grammar.specs.declared.Cursor.{Cursor}
@@ -18,8 +22,8 @@ use Rattle.grammar.specs.Environment.{outermost}
 use Rattle.grammar.specs.Rules.{environment, Allowed}
 use Rattle.grammar.specs.Reader.{read, code, countStatement}
 use Rattle.grammar.specs.Messages.{messages}
-use Rattle.grammar.specs.Reading.{nothingMore, outerStatements, request, start, reading}
-use Rattle.grammar.proofs.Found.{on-found, code-found, last-code, counted-found, Other, other-first}
+use Rattle.grammar.specs.Reading.{nothingMore, outerStatements, version, request, start, reading}
+use Rattle.grammar.proofs.Found.{Found, along, on-found, byte-found, tested-found, code-found, last-code, counted-found, Other, other-first}
 use Rattle.grammar.proofs.CompleteMessages.{messages-found}
 use Rattle.grammar.proofs.CompleteStatements.{statement-first, statements-read}
 
@@ -29,11 +33,24 @@ unfolding statementsBytes statementClass classify among anyOf
 statements-first nothing = (blr.end, _, refl, λ e. omega arith)
 statements-first (t then ts) = rw append-assoc (other-first (statementsBytes ts ++ (blr.end ∷ [])) (statement-first blr.message refl t))
 
+-- the code of a version
+pub version-back : (v : Version) → (isVersion (versionCode v) ≡ true) × (versionOf (versionCode v) ≡ v)
+unfolding isVersion versionOf
+version-back Version4 = (refl, refl)
+version-back Version5 = (refl, refl)
+
+version-found : (s : List ℕ) (c : Cursor) {rest : List ℕ} (v : Version) → drop (c .at) s ≡ versionCode v ∷ rest → Found version s c v 0 0 rest
+unfolding version
+version-found s c v h =
+    let b = version-back v in
+    let f = tested-found s c isVersion BadVersion (byte-found s c (versionCode v) h) (b .0) in
+    along f (rw (version, f .is, b .1)) refl refl
+
 -- a request by its steps
 by-steps : (d : List Relation) (s : List ℕ) (r : Request) (a b g m t z : Cursor) →
-    code blr.version4 BadVersion s start ≡ read blr.version4 a → code blr.begin NotDue s a ≡ read blr.begin b →
-    countStatement (a .at) s b ≡ read tt g → messages 16 [] s g ≡ read (r .messages) m →
-    outerStatements d (r .messages) s m ≡ read (r .statements) t → code blr.eoc NotDue s t ≡ read blr.eoc z → z .at ≡ length s →
+    version s start ≡ read (r .version) a → code blr.begin NotDue s a ≡ read blr.begin b →
+    countStatement (a .at) s b ≡ read tt g → messages (r .version) 16 [] s g ≡ read (r .messages) m →
+    outerStatements (r .version) d (r .messages) s m ≡ read (r .statements) t → code blr.eoc NotDue s t ≡ read blr.eoc z → z .at ≡ length s →
     request d s start ≡ read r z
 unfolding request nothingMore
 by-steps d s r a b g m t z e₁ e₂ e₃ e₄ e₅ e₆ e₇ = rw (request, e₁, e₂, e₃, e₄, e₅, e₆, nothingMore, eq-eqb (z .at) (length s) e₇)
@@ -45,11 +62,11 @@ request-complete d r w s h =
     let ts = r .statements in
     let z = w .sized in
     let more = statementsBytes ts ++ (blr.end ∷ []) ++ (blr.eoc ∷ []) in
-    let i : s ≡ blr.version4 ∷ blr.begin ∷ messagesBytes (r .messages) ++ more = h ∙ simp append-assoc in
-    on-found (code-found s start blr.version4 BadVersion i) λ a e₁ h₁ n₁ k₁.
+    let i : s ≡ versionCode (r .version) ∷ blr.begin ∷ messagesBytes (r .messages) ++ more = h ∙ simp append-assoc in
+    on-found (version-found s start (r .version) i) λ a e₁ h₁ n₁ k₁.
     on-found (code-found s a blr.begin NotDue h₁) λ b e₂ h₂ n₂ k₂.
     on-found (counted-found s b h₂ (a .at) (omega arith)) λ g e₃ h₃ n₃ k₃.
-    on-found (messages-found s g (r .messages) (omega arith) (other-first (blr.eoc ∷ []) (statements-first ts))
+    on-found (messages-found (r .version) s g (r .messages) (omega arith) (other-first (blr.eoc ∷ []) (statements-first ts))
     (w .messages) (z .each-message) (z .messages) (z .parameters) h₃) λ m e₄ h₄ n₄ k₄.
     on-found (statements-read s (environment d r) ts outermost (maxDepth - 1) 512 (omega (arith, z .depth)) (omega (arith, z .statements))
     (omega (arith, z .statements)) (w .statements) .from m (omega (arith, z .statements)) (omega (arith, z .contexts)) h₄) λ t e₅ h₅ n₅ k₅.

@@ -8,8 +8,9 @@ use Rattle.wire.specs.Codes as blr
 use Rattle.wire.specs.Lists.{isSome}
 use Rattle.wire.specs.Words.{wordBytes}
 use Rattle.wire.specs.Classes.{due, classify, literalClass, valueClass, targetClass}
+use Rattle.wire.specs.declared.codes.Version.{Version}
 use Rattle.wire.specs.declared.codes.Width.{Width}
-use Rattle.wire.specs.declared.codes.Width.the-variants.{Short, Long}
+use Rattle.wire.specs.declared.codes.Width.the-variants.{Short, Long, Int64}
 use Rattle.wire.specs.declared.codes.LiteralType.the-variants.{NumberLiteral, TextLiteral}
 use Rattle.wire.specs.declared.codes.ReferenceCode.{ReferenceCode}
 use Rattle.wire.specs.declared.codes.ReferenceCode.the-variants.{Field, Fid, Parameter, Parameter2}
@@ -24,10 +25,10 @@ use Rattle.grammar.specs.Bytes.{countedBytes, widthCode, numberBytes, li
 use Rattle.grammar.specs.Environment.{Environment, Scope, parameterFormat, fieldFormat}
 use Rattle.grammar.specs.Scope.{inScope, declared, Known, Target}
 use Rattle.grammar.specs.Kinds.{referenceKind}
-use Rattle.grammar.specs.Sizes.{LiteralInRange}
+use Rattle.grammar.specs.Sizes.{LiteralAllowed}
 use Rattle.grammar.specs.Reader.{Reader, read}
 use Rattle.grammar.specs.Values.{numberOf, literalUnder, readLiteral, contextByte, messageByte, parameterWord, byName, byNumber, fieldName, fieldAllowed, parameterAllowed, readField, readReference, readTarget}
-use Rattle.grammar.proofs.Parts.{Reads, alone, placed, in-turn, three-in-turn, byte-reads, word-reads, long-reads, bytes-read, name-reads, coded-reads, tested-reads}
+use Rattle.grammar.proofs.Parts.{Reads, alone, placed, in-turn, three-in-turn, byte-reads, word-reads, long-reads, int64-reads, bytes-read, name-reads, coded-reads, tested-reads}
 use Rattle.grammar.proofs.Due.{number-due}
 use Rattle.grammar.proofs.Implied.{field-scoped, parameter-declared, text-long}
 use Rattle.grammar.proofs.CompleteMessages.{scale-reads, size-reads}
@@ -37,13 +38,14 @@ use Rattle.grammar.proofs.CompleteMessages.{scale-reads, size-reads}
 number-reads : (s : List ℕ) (w : Width) (n : ℕ) → Reads s (numberOf w) (numberBytes w n) n 0 0
 number-reads s Short n = word-reads n
 number-reads s Long n = long-reads n
+number-reads s Int64 n = int64-reads n
 
-pub literal-reads : (s : List ℕ) (l : Literal) → LiteralInRange l → Reads s readLiteral (literalBytes l) l 0 0
+pub literal-reads : (s : List ℕ) (v : Version) (l : Literal) → LiteralAllowed v l → Reads s (readLiteral v) (literalBytes l) l 0 0
 unfolding readLiteral literalUnder literalBytes literalClass classify
-literal-reads s (Literal.number w scale n) r =
-    three-in-turn (coded-reads literalClass (widthCode w) (NumberLiteral w) (number-due w)) (scale-reads scale r) (number-reads s w n)
-    (λ c q r t rest a b h d. rw (readLiteral, a, b, d)) refl refl
-literal-reads s (Literal.text t) r =
+literal-reads s v (Literal.number w scale n) r =
+    three-in-turn (coded-reads literalClass (widthCode w) (NumberLiteral w) (number-due w)) (scale-reads w scale (r .1)) (number-reads s w n)
+    (λ c q z t rest a b h d. rw (readLiteral, a, r .0, b, d)) refl refl
+literal-reads s v (Literal.text t) r =
     three-in-turn (coded-reads literalClass blr.text TextLiteral refl) (size-reads (length t) r) (bytes-read t (text-long (length t) r))
     (λ c q r t rest a b h d. rw (readLiteral, a, b, d)) refl refl
 
@@ -113,7 +115,7 @@ referenceRest (parameter m i) = m ∷ wordBytes i
 referenceRest (parameter2 m i flag) = m ∷ wordBytes i ++ wordBytes flag
 
 field-reads : (e : Environment) (sc : Scope) (role : Role) (p x : ℕ) (n : Name) →
-    readReference e sc role p (referenceCode (field x n)) ≡ readField sc role (namingOf n)
+    readReference e sc role p (referenceCode (field x n)) ≡ readField e sc role p (namingOf n)
 unfolding readReference
 field-reads e sc role p x (named n) = refl
 field-reads e sc role p x (numbered i) = refl
@@ -123,7 +125,7 @@ pub reference-reads : (s : List ℕ) (e : Environment) (sc : Scope) (role : Role
 unfolding readReference readField
 reference-reads s e sc role p (field x n) k t w =
     in-turn (context-reads s sc x (field-scoped sc x n k)) (field-name-reads s sc x n k)
-    (λ c q r rest h a i b. rw (field-reads e sc role p x n, readField, a, t s q, b)) refl refl
+    (λ c q r rest h a i b. rw (field-reads e sc role p x n, readField, a, t s q, b, w)) refl refl
 reference-reads s e sc role p (parameter m i) k t w =
     in-turn (message-byte-reads s e m (parameter-declared e m i k)) (parameter-reads s e m i k)
     (λ c q r rest h a i b. rw (readReference, a, t s q, b)) refl refl

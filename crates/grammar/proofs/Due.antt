@@ -2,7 +2,7 @@
 use mathlib.Core.Path.{_≡_, refl}
 use Rattle.wire.specs.Classes.{due, classify, valueClass, booleanClass, directionClass, descriptorClass, literalClass}
 use Rattle.wire.specs.declared.codes.Width.{Width}
-use Rattle.wire.specs.declared.codes.Width.the-variants.{Short, Long}
+use Rattle.wire.specs.declared.codes.Width.the-variants.{Short, Long, Int64}
 use Rattle.wire.specs.declared.codes.TextType.{TextType}
 use Rattle.wire.specs.declared.codes.TextType.the-variants.{Text, Varying, Cstring}
 use Rattle.wire.specs.declared.codes.DataType.the-variants.{Number, Chars}
@@ -25,6 +25,7 @@ pub width-due : (w : Width) → descriptorClass (widthCode w) ≡ due (Number w)
 unfolding descriptorClass classify
 width-due Short = refl
 width-due Long = refl
+width-due Int64 = refl
 
 pub text-due : (t : TextType) → descriptorClass (textCode t) ≡ due (Chars t)
 unfolding descriptorClass classify
@@ -36,6 +37,7 @@ pub number-due : (w : Width) → literalClass (widthCode w) ≡ due (NumberLiter
 unfolding literalClass classify
 number-due Short = refl
 number-due Long = refl
+number-due Int64 = refl
 
 pub operator-due : (o : Operator) → valueClass (operatorCode o) ≡ due (Arithmetic o)
 unfolding valueClass classify

@@ -1,5 +1,5 @@
 -- A field's bytes are found by its reader: what it gives, what of the request stands after it, and what it has counted.
-use Prim.Native.Nat.{ℕ, _+_, _*_, _<_, _≤_}
+use Prim.Native.Nat.{ℕ, _+_, _*_, _<_, _≤_, _/_, _%_}
 use mathlib.Core.Path.{_≡_, refl, sym, ap, _∙_}
 use mathlib.Core.Bool.{Bool, true, false}
 use mathlib.Core.List.{List, [], _∷_, _++_}
@@ -8,13 +8,13 @@ use lib.Dec.{eqb}
 use lib.ListN.{length, take, drop, getD, length-append, length-drop}
 use lib.Seq.{drop-drop, getD-drop, take-at, drop-at}
 use borrow.Author.Tests.{lt-ltb, le-leb, eq-eqb, ne-eqb}
-use Rattle.wire.specs.Words.{byteAt, wordAt, longAt, wordBytes, longBytes}
+use Rattle.wire.specs.Words.{byteAt, wordAt, longAt, int64At, wordBytes, longBytes, int64Bytes}
 use Rattle.wire.specs.Classes as Classes
 use Rattle.wire.specs.Classes.{Class}
 use Rattle.grammar.specs.declared.Refusal.{Refusal}
 use Rattle.grammar.specs.declared.Cursor.{Cursor}
 use Rattle.grammar.specs.Bytes as Bytes
-use Rattle.grammar.specs.Reader.{read, Reader, on, taken, byte, word, long, bytes, peek, name, tested, code, coded, withStatement, withContext, countStatement, opened}
+use Rattle.grammar.specs.Reader.{read, Reader, on, taken, byte, word, long, int64, bytes, peek, name, tested, code, coded, withStatement, withContext, countStatement, opened}
 
 -- the reader gives a at the cursor c of the request s, `rest` stands after it, and n statements and k contexts are counted
 pub record Found {A : Type 0} (m : Reader A) (s : List ℕ) (c : Cursor) (a : A) (n k : ℕ) (rest : List ℕ) : Type 0 where
@@ -50,6 +50,19 @@ word-on s p i l h =
     let e : p + i + 1 ≡ p + (i + 1) = omega arith in
     rw (byte-on s p i l h, e, byte-on s p (i + 1) l h)
 
+-- the number whose bytes stand at a place
+pub long-at : (s : List ℕ) (p n : ℕ) (t : List ℕ) → drop p s ≡ longBytes n ++ t → longAt s p ≡ n
+long-at s p n t h =
+    let e : p + 0 ≡ p = omega arith in
+    let low = rw e at (word-on s p 0 (longBytes n ++ t) h) in
+    let high = word-on s p 2 (longBytes n ++ t) h in omega (arith, low, high)
+
+pub int64-at : (s : List ℕ) (p n : ℕ) (t : List ℕ) → drop p s ≡ int64Bytes n ++ t → int64At s p ≡ n
+int64-at s p n t h =
+    let low = long-at s p (n % 4294967296) (longBytes (n / 4294967296) ++ t) h in
+    let i : drop (p + 4) s ≡ longBytes (n / 4294967296) ++ t = sym (drop-drop 4 p s) ∙ ap (drop 4) h in
+    let high = long-at s (p + 4) (n / 4294967296) t i in omega (arith, low, high)
+
 -- ---- fields
 
 module _ (s : List ℕ) (c : Cursor) {rest : List ℕ} where
@@ -78,10 +91,11 @@ module _ (s : List ℕ) (c : Cursor) {rest : List ℕ} where
 
   pub long-found : (n : ℕ) → drop (c .at) s ≡ longBytes n ++ rest → Found long s c n 0 0 rest
   long-found n h =
-      let e : c .at + 0 ≡ c .at = omega arith in
-      let low = rw e at (word-on s (c .at) 0 (longBytes n ++ rest) h) in
-      let high = word-on s (c .at) 2 (longBytes n ++ rest) h in
-      taken-found 4 longAt n (longBytes n) refl (inside s (c .at) (longBytes n) rest h (omega arith)) h (omega (arith, low, high))
+      taken-found 4 longAt n (longBytes n) refl (inside s (c .at) (longBytes n) rest h (omega arith)) h (long-at s (c .at) n rest h)
+
+  pub int64-found : (n : ℕ) → drop (c .at) s ≡ int64Bytes n ++ rest → Found int64 s c n 0 0 rest
+  int64-found n h =
+      taken-found 8 int64At n (int64Bytes n) refl (inside s (c .at) (int64Bytes n) rest h (omega arith)) h (int64-at s (c .at) n rest h)
 
   -- there may be none, so that they need not be inside by standing there
   pub bytes-found : (xs : List ℕ) → c .at + length xs ≤ length s → drop (c .at) s ≡ xs ++ rest → Found (bytes (length xs)) s c xs 0 0 rest

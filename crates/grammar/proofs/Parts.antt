@@ -7,12 +7,12 @@ use native.Mathlib.Omega.{arith}
 use lib.ListN.{length, drop}
 use Rattle.wire.specs.Classes as Classes
 use Rattle.wire.specs.Classes.{Class}
-use Rattle.wire.specs.Words.{wordBytes, longBytes}
+use Rattle.wire.specs.Words.{wordBytes, longBytes, int64Bytes}
 use Rattle.grammar.specs.declared.Refusal.{Refusal}
 use Rattle.grammar.specs.declared.Cursor.{Cursor}
 use Rattle.grammar.specs.Bytes as Bytes
-use Rattle.grammar.specs.Reader.{read, Reader, _>>_, byte, word, long, bytes, name, tested, code, coded, withConditions, countStatement, opened, noted}
-use Rattle.grammar.proofs.Found.{Found, along, inside, byte-found, word-found, long-found, bytes-found, name-found, tested-found, code-found, coded-found, counted-found, opened-found}
+use Rattle.grammar.specs.Reader.{read, Reader, _>>_, byte, word, long, int64, bytes, name, tested, code, coded, withConditions, countStatement, opened, noted}
+use Rattle.grammar.proofs.Found.{Found, along, inside, byte-found, word-found, long-found, int64-found, bytes-found, name-found, tested-found, code-found, coded-found, counted-found, opened-found}
 
 -- wherever the bytes xs stand in the request s and there is room for n statements and k contexts, the reader gives a and counts so many
 pub record Reads {A : Type 0} (s : List ℕ) (m : Reader A) (xs : List ℕ) (a : A) (n k : ℕ) : Type 0 where
@@ -85,6 +85,9 @@ module _ {s : List ℕ} where
 
   pub long-reads : (n : ℕ) → Reads s long (longBytes n) n 0 0
   long-reads n = plain (λ c rest h. long-found s c n h)
+
+  pub int64-reads : (n : ℕ) → Reads s int64 (int64Bytes n) n 0 0
+  int64-reads n = plain (λ c rest h. int64-found s c n h)
 
   pub bytes-read : (xs : List ℕ) → 0 < length xs → Reads s (bytes (length xs)) xs xs 0 0
   bytes-read xs l = plain (λ c rest h. bytes-found s c xs (inside s (c .at) xs rest h l) h)

@@ -7,8 +7,10 @@ use mathlib.Core.Option.{Option, none, some, Option·map}
 use lib.ListN.{drop}
 use Rattle.wire.specs.Lists.{isSome}
 use Rattle.wire.specs.Words.{wordBytes}
+use Rattle.wire.specs.Versions.{literalDue}
+use Rattle.wire.specs.declared.codes.Version.{Version}
 use Rattle.wire.specs.declared.codes.Width.{Width}
-use Rattle.wire.specs.declared.codes.Width.the-variants.{Short, Long}
+use Rattle.wire.specs.declared.codes.Width.the-variants.{Short, Long, Int64}
 use Rattle.wire.specs.declared.codes.LiteralType.{LiteralType}
 use Rattle.wire.specs.declared.codes.LiteralType.the-variants.{NumberLiteral, TextLiteral}
 use Rattle.wire.specs.declared.codes.StreamCode.{StreamCode}
@@ -24,13 +26,13 @@ use Rattle.grammar.specs.Bytes.{countedBytes, numberBytes, literalBytes,
 use Rattle.grammar.specs.Environment.{Environment, Scope, parameterFormat, fieldFormat}
 use Rattle.grammar.specs.Scope.{inScope, declared, fieldTarget, parameterTarget, Known, Target}
 use Rattle.grammar.specs.Kinds.{formatKind, referenceKind, kindOf, Fits}
-use Rattle.grammar.specs.Sizes.{LiteralInRange}
+use Rattle.grammar.specs.Sizes.{LiteralAllowed}
 use Rattle.grammar.specs.Reader.{Read, read, onRead, byte, word, bytes, name, coded}
 use Rattle.grammar.specs.Messages.{scaleByte, sizeWord}
 use Rattle.grammar.specs.Values.{numberOf, literalUnder, readLiteral, contextByte, messageByte, parameterWord, fieldName, fieldAllowed, parameterAllowed, readField, readReference, readTarget}
 use Rattle.grammar.specs.Statements.{naming}
 use Rattle.grammar.specs.Demands.{Octets}
-use Rattle.grammar.proofs.Went.{Passed, undo, same, needed, tested-read, onward, coded-onward, byte-went, word-went, long-went, bytes-went, name-went}
+use Rattle.grammar.proofs.Went.{Passed, undo, same, needed, tested-read, onward, coded-onward, byte-went, word-went, long-went, int64-went, bytes-went, name-went}
 use Rattle.grammar.proofs.Codes.{referenceCode, literalCode, literal-due, target-due, coded-went}
 use Rattle.grammar.proofs.SoundMessages.{scale-went, size-went}
 
@@ -52,14 +54,14 @@ fieldCode Rid = Fid
 -- ---- what is asked of each
 
 -- what stands after the code k
-pub record LiteralUnderSound (k : LiteralType) (s : List ℕ) (c : Cursor) (l : Literal) (c′ : Cursor) : Type 0 where
+pub record LiteralUnderSound (v : Version) (k : LiteralType) (s : List ℕ) (c : Cursor) (l : Literal) (c′ : Cursor) : Type 0 where
   pub went : Passed s c (drop 1 (literalBytes l)) c′
   pub starts : literalBytes l ≡ literalCode k ∷ drop 1 (literalBytes l)
-  pub ranged : LiteralInRange l
+  pub ranged : LiteralAllowed v l
 
-pub record LiteralSound (s : List ℕ) (c : Cursor) (l : Literal) (c′ : Cursor) : Type 0 where
+pub record LiteralSound (v : Version) (s : List ℕ) (c : Cursor) (l : Literal) (c′ : Cursor) : Type 0 where
   pub went : Passed s c (literalBytes l) c′
-  pub ranged : LiteralInRange l
+  pub ranged : LiteralAllowed v l
 
 -- a test that is made of a target and not of a value
 abbrev pub Asked : Role → Bool → Type 0
@@ -124,27 +126,28 @@ module _ (s : List ℕ) (octets : Octets s) where
   pub number-went : (w : Width) (c : Cursor) {n : ℕ} {c′ : Cursor} → numberOf w s c ≡ read n c′ → Passed s c (numberBytes w n) c′
   number-went Short c e = word-went s c octets e
   number-went Long c e = long-went s c octets e
+  number-went Int64 c e = int64-went s c octets e
 
-  pub literal-under-sound : (k : LiteralType) (c : Cursor) (l : Literal) (c′ : Cursor) → literalUnder k s c ≡ read l c′ →
-      LiteralUnderSound k s c l c′
+  pub literal-under-sound : (v : Version) (k : LiteralType) (c : Cursor) (l : Literal) (c′ : Cursor) → literalDue v k ≡ true →
+      literalUnder k s c ≡ read l c′ → LiteralUnderSound v k s c l c′
   unfolding literalUnder literalBytes
-  literal-under-sound (NumberLiteral w) c l c′ h = undo (scaleByte s c) _ h (λ x q e v. undo (numberOf w s q) _ v (λ n q₁ e₁ v₁.
-      let i = scale-went s c e in
-      same v₁ (λ l c′. LiteralUnderSound (NumberLiteral w) s c l c′) (record {
+  literal-under-sound v (NumberLiteral w) c l c′ d h = undo (scaleByte w s c) _ h (λ x q e u. undo (numberOf w s q) _ u (λ n q₁ e₁ u₁.
+      let i = scale-went s c w e in
+      same u₁ (λ l c′. LiteralUnderSound v (NumberLiteral w) s c l c′) (record {
         went = onward (i .0) (number-went w q e₁);
         starts = refl;
-        ranged = i .1;
+        ranged = (d, i .1);
       })))
-  literal-under-sound TextLiteral c l c′ h = undo (sizeWord s c) _ h (λ n q e v. undo (bytes n s q) _ v (λ t q₁ e₁ v₁.
+  literal-under-sound v TextLiteral c l c′ d h = undo (sizeWord s c) _ h (λ n q e u. undo (bytes n s q) _ u (λ t q₁ e₁ u₁.
       let b = bytes-went s q n e₁ in
       let i = rw (sym (b .1)) at (size-went s c octets e) in
-      same v₁ (λ l c′. LiteralUnderSound TextLiteral s c l c′) (record { went = onward (i .0) (b .0); starts = refl; ranged = i .1 })))
+      same u₁ (λ l c′. LiteralUnderSound v TextLiteral s c l c′) (record { went = onward (i .0) (b .0); starts = refl; ranged = i .1 })))
 
-  pub literal-sound : (c : Cursor) (l : Literal) (c′ : Cursor) → readLiteral s c ≡ read l c′ → LiteralSound s c l c′
+  pub literal-sound : (v : Version) (c : Cursor) (l : Literal) (c′ : Cursor) → readLiteral v s c ≡ read l c′ → LiteralSound v s c l c′
   unfolding readLiteral
-  literal-sound c l c′ h = undo (coded _ s c) _ h (λ k q e v.
-      let i = literal-under-sound k q l c′ v in
-      record { went = coded-onward (coded-went literal-due s c e) (i .starts) (i .went); ranged = i .ranged })
+  literal-sound v c l c′ h = undo (coded _ s c) _ h (λ k q e u. needed (literalDue v k) _ _ _ _ _ u (λ d u₁.
+      let i = literal-under-sound v k q l c′ d u₁ in
+      record { went = coded-onward (coded-went literal-due s c e) (i .starts) (i .went); ranged = i .ranged }))
 
   -- ---- references
 
@@ -173,25 +176,25 @@ module _ (s : List ℕ) (octets : Octets s) where
     field-bytes c (named n) = refl
     field-bytes c (numbered i) = refl
 
-    pub field-sound : (role : Role) (k : StreamCode) (c : Cursor) (r : Reference) (c′ : Cursor) →
-        readField sc role (naming k) s c ≡ read r c′ → ReferenceSound e sc role (fieldCode k) s c r c′
+    pub field-sound : (role : Role) (p : ℕ) (k : StreamCode) (c : Cursor) (r : Reference) (c′ : Cursor) →
+        readField e sc role p (naming k) s c ≡ read r c′ → ReferenceSound e sc role (fieldCode k) s c r c′
     unfolding readField kindOf referenceKind
-    field-sound role k c r c′ h = undo (contextByte sc s c) _ h (λ x q e₁ v. field-allowed role q x _ v (λ a v₁.
-        undo (fieldName sc x (naming k) s q) _ v₁ (λ n q₁ e₂ v₂.
+    field-sound role p k c r c′ h = undo (contextByte sc s c) _ h (λ x q e₁ v. field-allowed role q x _ v (λ a v₁.
+        undo (fieldName sc x (naming k) s q) _ v₁ (λ n q₁ e₂ v₂. needed (isSome (referenceKind e sc (field x n))) _ _ _ _ _ v₂ (λ z v₃.
         let i = field-name-went x k q n q₁ e₂ in
-        same v₂ (λ r c′. ReferenceSound e sc role (fieldCode k) s c r c′) (record {
+        same v₃ (λ r c′. ReferenceSound e sc role (fieldCode k) s c r c′) (record {
           went = rw (field-bytes x n) (onward (context-went s c sc e₁ .0) (i .0));
           starts = rw (field-bytes x n, i .1);
           known = i .2;
-          fits = some-mapped formatKind (fieldFormat sc x n) (i .2);
+          fits = z;
           targeted = a;
-        }))))
+        })))))
 
     pub reference-sound : (role : Role) (p : ℕ) (k : ReferenceCode) (c : Cursor) (r : Reference) (c′ : Cursor) →
         readReference e sc role p k s c ≡ read r c′ → ReferenceSound e sc role k s c r c′
     unfolding readReference referenceBytes kindOf referenceKind
-    reference-sound role p Field c r c′ h = field-sound role Relation c r c′ h
-    reference-sound role p Fid c r c′ h = field-sound role Rid c r c′ h
+    reference-sound role p Field c r c′ h = field-sound role p Relation c r c′ h
+    reference-sound role p Fid c r c′ h = field-sound role p Rid c r c′ h
     reference-sound role p Parameter c r c′ h = undo (messageByte e s c) _ h (λ m q e₁ v. parameter-allowed role q m _ v (λ a v₁.
         undo (parameterWord e m s q) _ v₁ (λ i q₁ e₂ v₂.
         let t = parameter-went s q octets e m e₂ in

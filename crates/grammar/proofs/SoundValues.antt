@@ -56,8 +56,8 @@ module _ (s : List ℕ) (octets : Octets s) (e : Environment) (below : Operands)
     pub value-under-sound : (k : ValueCode) (c : Cursor) (v : Value) (c′ : Cursor) → valueUnder below e sc p k s c ≡ read v c′ →
         ValueUnderSound l e sc k s c v c′
     unfolding valueUnder valueBytes valueDepth valueContexts
-    value-under-sound Code.Literal c v c′ h = undo (readLiteral s c) _ h (λ x q e₁ w.
-        let i = literal-sound s octets c x q e₁ in
+    value-under-sound Code.Literal c v c′ h = undo (readLiteral (e .version) s c) _ h (λ x q e₁ w.
+        let i = literal-sound s octets (e .version) c x q e₁ in
         same w (λ v c′. ValueUnderSound l e sc Code.Literal s c v c′) (record {
           went = i .went;
           starts = refl;

@@ -10,11 +10,11 @@ use lib.ListN.{length, take, drop, length-append, length-drop, take-append-drop}
 use lib.Seq.{drop-cons, drop-drop, drop-length, length-take-le}
 use lib.Dec.{eqb, leb, ltb}
 use borrow.Author.Tests.{ltb-true, leb-true, eqb-true}
-use Rattle.wire.specs.Words.{byteAt, wordAt, longAt, wordBytes, longBytes}
+use Rattle.wire.specs.Words.{byteAt, wordAt, longAt, int64At, wordBytes, longBytes, int64Bytes}
 use Rattle.wire.specs.Classes.{Class}
 use Rattle.grammar.specs.declared.Refusal.{Refusal}
 use Rattle.grammar.specs.declared.Cursor.{Cursor}
-use Rattle.grammar.specs.Reader.{Read, read, refused, onRead, Reader, need, on, taken, byte, word, long, bytes, peek, name, tested, code, due, coded, withStatement, withContext, countStatement, opened, noted}
+use Rattle.grammar.specs.Reader.{Read, read, refused, onRead, Reader, need, on, taken, byte, word, long, int64, bytes, peek, name, tested, code, due, coded, withStatement, withContext, countStatement, opened, noted}
 use Rattle.grammar.specs.Demands.{Octets}
 
 -- ---- readings taken apart
@@ -185,6 +185,13 @@ two-bytes s p n h =
     let e : p + 1 + 1 ≡ p + 2 = omega arith in
     next-byte s p (suc n) (omega arith) ∙ ap (λ l. byteAt s p ∷ l) (rw e at (next-byte s (p + 1) n (omega arith)))
 
+four-bytes : (s : List ℕ) (p n : ℕ) → p + 4 ≤ length s → take (suc (suc (suc (suc n)))) (drop p s) ≡
+    byteAt s p ∷ byteAt s (p + 1) ∷ byteAt s (p + 2) ∷ byteAt s (p + 2 + 1) ∷ take n (drop (p + 4) s)
+four-bytes s p n h =
+    let e : p + 2 + 2 ≡ p + 4 = omega arith in
+    two-bytes s p (suc (suc n)) (omega arith)
+    ∙ ap (λ l. byteAt s p ∷ byteAt s (p + 1) ∷ l) (rw e at (two-bytes s (p + 2) n (omega arith)))
+
 -- a number of two parts gives them back
 pub parted : (m a b : ℕ) → a < m → ((a + m * b) % m ≡ a) × ((a + m * b) / m ≡ b)
 parted m a b h = (add-mul-mod-self-left a m b ∙ mod-eq-of-lt h, add-mul-div-left a b (omega arith) ∙ rw (div-eq-of-lt h) (zero-add b))
@@ -198,6 +205,12 @@ module _ (s : List ℕ) (octets : Octets s) where
       let h : wordAt s p < 65536 = omega (arith, octets p, octets (p + 1)) in
       let w = parted 65536 (wordAt s p) (wordAt s (p + 2)) h in
       ap₂ (λ a b. wordBytes a ++ wordBytes b) (w .0) (w .1) ∙ ap₂ (λ a b. a ++ b) (word-bytes p) (word-bytes (p + 2))
+
+  int64-bytes : (p : ℕ) → int64Bytes (int64At s p) ≡ longBytes (longAt s p) ++ longBytes (longAt s (p + 4))
+  int64-bytes p =
+      let h : longAt s p < 4294967296 = omega (arith, octets p, octets (p + 1), octets (p + 2), octets (p + 2 + 1)) in
+      let w = parted 4294967296 (longAt s p) (longAt s (p + 4)) h in
+      ap₂ (λ a b. longBytes a ++ longBytes b) (w .0) (w .1)
 
 module _ (s : List ℕ) (c : Cursor) {c′ : Cursor} where
   pub bytes-went : (n : ℕ) {x : List ℕ} → bytes n s c ≡ read x c′ → Passed s c x c′ × (length x ≡ n)
@@ -218,11 +231,18 @@ module _ (s : List ℕ) (c : Cursor) {c′ : Cursor} where
   pub long-went : Octets s → {x : ℕ} → long s c ≡ read x c′ → Passed s c (longBytes x) c′
   long-went octets e =
       let t = taken-read s c 4 longAt e in
-      let h : c .at + 2 ≤ length s = omega arith in
-      let i : c .at + 2 + 2 ≤ length s = omega arith in
-      rw (t .1, t .2) (went-by (took s c 4 (t .0))
-      (two-bytes s (c .at) 2 h ∙ ap (λ l. byteAt s (c .at) ∷ byteAt s (c .at + 1) ∷ l) (two-bytes s (c .at + 2) 0 i) ∙
-      sym (long-bytes s octets (c .at))))
+      rw (t .1, t .2) (went-by (took s c 4 (t .0)) (four-bytes s (c .at) 0 (t .0) ∙ sym (long-bytes s octets (c .at))))
+
+  pub int64-went : Octets s → {x : ℕ} → int64 s c ≡ read x c′ → Passed s c (int64Bytes x) c′
+  int64-went octets e =
+      let t = taken-read s c 8 int64At e in
+      let p = c .at in
+      let i : p + 4 + 4 ≤ length s = omega arith in
+      let low = four-bytes s p 4 (omega arith) in
+      let high = four-bytes s (p + 4) 0 i in
+      let both = ap₂ (λ a b. a ++ b) (long-bytes s octets p) (long-bytes s octets (p + 4)) in
+      rw (t .1, t .2) (went-by (took s c 8 (t .0))
+      (low ∙ ap (λ l. byteAt s p ∷ byteAt s (p + 1) ∷ byteAt s (p + 2) ∷ byteAt s (p + 2 + 1) ∷ l) high ∙ sym (int64-bytes s octets p ∙ both)))
 
 -- a counted name
 pub name-went : (s : List ℕ) (c : Cursor) {x : List ℕ} {c′ : Cursor} → name s c ≡ read x c′ → Passed s c (length x ∷ x) c′

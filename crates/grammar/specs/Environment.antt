@@ -6,6 +6,7 @@ use lib.Dec.{eqb}
 use lib.ListN.{getElem?}
 use Rattle.wire.specs.Codes as blr
 use Rattle.wire.specs.Lists.{find, _andThen_}
+use Rattle.wire.specs.declared.codes.Version.{Version}
 use Rattle.wire.specs.declared.codes.DataType.the-variants.{Number, Date, Chars}
 use Rattle.wire.specs.declared.codes.FieldType.the-variants.{Plain}
 use Rattle.dictionary.specs.Format.{Format, widthBytes}
@@ -13,8 +14,9 @@ use Rattle.dictionary.specs.Dictionary.{Relation}
 use Rattle.dictionary.specs.Naming.{Name, relationOf, fieldOf, formatOf}
 use Rattle.grammar.specs.Tree.{Descriptor, Message, Stream, Heading, loop, modify, handler, receive, send, store, label, Rse, rse}
 
--- what stands around all statements: the relations of the dictionary and the messages of the request
+-- what stands around all statements: the version of the request, the relations of the dictionary and the messages of the request
 pub record Environment : Type 0 where
+  pub version : Version
   pub relations : List Relation
   pub messages : List Message
 

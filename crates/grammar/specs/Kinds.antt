@@ -7,7 +7,10 @@ use lib.IntN.{ℤ, pos, _+ℤ_, _-ℤ_}
 use lib.Signed.{ltZ, leZ}
 use Rattle.wire.specs.Words.{signed}
 use Rattle.wire.specs.Limits.{minArithmeticScale}
-use Rattle.wire.specs.Lists.{isSome}
+use Rattle.wire.specs.Lists.{isSome, _andThen_}
+use Rattle.wire.specs.Versions.{fieldDue}
+use Rattle.wire.specs.declared.codes.Version.{Version}
+use Rattle.wire.specs.declared.codes.Version.the-variants.{Version4, Version5}
 use Rattle.wire.specs.declared.codes.Operator.{Operator}
 use Rattle.wire.specs.declared.codes.Operator.the-variants.{Add, Subtract, Multiply, Divide}
 use Rattle.wire.specs.declared.codes.DataType.the-variants as Data
@@ -29,6 +32,10 @@ typeKind Reading scale = Number (signed 1 scale)
 unfoldable pub formatKind : Format → Kind
 formatKind f = typeKind (f .type) (f .scale)
 
+-- 02, No. 8: "a type 16 field may stand in a dictionary but a version 4 request that names it gets 13"
+unfoldable pub fieldKind : Version → Format → Option Kind
+fieldKind v f = cond (fieldDue v (f .type)) (some (formatKind f)) none
+
 unfoldable pub literalKind : Literal → Kind
 literalKind (Literal.number w scale n) = Number (signed 1 scale)
 literalKind (Literal.text t) = Text
@@ -44,16 +51,18 @@ abbrev pub parameterKind : Environment → ℕ → ℕ → Option Kind
 parameterKind e m i = Option·map formatKind (parameterFormat e m i)
 
 unfoldable pub referenceKind : Environment → Scope → Reference → Option Kind
-referenceKind e sc (field c n) = Option·map formatKind (fieldFormat sc c n)
+referenceKind e sc (field c n) = fieldFormat sc c n andThen fieldKind (e .version)
 referenceKind e sc (parameter m i) = parameterKind e m i
 referenceKind e sc (parameter2 m i flag) = flagged (parameterKind e m flag) (parameterKind e m i)
 
--- 01: "Add and subtract take the smaller scale, multiply the sum, divide first minus second."
-abbrev pub resultScale : Operator → ℤ → ℤ → ℤ
-resultScale Add a b = cond (ltZ a b) a b
-resultScale Subtract a b = cond (ltZ a b) a b
-resultScale Multiply a b = a +ℤ b
-resultScale Divide a b = a -ℤ b
+-- 01: "Add and subtract take the smaller scale, multiply the sum, divide first minus second."; 02, No. 8: "A quotient has the sum of the
+-- two scales"; "Version 4 keeps its divide rule"
+abbrev pub resultScale : Version → Operator → ℤ → ℤ → ℤ
+resultScale v Add a b = cond (ltZ a b) a b
+resultScale v Subtract a b = cond (ltZ a b) a b
+resultScale v Multiply a b = a +ℤ b
+resultScale Version4 Divide a b = a -ℤ b
+resultScale Version5 Divide a b = a +ℤ b
 
 -- 01: "arithmetic -18 to 0"
 abbrev pub arithmeticRange : ℤ → Option Kind
@@ -66,22 +75,22 @@ negatedKind (some Text) = none
 negatedKind (some Date) = none
 negatedKind none = none
 
-abbrev pub secondOperand : Operator → ℤ → Option Kind → Option Kind
-secondOperand o a (some (Number b)) = arithmeticRange (resultScale o a b)
-secondOperand o a (some Text) = none
-secondOperand o a (some Date) = none
-secondOperand o a none = none
+abbrev pub secondOperand : Version → Operator → ℤ → Option Kind → Option Kind
+secondOperand v o a (some (Number b)) = arithmeticRange (resultScale v o a b)
+secondOperand v o a (some Text) = none
+secondOperand v o a (some Date) = none
+secondOperand v o a none = none
 
-unfoldable pub arithmeticKind : Operator → Option Kind → Option Kind → Option Kind
-arithmeticKind o (some (Number a)) k = secondOperand o a k
-arithmeticKind o (some Text) k = none
-arithmeticKind o (some Date) k = none
-arithmeticKind o none k = none
+unfoldable pub arithmeticKind : Version → Operator → Option Kind → Option Kind → Option Kind
+arithmeticKind v o (some (Number a)) k = secondOperand v o a k
+arithmeticKind v o (some Text) k = none
+arithmeticKind v o (some Date) k = none
+arithmeticKind v o none k = none
 
 unfoldable pub kindOf : Environment → Scope → Value → Option Kind
 kindOf e sc (literal l) = some (literalKind l)
 kindOf e sc (reference r) = referenceKind e sc r
-kindOf e sc (arithmetic o v w) = arithmeticKind o (kindOf e sc v) (kindOf e sc w)
+kindOf e sc (arithmetic o v w) = arithmeticKind (e .version) o (kindOf e sc v) (kindOf e sc w)
 kindOf e sc (negate v) = negatedKind (kindOf e sc v)
 
 -- ---- tests, which reading makes too

@@ -4,7 +4,7 @@ use mathlib.Core.Bool.{Bool, cond}
 use mathlib.Core.List.{List}
 use lib.Dec.{eqb, leb, ltb}
 use lib.ListN.{length, take, drop}
-use Rattle.wire.specs.Words.{byteAt, wordAt, longAt}
+use Rattle.wire.specs.Words.{byteAt, wordAt, longAt, int64At}
 use Rattle.wire.specs.Limits.{maxStatements, maxContexts}
 use Rattle.wire.specs.Classes.{Class}
 use Rattle.grammar.specs.declared.Refusal.{Refusal}
@@ -62,6 +62,9 @@ word = taken 2 wordAt
 
 abbrev pub long : Reader ℕ
 long = taken 4 longAt
+
+abbrev pub int64 : Reader ℕ
+int64 = taken 8 int64At
 
 abbrev pub bytes : ℕ → Reader (List ℕ)
 bytes n = taken n (λ s p. take n (drop p s))

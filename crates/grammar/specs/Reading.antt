@@ -6,13 +6,15 @@ use lib.Dec.{eqb, leb}
 use lib.ListN.{length, replicate}
 use Rattle.wire.specs.Codes as blr
 use Rattle.wire.specs.Limits.{maxRequestBytes, maxDepth, maxStatements, maxMessages, statementTableNumbers, parameterTableNumbers, contextTableNumbers}
+use Rattle.wire.specs.Versions.{isVersion, versionOf}
+use Rattle.wire.specs.declared.codes.Version.{Version}
 use Rattle.dictionary.specs.Dictionary.{Relation, Checked, proper, atFault, dictionary}
 use Rattle.grammar.specs.declared.Cursor.{Cursor}
 use Rattle.grammar.specs.declared.Refusal.the-variants.{TablesTooShort, RequestTooLong, BadDictionary, BadVersion, NotDue, BytesAfterEnd}
 use Rattle.grammar.specs.Tree.{Message, Statements, Request}
 use Rattle.grammar.specs.Environment.{outermost}
 use Rattle.grammar.specs.Rows.{requestStatementRows, parameterRows, requestContextRows}
-use Rattle.grammar.specs.Reader.{Read, read, refused, Reader, _>>=_, _>>_, return, place, code, countStatement}
+use Rattle.grammar.specs.Reader.{Read, read, refused, Reader, _>>=_, _>>_, return, place, byte, tested, code, countStatement}
 use Rattle.grammar.specs.Messages.{messages}
 use Rattle.grammar.specs.Statements.{many, readStatement}
 
@@ -21,21 +23,28 @@ unfoldable pub nothingMore : Reader (Unit {0})
 nothingMore s c = cond (eqb (c .at) (length s)) (read tt c) (refused BytesAfterEnd (c .at))
 
 -- 01: "Depth 32: .. the outer begin the first."; the other levels are left for what stands in it
-unfoldable pub outerStatements : List Relation → List Message → Reader Statements
-outerStatements d ms = many maxStatements (readStatement (maxDepth - 1) (record { relations = d; messages = ms }) outermost)
+unfoldable pub outerStatements : Version → List Relation → List Message → Reader Statements
+outerStatements v d ms =
+    many maxStatements (readStatement (maxDepth - 1) (record { version = v; relations = d; messages = ms }) outermost)
+
+-- 02, No. 8: "5 now for a first byte other than 4 or 5"
+unfoldable pub version : Reader Version
+version = do
+  b ← tested byte isVersion BadVersion
+  return (versionOf b)
 
 -- 01: "Request: 4 (version), begin 2, messages, statements, end 255, eoc 76, nothing more."
 unfoldable pub request : List Relation → Reader Request
 request d = do
-  code blr.version4 BadVersion
+  v ← version
   p ← place
   code blr.begin NotDue
   countStatement p
-  ms ← messages maxMessages []
-  ss ← outerStatements d ms
+  ms ← messages v maxMessages []
+  ss ← outerStatements v d ms
   code blr.eoc NotDue
   nothingMore
-  return (record { messages = ms; statements = ss })
+  return (record { version = v; messages = ms; statements = ss })
 
 abbrev pub start : Cursor
 start = record { at = 0; statements = 0; contexts = 0; conditions = 0 }

@@ -1,6 +1,7 @@
 -- Requests as trees. What two or more productions share has a type of its own: names, references, headings.
 use Prim.Native.Nat.{ℕ}
 use mathlib.Core.List.{List}
+use Rattle.wire.specs.declared.codes.Version.{Version}
 use Rattle.wire.specs.declared.codes.Width.{Width}
 use Rattle.wire.specs.declared.codes.TextType.{TextType}
 use Rattle.wire.specs.declared.codes.Operator.{Operator}
@@ -10,7 +11,8 @@ use Rattle.wire.specs.declared.codes.Connective.{Connective}
 use Rattle.wire.specs.declared.codes.Direction.{Direction}
 use Rattle.dictionary.specs.Naming.{Name}
 
--- 01: "Descriptors: short 7 and long 8, each with a signed scale byte ..; date 35 ..; text 14, varying 37, cstring 40, each with a word n"
+-- 01: "Descriptors: short 7 and long 8, each with a signed scale byte ..; date 35 ..; text 14, varying 37, cstring 40, each with a word n";
+-- 02, No. 8: "type 16, a 64-bit integer of 8 bytes"
 pub data Descriptor : Type 0 where
   number : Width → ℕ → Descriptor
   date : Descriptor
@@ -99,7 +101,8 @@ mutual
     more : ℕ → Statement → Receives → Receives
 
 infixr 5 _then_
--- 01: "Request: 4 (version), begin 2, messages, statements, end 255, eoc 76, nothing more."
+-- 01: "Request: 4 (version), begin 2, messages, statements, end 255, eoc 76, nothing more."; 02, No. 8: "Version 5 beside version 4."
 pub record Request : Type 0 where
+  pub version : Version
   pub messages : List Message
   pub statements : Statements

@@ -8,7 +8,7 @@ use Rattle.wire.specs.Words.{byteAt, wordAt}
 use Rattle.wire.specs.Lists.{among, anyOf}
 use Rattle.wire.specs.Classes.{Class, due, leftOut, foreign, classify, literalClass}
 use Rattle.wire.specs.declared.codes.Width.{Width}
-use Rattle.wire.specs.declared.codes.Width.the-variants.{Short, Long}
+use Rattle.wire.specs.declared.codes.Width.the-variants.{Short, Long, Int64}
 use Rattle.wire.specs.declared.codes.LiteralType.{LiteralType}
 use Rattle.wire.specs.declared.codes.LiteralType.the-variants.{NumberLiteral, TextLiteral}
 use Rattle.wire.proofs.Past.{past}
@@ -18,12 +18,12 @@ use Rattle.grammar.specs.Tree as Tree
 use Rattle.meaning.specs.Data.{Datum, number}
 use Rattle.meaning.specs.Inputs.{literalValue}
 use Rattle.walking.specs.Walk.{at, astray, onClass, literalUnder, literalAt}
-use Rattle.inputs.specs.declared.numbers.Sign.the-variants.{Signed}
 use Rattle.inputs.specs.Answers.{numberOf}
 
-pub width-small : (w : Width) → widthBytes w ≤ 4
+pub width-small : (w : Width) → widthBytes w ≤ 8
 width-small Short = omega arith
 width-small Long = omega arith
+width-small Int64 = omega arith
 
 module _ (s : List ℕ) (p : ℕ) where
   pub no-literal : length s ≤ p → astray ≡ literalAt s p
@@ -45,11 +45,12 @@ module _ (s : List ℕ) (p : ℕ) where
   pub literal-foreign : (c : ℕ) → foreign ≡ literalClass c → c ≡ byteAt s p → astray ≡ literalAt s p
   literal-foreign c e i = class-is foreign c e i
 
-  pub number-literal : (w : Width) (b n : ℕ) (x : Number) → b ≡ byteAt s (p + 1) → x ≡ numberOf Signed w b s (p + 2) → n ≡ widthBytes w →
+  pub number-literal : (w : Width) (b n : ℕ) (x : Number) → b ≡ byteAt s (p + 1) → x ≡ numberOf w b s (p + 2) → n ≡ widthBytes w →
       at (number x) (p + 2 + n) ≡ literalUnder s p (NumberLiteral w)
   unfolding literalValue
   number-literal Short b n x e f g = rw (f, e, g)
   number-literal Long b n x e f g = rw (f, e, g)
+  number-literal Int64 b n x e f g = rw (f, e, g)
 
   pub text-walked : (n : ℕ) (x : Datum) → n ≡ wordAt s (p + 1) → x ≡ literalValue (Tree.Literal.text (take n (drop (p + 3) s))) →
       at x (p + 3 + n) ≡ literalUnder s p TextLiteral

@@ -9,8 +9,8 @@ use lib.IntN.{pos}
 use lib.ListN.{length, getD, take, drop, drop-of-length-le}
 use lib.Seq.{getD-drop, drop-length}
 use borrow.Author.Tests.{le-ltb, ltb-false}
-use Rattle.wire.specs.Words.{byteAt, wordAt, longAt, signed}
-use Rattle.wire.specs.declared.codes.Width.the-variants.{Short, Long}
+use Rattle.wire.specs.Words.{byteAt, wordAt, longAt, int64At, signed}
+use Rattle.wire.specs.declared.codes.Width.the-variants.{Short, Long, Int64}
 use Rattle.wire.specs.declared.codes.DataType.the-variants as Data
 use Rattle.wire.specs.declared.codes.FieldType.{FieldType}
 use Rattle.wire.specs.declared.codes.FieldType.the-variants.{Plain, Reading}
@@ -56,9 +56,13 @@ module _ (s : List ℕ) (p q : ℕ) (e : drop p s ≡ drop q s) where
       let b : q + 0 ≡ q = omega arith in
       ap (longAt s) (sym a) ∙ long-same 0 ∙ ap (longAt s) b
 
+  int64-here : int64At s p ≡ int64At s q
+  int64-here = ap₂ (λ x y. x + 4294967296 * y) long-here (long-same 4)
+
   type-same : (t : FieldType) (scale n : ℕ) → typeValue t scale n s p ≡ typeValue t scale n s q
   type-same (Plain (Data.Number Short)) scale n = ap (λ z. value (number (record { value = signed 2 z; scale = signed 1 scale }))) word-here
   type-same (Plain (Data.Number Long)) scale n = ap (λ z. value (number (record { value = signed 4 z; scale = signed 1 scale }))) long-here
+  type-same (Plain (Data.Number Int64)) scale n = ap (λ z. value (number (record { value = signed 8 z; scale = signed 1 scale }))) int64-here
   type-same (Plain Data.Date) scale n = ap₂ (λ x y. value (date (signed 4 x) y)) long-here (long-same 4)
   type-same (Plain (Data.Chars t)) scale n = ap (λ z. textIn (take (textBytes t n) z) t) e
   type-same Reading scale n = ap (λ z. value (number (record { value = pos z; scale = signed 1 scale }))) word-here

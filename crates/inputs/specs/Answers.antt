@@ -31,8 +31,6 @@ use Rattle.surroundings.specs.Around.{rowValue, around}
 use Rattle.surroundings.specs.Tables.{slotsIn}
 use Rattle.inputs.specs.declared.Fetched.{Fetched}
 use Rattle.inputs.specs.declared.Fetched.the-variants.{Value, Malformed, Nothing}
-use Rattle.inputs.specs.declared.numbers.Sign.{Sign}
-use Rattle.inputs.specs.declared.numbers.Sign.the-variants.{Signed, Unsigned}
 use Rattle.inputs.specs.declared.parameters.Flag.{Flag}
 use Rattle.inputs.specs.declared.parameters.Flag.the-variants as Flag
 
@@ -46,13 +44,12 @@ fetchedIn m Nothing = Inputs.nothing
 abbrev pub Gives : Source → List ℕ → Fetched → Inputs.Fetched → Type 0
 Gives source s r x = (m : Lent) → sourceIn m source ≡ s → fetchedIn m r ≡ x
 
--- the integer of a width at a place, and the number of a scale byte
-abbrev pub integerAt : Sign → Width → List ℕ → ℕ → ℤ
-integerAt Signed w s p = Inputs.numberAt w s p
-integerAt Unsigned w s p = pos (Walk.numberAt w s p)
+-- the number of a width and a scale byte at a place, and a house reading
+abbrev pub numberOf : Width → ℕ → List ℕ → ℕ → Number
+numberOf w scale s p = record { value = Inputs.numberAt w s p; scale = signed 1 scale }
 
-abbrev pub numberOf : Sign → Width → ℕ → List ℕ → ℕ → Number
-numberOf sign w scale s p = record { value = integerAt sign w s p; scale = signed 1 scale }
+abbrev pub readingOf : ℕ → List ℕ → ℕ → Number
+readingOf scale s p = record { value = pos (wordAt s p); scale = signed 1 scale }
 
 -- a signed day, then an unsigned fraction
 abbrev pub dateOf : List ℕ → ℕ → Date

@@ -4,7 +4,6 @@ ghost use Prim.Native.Nat.{_<_};
 ghost use lib.ListN.{length};
 ghost use Rattle.values.specs.Values.{Lent, valued};
 ghost use Rattle.walking.specs.Walk.{literalUnder, literalAt};
-use crate::numbers::Sign;
 use crate::numbers::number_at;
 use crate::stored::held_at;
 use classes::LiteralClass;
@@ -27,7 +26,7 @@ fn literal_of(t: LiteralType, request: &[u8], at: usize) -> Valued
     match t {
         LiteralType::NumberLiteral(w) => {
             let scale = byte_at(request, at + 1);
-            let x = number_at(Sign::Signed, w, scale, request, at + 2);
+            let x = number_at(w, scale, request, at + 2);
             let after = at + 2 + width_bytes(w);
             Valued::Is(Value::Number(x), Position { at: after })
         }

@@ -6,10 +6,10 @@ ghost use Rattle.dictionary.specs.Internal.FieldAnswers.{formatIs};
 ghost use Rattle.meaning.specs.Inputs.{textIn, typeValue, valueAt, kindHeld};
 ghost use Rattle.inputs.specs.Answers.{Gives, Holds, dateOf};
 use crate::Fetched;
-use crate::numbers::Sign;
 use crate::numbers::integer_at;
 use crate::numbers::long_on;
 use crate::numbers::number_at;
+use crate::numbers::reading_at;
 use dictionary::field::Description;
 use dictionary::format::text_bytes;
 use meaning::Kind;
@@ -70,7 +70,7 @@ fn date_at(s: &[u8], p: usize) -> Date
     ensures { λ r. ⌜ r ≡ dateOf (now (s .entry)) p ⌝ }
 {
     Date {
-        day: integer_at(Sign::Signed, Width::Long, s, p),
+        day: integer_at(Width::Long, s, p),
         fraction: long_on(s, p, 4),
     }
 }
@@ -80,13 +80,7 @@ fn plain_at(t: DataType, scale: u8, size: u32, source: Source, s: &[u8], p: usiz
     ensures { λ r. ⌜ Gives source (now (s .entry)) r (typeValue (Plain t) scale size (now (s .entry)) p) ⌝ }
 {
     match t {
-        DataType::Number(w) => Fetched::Value(Value::Number(number_at(
-            Sign::Signed,
-            w,
-            scale,
-            s,
-            p,
-        ))),
+        DataType::Number(w) => Fetched::Value(Value::Number(number_at(w, scale, s, p))),
         DataType::Date => Fetched::Value(Value::Date(date_at(s, p))),
         DataType::Chars(x) => text_at(source, x, text_bytes(x, size), s, p),
     }
@@ -99,13 +93,7 @@ pub(crate) fn value_at(x: Description, source: Source, s: &[u8], p: usize) -> Fe
     let t = x.data_type;
     match t {
         FieldType::Plain(y) => plain_at(y, x.scale, x.size, source, s, p),
-        FieldType::Reading => Fetched::Value(Value::Number(number_at(
-            Sign::Unsigned,
-            Width::Short,
-            x.scale,
-            s,
-            p,
-        ))),
+        FieldType::Reading => Fetched::Value(Value::Number(reading_at(x.scale, s, p))),
     }
 }
 

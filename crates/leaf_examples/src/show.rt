@@ -5,6 +5,7 @@ use text::TextPart;
 use wire::codes::Operator;
 use wire::codes::TextSearch;
 use wire::codes::TextType;
+use wire::codes::Version;
 use wire::order::Order;
 
 // Standard output.
@@ -48,7 +49,7 @@ pub(crate) fn operation(o: Operator, a: Number, b: Number) {
     sign(o);
     number(b);
     print(b" = ");
-    let c = decimal::compute(o, a, b);
+    let c = decimal::compute(Version::Version4, o, a, b);
     match c {
         Computed::Value(n) => number(n),
         Computed::Overflow => print(b"overflow"),

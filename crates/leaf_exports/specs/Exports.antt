@@ -7,6 +7,7 @@ use lib.Dec.{eqb, ltb}
 use lib.IntN.{ℤ, pos, negsuc}
 use Rattle.wire.specs.declared.order.Order.{Order}
 use Rattle.wire.specs.declared.order.Order.the-variants.{Less, Equal, Greater}
+use Rattle.wire.specs.declared.codes.Version.the-variants.{Version4, Version5}
 use Rattle.wire.specs.declared.codes.Operator.{Operator}
 use Rattle.wire.specs.declared.codes.Operator.the-variants.{Add, Subtract, Multiply, Divide}
 use Rattle.wire.specs.declared.codes.TextType.{TextType}
@@ -48,6 +49,10 @@ negate = 4
 unfoldable pub operatorOf : ℕ → Operator
 operatorOf n = cond (eqb n add) Add (cond (eqb n subtract) Subtract (cond (eqb n multiply) Multiply Divide))
 
+-- the divide of version 5
+abbrev pub divide5 : ℕ
+divide5 = 6
+
 abbrev pub text : ℕ
 text = 0
 
@@ -67,7 +72,9 @@ unfoldable pub searchOf : ℕ → TextSearch
 searchOf n = cond (eqb n containing) Containing (cond (eqb n matching) Matching Starting)
 
 unfoldable pub operation : ℕ → Number → Number → Computed
-operation n a b = cond (ltb n negate) (computed (operatorOf n) a b) (cond (eqb n negate) (negated a) (rescaled (places (b .scale)) a))
+operation n a b =
+    cond (ltb n negate) (computed Version4 (operatorOf n) a b)
+    (cond (eqb n negate) (negated a) (cond (eqb n divide5) (computed Version5 Divide a b) (rescaled (places (b .scale)) a)))
 
 -- ---- the numbers that a case gives
 

@@ -15,6 +15,7 @@ use text::TextPart;
 use wire::codes::Operator;
 use wire::codes::TextSearch;
 use wire::codes::TextType;
+use wire::codes::Version;
 use wire::order::Order;
 
 // The numbers of operations: add, subtract, multiply, divide and negate are 0 to 4.
@@ -25,6 +26,9 @@ const SUBTRACT: u8 = 1;
 const MULTIPLY: u8 = 2;
 
 const NEGATE: u8 = 4;
+
+// The divide of version 5.
+const DIVIDE5: u8 = 6;
 
 // Text, varying and cstring are 0, 1 and any other number.
 const TEXT: u8 = 0;
@@ -52,7 +56,7 @@ fn operator_of(o: u8) -> Operator
     }
 }
 
-// Any number above negate's brings the first to the scale of the second.
+// Any other number above negate's brings the first to the scale of the second.
 // The numbers come by their parts, as the exports have them: a struct would go through memory.
 fn operate(o: u8, a: i64, a_scale: i8, b: i64, b_scale: i8) -> Computed
     ensures { λ r. ⌜ r ≡ operation o (record { value = a; scale = «a_scale» }) (record { value = b; scale = «b_scale» }) ⌝ }
@@ -66,10 +70,13 @@ fn operate(o: u8, a: i64, a_scale: i8, b: i64, b_scale: i8) -> Computed
         scale: b_scale,
     };
     if o < NEGATE {
-        return decimal::compute(operator_of(o), first, second);
+        return decimal::compute(Version::Version4, operator_of(o), first, second);
     }
     if o == NEGATE {
         return decimal::negate(first);
+    }
+    if o == DIVIDE5 {
+        return decimal::compute(Version::Version5, Operator::Divide, first, second);
     }
     decimal::rescale(first, b_scale)
 }

@@ -20,8 +20,10 @@ use Rattle.wire.specs.declared.codes.StreamCode.{StreamCode}
 use Rattle.wire.specs.declared.codes.StreamCode.the-variants as StreamCode
 use Rattle.wire.specs.declared.codes.ClauseCode.{ClauseCode}
 use Rattle.wire.specs.declared.codes.ClauseCode.the-variants as ClauseCode
+use Rattle.wire.specs.Versions.{isVersion, versionOf}
+use Rattle.wire.specs.declared.codes.Version.{Version}
 use Rattle.wire.specs.declared.codes.Width.{Width}
-use Rattle.wire.specs.declared.codes.Width.the-variants.{Short, Long}
+use Rattle.wire.specs.declared.codes.Width.the-variants.{Short, Long, Int64}
 use Rattle.wire.specs.declared.codes.DataType.{DataType}
 use Rattle.wire.specs.declared.codes.DataType.the-variants as DataType
 use Rattle.wire.specs.declared.codes.LiteralType.{LiteralType}
@@ -81,6 +83,9 @@ word = two (λ a b. a + 256 * b) byte byte
 unfoldable pub long : Decoder ℕ
 long = two (λ a b. a + 65536 * b) word word
 
+unfoldable pub int64 : Decoder ℕ
+int64 = two (λ a b. a + 4294967296 * b) long long
+
 unfoldable pub code : ℕ → Decoder ℕ
 code k = byte >>= λ x. cond (eqb x k) (return x) fail
 
@@ -133,6 +138,7 @@ id = one numbered word
 abbrev pub numberOf : Width → Decoder ℕ
 numberOf Short = word
 numberOf Long = long
+numberOf Int64 = int64
 
 abbrev pub literalUnder : LiteralType → Decoder Literal
 literalUnder (LiteralType.NumberLiteral w) = two (Literal.number w) byte (numberOf w)
@@ -230,14 +236,18 @@ unfoldable pub statement : ℕ → ℕ → Decoder Statement
 statement n zero = fail
 statement n (suc l) = coded statementClass >>= λ c. statementUnder n (statement n l) (boolean l) (value l) c
 
-abbrev pub requestOf : List Message → Statements → Request
-requestOf ms ss = record { messages = ms; statements = ss }
+abbrev pub requestOf : Version → List Message → Statements → Request
+requestOf v ms ss = record { version = v; messages = ms; statements = ss }
+
+-- 02, No. 8: "Version 5 beside version 4."
+unfoldable pub version : Decoder Version
+version = byte >>= λ b. cond (isVersion b) (return (versionOf b)) fail
 
 -- 01: "Request: 4 (version), begin 2, messages, statements, end 255, eoc 76, nothing more." n bounds every count: the length will do
 unfoldable pub request : ℕ → Decoder Request
 request n =
-    code blr.version4 then code blr.begin then
-    two requestOf (messages n) (many n (λ s. statement n n s)) >>= λ r. code blr.eoc then return r
+    version >>= λ v. code blr.begin then
+    two (requestOf v) (messages n) (many n (λ s. statement n n s)) >>= λ r. code blr.eoc then return r
 
 abbrev pub ended : Request → List ℕ → Option Request
 ended r [] = some r

@@ -6,10 +6,10 @@ use mathlib.Core.Option.{Option, none, some}
 use lib.Dec.{eqb}
 use lib.IntN.{ℤ, pos, negsuc}
 use lib.ListN.{length, take, drop, getElem?}
-use Rattle.wire.specs.Words.{wordAt, longAt, signed}
+use Rattle.wire.specs.Words.{wordAt, longAt, int64At, signed}
 use Rattle.wire.specs.Lists.{indexOf, sumOf, _andThen_}
 use Rattle.wire.specs.declared.codes.Width.{Width}
-use Rattle.wire.specs.declared.codes.Width.the-variants.{Short, Long}
+use Rattle.wire.specs.declared.codes.Width.the-variants.{Short, Long, Int64}
 use Rattle.wire.specs.declared.codes.TextType.{TextType}
 use Rattle.wire.specs.declared.codes.DataType.the-variants as Data
 use Rattle.wire.specs.declared.codes.FieldType.{FieldType}
@@ -46,6 +46,7 @@ onFound (some x) f = f x
 abbrev pub numberAt : Width → List ℕ → ℕ → ℤ
 numberAt Short s p = signed 2 (wordAt s p)
 numberAt Long s p = signed 4 (longAt s p)
+numberAt Int64 s p = signed 8 (int64At s p)
 
 abbrev pub textFound : List ℕ → TextPart → Fetched
 textFound s (TextPart.Is start end) = value (text (partOf s start end))
@@ -82,6 +83,7 @@ unlessMissing There f s p = valueAt f s p
 abbrev pub numeral : Width → ℕ → ℤ
 numeral Short n = signed 2 n
 numeral Long n = signed 4 n
+numeral Int64 n = signed 8 n
 
 -- a literal; trailing blanks are no part of a text
 unfoldable pub literalValue : Literal → Datum

@@ -12,8 +12,10 @@ use lib.Seq.{sets, getD-set-same, getD-set-other}
 use Rattle.wire.specs.Words.{byteAt}
 use Rattle.wire.specs.Limits.{maxParameters, parameterRowNumbers}
 use Rattle.wire.specs.Classes.{Class, descriptorClass}
+use Rattle.wire.specs.Versions.{typeDue}
+use Rattle.wire.specs.declared.codes.Version.{Version}
 use Rattle.wire.specs.declared.codes.Width.{Width}
-use Rattle.wire.specs.declared.codes.Width.the-variants.{Short, Long}
+use Rattle.wire.specs.declared.codes.Width.the-variants.{Short, Long, Int64}
 use Rattle.wire.specs.declared.codes.TextType.{TextType}
 use Rattle.wire.specs.declared.codes.TextType.the-variants.{Text, Varying, Cstring}
 use Rattle.wire.specs.declared.codes.DataType.{DataType}
@@ -89,6 +91,7 @@ size-read s c {n} e = leb-true n 255 (both (leb 1 n) (leb n 255) (tested-read s 
 width-few : (w : Width) → widthBytes w ≤ 257
 width-few Short = omega arith
 width-few Long = omega arith
+width-few Int64 = omega arith
 
 text-few : (t : TextType) (n : ℕ) → n ≤ 255 → textBytes t n ≤ 257
 text-few Text n h = omega arith
@@ -98,70 +101,74 @@ text-few Cstring n h = omega arith
 module _ (s : List ℕ) (c : Cursor) (d : Tree.Descriptor) (q : Cursor) where
   pub under-few : (t : DataType) → descriptorUnder t s c ≡ read d q → held (descriptorFormat d) ≤ 257
   unfolding descriptorUnder held descriptorFormat
-  under-few (Number w) e = undo (scaleByte s c) _ e (λ x q₁ k v. same v (λ d q. held (descriptorFormat d) ≤ 257) (width-few w))
+  under-few (Number w) e = undo (scaleByte w s c) _ e (λ x q₁ k v. same v (λ d q. held (descriptorFormat d) ≤ 257) (width-few w))
   under-few Date e = same e (λ d q. held (descriptorFormat d) ≤ 257) (omega arith)
   under-few (Chars t) e =
       undo (sizeWord s c) _ e (λ x q₁ k v. same v (λ d q. held (descriptorFormat d) ≤ 257) (text-few t x (size-read s c k)))
 
   pub under-code : (t : DataType) → descriptorUnder t s c ≡ read d q → byteAt (descriptorBytes d) 0 ≡ dataCode t
   unfolding descriptorUnder descriptorBytes
-  under-code (Number w) e = undo (scaleByte s c) _ e (λ x q₁ k v. same v (λ d q. byteAt (descriptorBytes d) 0 ≡ dataCode (Number w)) refl)
+  under-code (Number w) e = undo (scaleByte w s c) _ e (λ x q₁ k v. same v (λ d q. byteAt (descriptorBytes d) 0 ≡ dataCode (Number w)) refl)
   under-code Date e = same e (λ d q. byteAt (descriptorBytes d) 0 ≡ dataCode Date) refl
   under-code (Chars t) e = undo (sizeWord s c) _ e (λ x q₁ k v. same v (λ d q. byteAt (descriptorBytes d) 0 ≡ dataCode (Chars t)) refl)
 
 -- ---- a descriptor
 
-module _ (size : ℕ) (s : List ℕ) (c : Cursor) where
-  pub descriptor-ended : {r : Refusal} {p : ℕ} → byte s c ≡ refused r p → descriptor size s c ≡ refused EndsEarly (length s)
+module _ (v : Version) (size : ℕ) (s : List ℕ) (c : Cursor) where
+  pub descriptor-ended : {r : Refusal} {p : ℕ} → byte s c ≡ refused r p → descriptor v size s c ≡ refused EndsEarly (length s)
   unfolding descriptor coded
   descriptor-ended e = rw (descriptor, coded, taken-ended 1 byteAt s c e)
 
   module _ {code : ℕ} {first : Cursor} (e : byte s c ≡ read code first) where
-    pub descriptor-left-out : descriptorClass code ≡ Class.leftOut → descriptor size s c ≡ refused LeftOut (c .at)
+    pub descriptor-left-out : descriptorClass code ≡ Class.leftOut → descriptor v size s c ≡ refused LeftOut (c .at)
     unfolding descriptor coded
     descriptor-left-out k = rw (descriptor, coded, e, k)
 
-    pub descriptor-foreign : descriptorClass code ≡ Class.foreign → descriptor size s c ≡ refused NotDue (c .at)
+    pub descriptor-foreign : descriptorClass code ≡ Class.foreign → descriptor v size s c ≡ refused NotDue (c .at)
     unfolding descriptor coded
     descriptor-foreign k = rw (descriptor, coded, e, k)
 
-    module _ {t : DataType} (k : descriptorClass code ≡ Class.due t) where
-      pub descriptor-cut : {r : Refusal} {p : ℕ} → descriptorUnder t s first ≡ refused r p → descriptor size s c ≡ refused r p
+    pub descriptor-early : {t : DataType} → descriptorClass code ≡ Class.due t → typeDue v t ≡ false → descriptor v size s c ≡ refused NotDue (c .at)
+    unfolding descriptor coded
+    descriptor-early k z = rw (descriptor, coded, e, k, z)
+
+    module _ {t : DataType} (k : descriptorClass code ≡ Class.due t) (z : typeDue v t ≡ true) where
+      pub descriptor-cut : {r : Refusal} {p : ℕ} → descriptorUnder t s first ≡ refused r p → descriptor v size s c ≡ refused r p
       unfolding descriptor coded
-      descriptor-cut u = rw (descriptor, coded, e, k, u)
+      descriptor-cut u = rw (descriptor, coded, e, k, z, u)
 
       module _ {d : Tree.Descriptor} {q : Cursor} (u : descriptorUnder t s first ≡ read d q) where
-        descriptor-whole : size + held (descriptorFormat d) ≤ 4096 → descriptor size s c ≡ read d q
+        descriptor-whole : size + held (descriptorFormat d) ≤ 4096 → descriptor v size s c ≡ read d q
         unfolding descriptor coded
-        descriptor-whole h = rw (descriptor, coded, e, k, u, le-leb (size + held (descriptorFormat d)) 4096 h)
+        descriptor-whole h = rw (descriptor, coded, e, k, z, u, le-leb (size + held (descriptorFormat d)) 4096 h)
 
-        pub descriptor-over : 4096 < size + held (descriptorFormat d) → descriptor size s c ≡ refused TooGreat (c .at)
+        pub descriptor-over : 4096 < size + held (descriptorFormat d) → descriptor v size s c ≡ refused TooGreat (c .at)
         unfolding descriptor coded
-        descriptor-over h = rw (descriptor, coded, e, k, u, lt-leb (size + held (descriptorFormat d)) 4096 h)
+        descriptor-over h = rw (descriptor, coded, e, k, z, u, lt-leb (size + held (descriptorFormat d)) 4096 h)
 
         pub descriptor-answer : {scale n : ℕ} → scale ≡ descriptorFormat d .scale → n ≡ held (descriptorFormat d) → size + n ≤ 4096 →
-            DescriptorStep.Is code scale n q ≡ descriptorStep (descriptor size s c)
+            DescriptorStep.Is code scale n q ≡ descriptorStep (descriptor v size s c)
         descriptor-answer {scale} {n} f g h =
             let i : code ≡ byteAt (descriptorBytes d) 0 = descriptor-due code t k ∙ sym (under-code s first d q t u) in
             let j : size + held (descriptorFormat d) ≤ 4096 = omega arith in
             rw (descriptor-whole j, f, g, i)
 
   -- a descriptor that was read is within its message's bytes
-  pub descriptor-fits : {d : Tree.Descriptor} {q : Cursor} → descriptor size s c ≡ read d q → size + held (descriptorFormat d) ≤ 4096
+  pub descriptor-fits : {d : Tree.Descriptor} {q : Cursor} → descriptor v size s c ≡ read d q → size + held (descriptorFormat d) ≤ 4096
   unfolding descriptor
-  descriptor-fits {d} {q} h = undo (coded descriptorClass s c) _ h (λ t q₁ e v. undo (descriptorUnder t s q₁) _ v (λ x q₂ e₁ v₁.
-      needed (leb (size + held (descriptorFormat x)) 4096) _ _ _ _ _ v₁ (λ b v₂.
-      same v₂ (λ d q. size + held (descriptorFormat d) ≤ 4096) (leb-true _ _ b))))
+  descriptor-fits {d} {q} h = undo (coded descriptorClass s c) _ h (λ t q₁ e u. needed (typeDue v t) _ _ _ _ _ u (λ z u₁.
+      undo (descriptorUnder t s q₁) _ u₁ (λ x q₂ e₁ u₂. needed (leb (size + held (descriptorFormat x)) 4096) _ _ _ _ _ u₂ (λ b u₃.
+      same u₃ (λ d q. size + held (descriptorFormat d) ≤ 4096) (leb-true _ _ b)))))
 
 -- ---- the descriptors of a message, with their rows
 
-module _ (x : Parameter) (s : List ℕ) (c : Cursor) (table a : List ℕ) where
-  pub none-described : (left : ℕ) → left ≡ 0 → Described (descriptors left (x .offset) s c) x table table a a (Step.Next NoKind c)
+module _ (v : Version) (x : Parameter) (s : List ℕ) (c : Cursor) (table a : List ℕ) where
+  pub none-described : (left : ℕ) → left ≡ 0 → Described (descriptors v left (x .offset) s c) x table table a a (Step.Next NoKind c)
   unfolding descriptors descriptorRows eachFrom
   none-described left e = rw e (record { answer = refl; filled = refl; held = refl; same = λ k h. refl; whole = refl })
 
-  pub descriptors-refused : (left : ℕ) → (left ≡ 0 → ⊥) → {r : Refusal} {p : ℕ} → descriptor (x .offset) s c ≡ refused r p →
-      Described (descriptors left (x .offset) s c) x table table a a (Step.Refused r p)
+  pub descriptors-refused : (left : ℕ) → (left ≡ 0 → ⊥) → {r : Refusal} {p : ℕ} → descriptor v (x .offset) s c ≡ refused r p →
+      Described (descriptors v left (x .offset) s c) x table table a a (Step.Refused r p)
   unfolding descriptors eachFrom
   descriptors-refused zero z e = absurd (z refl)
   descriptors-refused (suc left) z e =
@@ -212,17 +219,17 @@ module _ (x : Parameter) (s : List ℕ) (c : Cursor) (table a : List ℕ) where
           whole = h .whole ∙ length-set a (descriptorsFrom + x .row) (numberOf d);
         }
 
-  pub descriptors-read : (left : ℕ) → (left ≡ 0 → ⊥) → {d : Tree.Descriptor} {q : Cursor} → descriptor (x .offset) s c ≡ read d q →
+  pub descriptors-read : (left : ℕ) → (left ≡ 0 → ⊥) → {d : Tree.Descriptor} {q : Cursor} → descriptor v (x .offset) s c ≡ read d q →
       {code scale n : ℕ} → code ≡ byteAt (descriptorBytes d) 0 → scale ≡ descriptorFormat d .scale → n ≡ held (descriptorFormat d) →
       scale < 256 → x .row < maxParameters → length a ≡ aroundNumbers →
       {table₁ table′ a₁ a′ : List ℕ} {next : Parameter} {r : Step} →
       table₁ ≡ sets table (x .row * parameterRowNumbers) (rowOf x code scale n) →
       a₁ ≡ withDescriptor a (x .row) (packed code scale n) → next ≡ parameterAfter x n →
-      Described (descriptors (left - 1) (next .offset) s q) next table₁ table′ a₁ a′ r →
-      Described (descriptors left (x .offset) s c) x table table′ a a′ r
+      Described (descriptors v (left - 1) (next .offset) s q) next table₁ table′ a₁ a′ r →
+      Described (descriptors v left (x .offset) s c) x table table′ a a′ r
   unfolding descriptors
   descriptors-read zero z e f g i j k l t u w h = absurd (z refl)
   descriptors-read (suc left) z {d} {q} e f g i j k l t u w h =
       rw (descriptors, e)
-      (described-more k l d (rw g at j) (descriptors left (x .offset + held (descriptorFormat d)) s q)
+      (described-more k l d (rw g at j) (descriptors v left (x .offset + held (descriptorFormat d)) s q)
       (rw (t, u, w, f, g, i, sub-one (suc left)) at h))

@@ -9,7 +9,7 @@ use borrow.Author.Tests.{lt-ltb, le-ltb}
 use lib.ListN.{getD, getElem?}
 use Rattle.wire.specs.Words.{byteAt}
 use Rattle.wire.specs.Limits.{maxMessages, maxParameters}
-use Rattle.wire.specs.declared.codes.Width.the-variants.{Short, Long}
+use Rattle.wire.specs.declared.codes.Width.the-variants.{Short, Long, Int64}
 use Rattle.wire.specs.declared.codes.TextType.the-variants.{Text, Varying, Cstring}
 use Rattle.dictionary.specs.Format.{held}
 use Rattle.grammar.specs.Tree as Tree
@@ -33,6 +33,7 @@ described-code : (d : Tree.Descriptor) → byteAt (descriptorBytes d) 0 < 256
 unfolding descriptorBytes
 described-code (Tree.Descriptor.number Short scale) = omega arith
 described-code (Tree.Descriptor.number Long scale) = omega arith
+described-code (Tree.Descriptor.number Int64 scale) = omega arith
 described-code Tree.Descriptor.date = omega arith
 described-code (Tree.Descriptor.text Text n) = omega arith
 described-code (Tree.Descriptor.text Varying n) = omega arith
@@ -42,6 +43,7 @@ described : (d : Tree.Descriptor) → describedBy (byteAt (descriptorBytes d) 0)
 unfolding describedBy descriptorBytes descriptorFormat held
 described (Tree.Descriptor.number Short scale) = refl
 described (Tree.Descriptor.number Long scale) = refl
+described (Tree.Descriptor.number Int64 scale) = refl
 described Tree.Descriptor.date = refl
 described (Tree.Descriptor.text Text n) = refl
 described (Tree.Descriptor.text Varying n) = ap (Tree.Descriptor.text Varying) (omega arith)

@@ -7,6 +7,7 @@ use lib.Seq.{sets}
 use Rattle.wire.specs.Limits.{maxMessages, maxParameters, parameterRowNumbers}
 use Rattle.wire.specs.Words.{byteAt}
 use Rattle.dictionary.specs.Format.{held}
+use Rattle.wire.specs.declared.codes.Version.{Version}
 use Rattle.grammar.specs.declared.Step.{Step}
 use Rattle.grammar.specs.Tree as Tree
 use Rattle.grammar.specs.Bytes.{descriptorBytes}
@@ -21,7 +22,7 @@ use Rattle.messages.specs.declared.descriptor.DescriptorStep.{Descriptor
 use Rattle.messages.specs.declared.descriptor.DescriptorStep.the-variants as DescriptorStep
 use Rattle.messages.specs.declared.reading.Parameter.{Parameter}
 use Rattle.messages.specs.Internal.Columns.{descriptorsFrom, aroundNumbers}
-use Rattle.messages.specs.Entries.{messagesHeld, rowsHeld, messageIn, messagesIn, descriptorsAt}
+use Rattle.messages.specs.Entries.{messagesHeld, rowsHeld, messageIn, messagesIn, descriptorsAt, versionIn}
 
 abbrev pub formatStep : Read Tree.Descriptor → FormatStep
 formatStep (read d c) = FormatStep.Is (descriptorFormat d .scale) (held (descriptorFormat d)) c
@@ -78,11 +79,13 @@ pub record ReadEach (x : Read (List Tree.Message)) (table table′ a′ : List �
   pub filled : table′ ≡ after (λ ms. sets table 0 (parameterRows ms)) table′ x
   pub held : messagesIn a′ ≡ after (λ ms. ms) (messagesIn a′) x
   pub rows : rowsHeld a′ ≡ after parameterCount (rowsHeld a′) x
+  pub holds : Holds a′
 
--- all messages of a request, with their rows at the start of the table; after a refusal zeros alone, and no message. Of the array's
--- numbers it says what they stand for, and no more
-pub record Declares (x : Read (List Tree.Message)) (table table′ a′ : List ℕ) (r : Step) : Type 0 where
+-- all messages of a request of a version, with their rows at the start of the table; after a refusal zeros alone, and no message. Of the
+-- array's numbers it says what they stand for, and no more
+pub record Declares (v : Version) (x : Read (List Tree.Message)) (table table′ a′ : List ℕ) (r : Step) : Type 0 where
   pub answer : r ≡ stepOf noKind x
   pub filled : table′ ≡ after (λ ms. sets table 0 (parameterRows ms)) (replicate (length table) 0) x
   pub held : messagesIn a′ ≡ after (λ ms. ms) [] x
   pub rows : rowsHeld a′ ≡ after parameterCount 0 x
+  pub version : versionIn a′ ≡ v

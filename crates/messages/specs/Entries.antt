@@ -8,7 +8,9 @@ use lib.ListN.{take, set, getD, getElem?}
 use Rattle.wire.specs.Codes as blr
 use Rattle.wire.specs.Limits.{maxMessages, maxParameters}
 use Rattle.wire.specs.Lists.{indexOf}
-use Rattle.wire.specs.declared.codes.Width.the-variants.{Short, Long}
+use Rattle.wire.specs.Versions.{versionCode, versionOf}
+use Rattle.wire.specs.declared.codes.Version.{Version}
+use Rattle.wire.specs.declared.codes.Width.the-variants.{Short, Long, Int64}
 use Rattle.wire.specs.declared.codes.TextType.the-variants.{Text, Varying, Cstring}
 use Rattle.grammar.specs.Tree as Tree
 use Rattle.grammar.specs.Environment.{descriptorFormat}
@@ -17,7 +19,7 @@ use Rattle.grammar.specs.Kind.{Kind}
 use Rattle.scopes.specs.Scopes.{eachFrom}
 use Rattle.messages.specs.declared.declared.FoundMessage.{FoundMessage}
 use Rattle.messages.specs.declared.declared.FoundMessage.the-variants.{At, Nothing}
-use Rattle.messages.specs.Internal.Columns.{messageCount, rowCount, numbersFrom, countsFrom, firstsFrom, descriptorsFrom}
+use Rattle.messages.specs.Internal.Columns.{messageCount, rowCount, numbersFrom, countsFrom, firstsFrom, descriptorsFrom, versionAt}
 
 -- ---- messages in the array
 
@@ -66,9 +68,10 @@ unfoldable pub describedBy : ℕ → ℕ → ℕ → Tree.Descriptor
 describedBy t scale held =
     cond (eqb t blr.short) (Tree.Descriptor.number Short scale)
     (cond (eqb t blr.long) (Tree.Descriptor.number Long scale)
+    (cond (eqb t blr.int64) (Tree.Descriptor.number Int64 scale)
     (cond (eqb t blr.text) (Tree.Descriptor.text Text held)
     (cond (eqb t blr.varying) (Tree.Descriptor.text Varying (held - 2))
-    (cond (eqb t blr.cstring) (Tree.Descriptor.text Cstring held) Tree.Descriptor.date))))
+    (cond (eqb t blr.cstring) (Tree.Descriptor.text Cstring held) Tree.Descriptor.date)))))
 
 unfoldable pub descriptorOf : ℕ → Tree.Descriptor
 descriptorOf x = describedBy (x % 256) (x / 256 % 256) (x / 65536)
@@ -93,7 +96,14 @@ messagesIn a = map (messageOf a) (declaredIn a)
 unfoldable pub parameterKind : List ℕ → Message → ℕ → Option Kind
 parameterKind a x i = Option·map (λ d. formatKind (descriptorFormat d)) (getElem? (descriptorsAt a (x .first) (x .parameters)) i)
 
+-- the version of the request
+unfoldable pub versionIn : List ℕ → Version
+versionIn a = versionOf (getD a versionAt 0)
+
 -- ---- what is written
+
+abbrev pub withVersion : List ℕ → Version → List ℕ
+withVersion a v = set a versionAt (versionCode v)
 
 abbrev pub withDescriptor : List ℕ → ℕ → ℕ → List ℕ
 withDescriptor a row x = set a (descriptorsFrom + row) x

@@ -7,21 +7,25 @@ ghost use Rattle.grammar.specs.Kinds.{formatKind};
 ghost use Rattle.grammar.specs.Environment.{descriptorFormat};
 ghost use Rattle.grammar.specs.Internal.Steps.{fitOf};
 ghost use Rattle.messages.specs.Entries.{messagesHeld, rowsHeld, declaredIn, foundOf, messageAt, parameterKind};
-ghost use Rattle.messages.specs.Entries.{packed, descriptorOf, withDescriptor, withMessage};
+ghost use Rattle.messages.specs.Entries.{packed, descriptorOf, versionIn, withVersion, withDescriptor, withMessage};
 use grammar::Fit;
 use wire::blr::CSTRING;
+use wire::blr::INT64;
 use wire::blr::LONG;
 use wire::blr::SHORT;
 use wire::blr::TEXT;
 use wire::blr::VARYING;
+use wire::blr::VERSION4;
+use wire::blr::VERSION5;
 use wire::bytes::signed_byte;
+use wire::codes::Version;
 use wire::limits::MAX_MESSAGES;
 use wire::limits::MAX_PARAMETERS;
 use wire::numbers::MessageNumber;
 
 // The columns of the array: how many messages there are, and the rows of all their parameters; then for each message its number, how many
 // parameters it has, and the row of its first; then for each row of the parameter table the type's code, the scale byte and the bytes held
-// of its descriptor, in one number.
+// of its descriptor, in one number; last the version.
 const MESSAGE_COUNT: usize = 0;
 
 const ROW_COUNT: usize = 1;
@@ -34,7 +38,9 @@ const FIRSTS: usize = 34;
 
 const DESCRIPTORS: usize = 50;
 
-pub const AROUND: usize = 306;
+const VERSION: usize = 306;
+
+pub const AROUND: usize = 307;
 
 // The index of the message of a number, or that none is declared.
 pub enum FoundMessage {
@@ -73,6 +79,17 @@ pub fn row_count(around: &[u32; AROUND]) -> usize
     wide(around[ROW_COUNT])
 }
 
+// The version of the request.
+pub fn version(around: &[u32; AROUND]) -> Version
+    ensures { λ r. ⌜ r ≡ versionIn (now (around .entry)) ⌝ }
+{
+    if around[VERSION] == VERSION5 as u32 {
+        Version::Version5
+    } else {
+        Version::Version4
+    }
+}
+
 // The kind of a descriptor in one number.
 fn descriptor_fit(x: u32) -> Fit
     ensures { λ r. ⌜ r ≡ fitOf (some (formatKind (descriptorFormat (descriptorOf x)))) ⌝ }
@@ -80,7 +97,7 @@ fn descriptor_fit(x: u32) -> Fit
     let code = (x % 256) as u8;
     let scale = (x / 256 % 256) as u8;
     match code {
-        SHORT | LONG => Fit::Number(signed_byte(scale)),
+        SHORT | LONG | INT64 => Fit::Number(signed_byte(scale)),
         TEXT | VARYING | CSTRING => Fit::Text,
         _ => Fit::Date,
     }
@@ -101,6 +118,20 @@ pub fn parameter_fit(around: &[u32; AROUND], message: usize, i: u32) -> Fit
         return Fit::Date;
     }
     descriptor_fit(around[DESCRIPTORS + row])
+}
+
+// The version of the request.
+pub(crate) fn put_version(around: &mut [u32; AROUND], v: Version)
+    ensures { λ _. ⌜ now (around .exit) ≡ withVersion (now (around .entry)) v ⌝ }
+{
+    match v {
+        Version::Version4 => {
+            around[VERSION] = VERSION4 as u32;
+        }
+        Version::Version5 => {
+            around[VERSION] = VERSION5 as u32;
+        }
+    }
 }
 
 // The descriptor of a row.

@@ -6,6 +6,7 @@ ghost use Rattle.grammar.specs.Messages.{descriptorUnder, descriptor};
 ghost use Rattle.messages.specs.Declaring.{formatStep, descriptorStep};
 use classes::DescriptorClass;
 use classes::descriptor_class;
+use classes::type_due;
 use dictionary::format::text_bytes;
 use dictionary::format::width_bytes;
 use grammar::ByteStep;
@@ -16,6 +17,7 @@ use steps::next_byte;
 use steps::scale_byte;
 use steps::size_word;
 use wire::codes::DataType;
+use wire::codes::Version;
 use wire::limits::DATE_SIZE;
 use wire::limits::MAX_MESSAGE_BYTES;
 
@@ -36,7 +38,7 @@ fn format(request: &[u8], t: DataType, c: Cursor) -> FormatStep
     ensures { λ r. ⌜ r ≡ formatStep (descriptorUnder t (now (request .entry)) c) ⌝ }
 {
     match t {
-        DataType::Number(w) => match scale_byte(request, c) {
+        DataType::Number(w) => match scale_byte(request, w, c) {
             ByteStep::Is(scale, after) => FormatStep::Is(scale, width_bytes(w), after),
             ByteStep::Refused(r, p) => FormatStep::Refused(r, p),
         },
@@ -48,24 +50,29 @@ fn format(request: &[u8], t: DataType, c: Cursor) -> FormatStep
     }
 }
 
-// A descriptor of a message that has so many bytes before it.
-pub(crate) fn read_descriptor(request: &[u8], c: Cursor, size: usize) -> DescriptorStep
+// A descriptor of a message that has so many bytes before it, in a request of a version.
+pub(crate) fn read_descriptor(request: &[u8], c: Cursor, size: usize, v: Version) -> DescriptorStep
     requires { ⌜ size ≤ maxMessageBytes ⌝ }
-    ensures { λ r. ⌜ r ≡ descriptorStep (descriptor size (now (request .entry)) c) ⌝ }
+    ensures { λ r. ⌜ r ≡ descriptorStep (descriptor v size (now (request .entry)) c) ⌝ }
 {
     let ByteStep::Is(code, first) = next_byte(request, c) else {
         return DescriptorStep::Refused(Refusal::EndsEarly, request.len());
     };
     match descriptor_class(code) {
-        DescriptorClass::Due(t) => match format(request, t, first) {
-            FormatStep::Is(scale, held, after) => {
-                if MAX_MESSAGE_BYTES < size + held {
-                    return DescriptorStep::Refused(Refusal::TooGreat, c.at);
-                }
-                DescriptorStep::Is(code, scale, held, after)
+        DescriptorClass::Due(t) => {
+            if !type_due(v, t) {
+                return DescriptorStep::Refused(Refusal::NotDue, c.at);
             }
-            FormatStep::Refused(r, p) => DescriptorStep::Refused(r, p),
-        },
+            match format(request, t, first) {
+                FormatStep::Is(scale, held, after) => {
+                    if MAX_MESSAGE_BYTES < size + held {
+                        return DescriptorStep::Refused(Refusal::TooGreat, c.at);
+                    }
+                    DescriptorStep::Is(code, scale, held, after)
+                }
+                FormatStep::Refused(r, p) => DescriptorStep::Refused(r, p),
+            }
+        }
         DescriptorClass::LeftOut => DescriptorStep::Refused(Refusal::LeftOut, c.at),
         DescriptorClass::Foreign => DescriptorStep::Refused(Refusal::NotDue, c.at),
     }

@@ -4,6 +4,7 @@ ghost use mathlib.Core.List.{[]};
 ghost use Prim.Native.Nat.{_<_, _≤_, _+_, _*_};
 ghost use lib.ListN.{length};
 ghost use lib.Seq.{sets};
+ghost use Rattle.wire.specs.declared.codes.Version.{Version as AnyVersion};
 ghost use Rattle.wire.specs.Limits.{maxMessages, maxMessageParameters, maxParameters, maxMessageBytes, parameterRowNumbers};
 ghost use Rattle.grammar.specs.Messages.{descriptors, message, messages};
 ghost use Rattle.grammar.specs.Internal.Steps.{stepOf, noKind};
@@ -15,6 +16,7 @@ use crate::declared::FoundMessage;
 use crate::declared::add_message;
 use crate::declared::find;
 use crate::declared::put_descriptor;
+use crate::declared::put_version;
 use crate::declared::row_count;
 use crate::descriptor::DescriptorStep;
 use crate::descriptor::read_descriptor;
@@ -29,6 +31,7 @@ use steps::next_message;
 use steps::next_word;
 use steps::peek_byte;
 use wire::blr::MESSAGE;
+use wire::codes::Version;
 use wire::limits::MAX_MESSAGE_PARAMETERS;
 use wire::limits::MAX_MESSAGES;
 use wire::limits::MAX_PARAMETERS;
@@ -79,7 +82,7 @@ fn parameter_after(x: Parameter, held: usize) -> Parameter
     next
 }
 
-// The descriptors of a message from a parameter on, so many.
+// The descriptors of a message from a parameter on, so many, in a request of a version.
 fn read_descriptors(
     request: &[u8],
     table: &mut [u32],
@@ -87,16 +90,17 @@ fn read_descriptors(
     c: Cursor,
     x: Parameter,
     left: usize,
+    v: Version,
 ) -> Step
     requires { ⌜ (x .index + left ≤ maxMessageParameters) × ((x .row + left ≤ maxParameters) ×
         ((x .offset ≤ maxMessageBytes) × (length (now around) ≡ aroundNumbers))) ⌝ }
-    ensures { λ r. ⌜ Described (descriptors left (x .offset) (now (request .entry)) c) x (now (table .entry)) (now (table .exit))
+    ensures { λ r. ⌜ Described (descriptors v left (x .offset) (now (request .entry)) c) x (now (table .entry)) (now (table .exit))
         (now (around .entry)) (now (around .exit)) r ⌝ }
 {
     if left == 0 {
         return Step::Next(Fit::NoKind, c);
     }
-    match read_descriptor(request, c, x.offset) {
+    match read_descriptor(request, c, x.offset, v) {
         DescriptorStep::Is(code, scale, held, after) => {
             put_row(table, x, code, scale, held);
             put_descriptor(around, x.row, code, scale, held);
@@ -107,6 +111,7 @@ fn read_descriptors(
                 after,
                 parameter_after(x, held),
                 left - 1,
+                v,
             )
         }
         DescriptorStep::Refused(r, p) => Step::Refused(r, p),
@@ -126,9 +131,15 @@ fn first_parameter(message: MessageNumber, row: usize) -> Parameter
 }
 
 // A message after its code, beside the messages before it.
-fn read_message(request: &[u8], table: &mut [u32], around: &mut [u32; AROUND], c: Cursor) -> Step
+fn read_message(
+    request: &[u8],
+    table: &mut [u32],
+    around: &mut [u32; AROUND],
+    c: Cursor,
+    v: Version,
+) -> Step
     requires { ⌜ Holds (now around) × (messagesHeld (now around) < maxMessages) ⌝ }
-    ensures { λ r. ⌜ Told (message (messagesIn (now (around .entry))) (now (request .entry)) c) (now (table .entry)) (now (table .exit))
+    ensures { λ r. ⌜ Told (message v (messagesIn (now (around .entry))) (now (request .entry)) c) (now (table .entry)) (now (table .exit))
         (now (around .entry)) (now (around .exit)) r ⌝ }
 {
     let MessageStep::Is(m, first) = next_message(request, c) else {
@@ -149,7 +160,7 @@ fn read_message(request: &[u8], table: &mut [u32], around: &mut [u32; AROUND], c
         return Step::Refused(Refusal::TooGreat, first.at);
     }
     let x = first_parameter(m, rows);
-    let r = read_descriptors(request, table, around, second, x, parameters);
+    let r = read_descriptors(request, table, around, second, x, parameters, v);
     if let Step::Next(_, _) = r {
         add_message(around, m, n);
     }
@@ -158,7 +169,7 @@ fn read_message(request: &[u8], table: &mut [u32], around: &mut [u32; AROUND], c
 
 // What stands after as many messages as there may be: another code.
 fn no_more(request: &[u8], c: Cursor) -> Step
-    ensures { λ r. ⌜ r ≡ stepOf noKind (messages 0 [] (now (request .entry)) c) ⌝ }
+    ensures { λ r. ⌜ ((v : AnyVersion) → r ≡ stepOf noKind (messages v 0 [] (now (request .entry)) c)) ⌝ }
 {
     let ByteStep::Is(x, _) = peek_byte(request, c) else {
         return Step::Refused(Refusal::EndsEarly, request.len());
@@ -170,8 +181,14 @@ fn no_more(request: &[u8], c: Cursor) -> Step
 }
 
 // The messages up to the first other code, with what was written before a refusal.
-fn read_each(request: &[u8], table: &mut [u32], around: &mut [u32; AROUND], c: Cursor) -> Step
-    ensures { λ r. ⌜ ReadEach (messages maxMessages [] (now (request .entry)) c) (now (table .entry)) (now (table .exit))
+fn read_each(
+    request: &[u8],
+    table: &mut [u32],
+    around: &mut [u32; AROUND],
+    c: Cursor,
+    v: Version,
+) -> Step
+    ensures { λ r. ⌜ ReadEach (messages v maxMessages [] (now (request .entry)) c) (now (table .entry)) (now (table .exit))
         (now (around .exit)) r ⌝ }
 {
     clear(around);
@@ -186,7 +203,7 @@ fn read_each(request: &[u8], table: &mut [u32], around: &mut [u32; AROUND], c: C
         }
         let mut after = at;
         after.at = at.at + 1;
-        let r = read_message(request, table, around, after);
+        let r = read_message(request, table, around, after, v);
         let Step::Next(_, next) = r else {
             return r;
         };
@@ -196,20 +213,24 @@ fn read_each(request: &[u8], table: &mut [u32], around: &mut [u32; AROUND], c: C
     no_more(request, at)
 }
 
-// The messages up to the first other code. A refusal leaves zeros alone in the table, and no message.
+// The messages up to the first other code of a request of a version. A refusal leaves zeros alone in the table, and no message.
 pub fn read_messages(
     request: &[u8],
     table: &mut [u32],
     around: &mut [u32; AROUND],
     c: Cursor,
+    v: Version,
 ) -> Step
-    ensures { λ r. ⌜ Declares (messages maxMessages [] (now (request .entry)) c) (now (table .entry)) (now (table .exit))
+    ensures { λ r. ⌜ Declares v (messages v maxMessages [] (now (request .entry)) c) (now (table .entry)) (now (table .exit))
         (now (around .exit)) r ⌝ }
 {
-    let r = read_each(request, table, around, c);
+    let r = read_each(request, table, around, c, v);
     if let Step::Refused(_, _) = r {
         clear(table);
         clear(around);
+        put_version(around, v);
+        return r;
     }
+    put_version(around, v);
     r
 }

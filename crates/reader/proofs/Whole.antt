@@ -6,6 +6,9 @@ use native.Mathlib.Omega.{arith}
 use lib.ListN.{length, length-append}
 use Rattle.wire.specs.Codes as blr
 use Rattle.wire.specs.Limits.{maxRequestBytes, maxMessages, maxDepth}
+use Rattle.wire.specs.Words.{byteAt}
+use Rattle.wire.specs.Versions.{isVersion, versionOf}
+use Rattle.wire.specs.declared.codes.Version.{Version}
 use Rattle.dictionary.specs.Dictionary.{Relation}
 use Rattle.grammar.specs.declared.Cursor.{Cursor}
 use Rattle.grammar.specs.declared.Refusal.{Refusal}
@@ -19,14 +22,14 @@ use Rattle.grammar.specs.Bytes.{messagesBytes, statementsBytes}
 use Rattle.grammar.specs.Environment.{Environment, outermost}
 use Rattle.grammar.specs.Rows.{statementsStart, outerEnd, statementsRows, requestStatementRows, requestContextRows}
 use Rattle.grammar.specs.Conditions.{requestConditions}
-use Rattle.grammar.specs.Reader.{Read, read, refused, onRead, code, countStatement}
+use Rattle.grammar.specs.Reader.{Read, read, refused, onRead, byte, tested, code, countStatement}
 use Rattle.grammar.specs.Messages.{messages}
-use Rattle.grammar.specs.Reading.{outerStatements, nothingMore, request, start}
+use Rattle.grammar.specs.Reading.{outerStatements, nothingMore, version, request, start}
 use Rattle.grammar.specs.Internal.Steps.{stepOf, noKind}
 use Rattle.grammar.proofs.StepLaws.{step-read, step-refused}
-use Rattle.grammar.proofs.Went.{Went, inside, undo, code-went, counted-went}
+use Rattle.grammar.proofs.Went.{Went, inside, undo, same, taken-read, tested-read, code-went, counted-went}
 use Rattle.grammar.proofs.SoundMessages.{messages-sound}
-use Rattle.grammar.proofs.Sound.{outer-sound}
+use Rattle.grammar.proofs.Sound.{version-went, outer-sound}
 use Rattle.scopes.specs.Scopes.{scopeOf}
 use Rattle.scopes.proofs.Scopes.{zeros, nothing-held, no-contexts, no-sends, no-labels}
 use Rattle.messages.specs.Entries.{rowsHeld}
@@ -55,39 +58,39 @@ whole-refused n p e u = record { answer-is = rw (e, u); rows-are = rw e; paramet
 abbrev outer : Level
 outer = record { left = maxDepth - 1; parent = 1 }
 
-module _ (s d pt : List ℕ) (c : Cursor) (begun : Begun s d pt c) where
+module _ (v : Version) (s d pt : List ℕ) (c : Cursor) (begun : Begun s d pt c) where
   abbrev declared : Read (List Message)
-  declared = messages maxMessages [] s c
+  declared = messages v maxMessages [] s c
 
   abbrev around : List Message → Environment
-  around ms = record { relations = relations d; messages = ms }
+  around ms = record { version = v; relations = relations d; messages = ms }
 
   module _ (ms : List Message) (c₁ : Cursor) (e : declared ≡ read ms c₁) where
     after-messages : Went s c (messagesBytes ms) 0 0 0 c₁
     after-messages =
-        let w = messages-sound s (begun .beside .octets) maxMessages [] c ms c₁ e in
+        let w = messages-sound v s (begun .beside .octets) maxMessages [] c ms c₁ e in
         subst (λ x. Went s c (messagesBytes x) 0 0 0 c₁) (sym (w .whole)) (w .went)
 
     within : c₁ .at ≤ length s
     within = inside after-messages (omega (arith, begun .place, begun .inside))
 
     -- of the statements up to c₂
-    module _ (ss : Statements) (c₂ : Cursor) (f : outerStatements (relations d) ms s c₁ ≡ read ss c₂) where
+    module _ (ss : Statements) (c₂ : Cursor) (f : outerStatements v (relations d) ms s c₁ ≡ read ss c₂) where
       abbrev whole : Request
-      whole = record { messages = ms; statements = ss }
+      whole = record { version = v; messages = ms; statements = ss }
 
       starts : c₁ .at ≡ statementsStart whole
       starts = omega (arith, after-messages .place, begun .place)
 
       ends : c₂ .at ≡ outerEnd whole
       ends =
-          let w = outer-sound s (begun .beside .octets) (relations d) ms c₁ ss c₂ f .went in
+          let w = outer-sound s (begun .beside .octets) v (relations d) ms c₁ ss c₂ f .went in
           let l = length-append (statementsBytes ss) (blr.end ∷ []) in
           omega (arith, w .place, starts, l)
 
       ends-within : c₂ .at ≤ maxRequestBytes
       ends-within =
-          let w = outer-sound s (begun .beside .octets) (relations d) ms c₁ ss c₂ f .went in
+          let w = outer-sound s (begun .beside .octets) v (relations d) ms c₁ ss c₂ f .went in
           omega (arith, inside w within, begun .beside .short)
 
       -- the rows of the statements, then that of the outer begin
@@ -117,10 +120,10 @@ module _ (s d pt : List ℕ) (c : Cursor) (begun : Begun s d pt c) where
 
   -- ---- the whole, from the answers of the parts
 
-  module _ (pt₁ a : List ℕ) (m : Step) (h : Declares declared pt pt₁ a m) where
+  module _ (pt₁ a : List ℕ) (m : Step) (h : Declares v declared pt pt₁ a m) where
     -- the messages were refused
     pub undeclared : {n : Refusal} {p : ℕ} → m ≡ Step.Refused n p → (t : Tables) →
-        Requested (bodyOf (relations d) s c) d pt pt₁ t t (record { step = m; parameters = 0 })
+        Requested (bodyOf v (relations d) s c) d pt pt₁ t t (record { step = m; parameters = 0 })
     unfolding bodyOf
     undeclared {n} {p} e t = let u = step-refused noKind declared (sym e ∙ h .answer) in whole-refused n p (rw (bodyOf, u)) e
 
@@ -150,27 +153,29 @@ module _ (s d pt : List ℕ) (c : Cursor) (begun : Begun s d pt c) where
           (w : StatementsRead outer (environmentOf d a) (scopeOf d zeros) s c₁ (tables st₀ ct nd) t₁ r) where
         abbrev Goal : Type 0
         Goal =
-            Requested (bodyOf (relations d) s c) d pt pt₁ (tables st ct nd) (tables (outerRow (t₁ .statements) r) (t₁ .contexts) (t₁ .conditions))
+            Requested (bodyOf v (relations d) s c) d pt pt₁ (tables st ct nd)
+            (tables (outerRow (t₁ .statements) r) (t₁ .contexts) (t₁ .conditions))
             (record { step = onStep r (λ f q. stepOf noKind (endOf s q)); parameters = rowsHeld a })
 
         -- the statements were read beside the messages
         by-messages : (ms : List Message) → declared ≡ read ms c₁ → Goal
         unfolding bodyOf environmentOf outerStatements
         by-messages ms i =
-            let known : Wrote (outerStatements (relations d) ms s c₁) noKind c₁ (statementsTables (around ms) outermost 1 c₁) (tables st₀ ct nd) t₁ r =
-            rw (rw i at (h .held), nothing-held d) at w in
-            by-read (outerStatements (relations d) ms s c₁)
+            let known : Wrote (outerStatements v (relations d) ms s c₁) noKind c₁ (statementsTables (around ms) outermost 1 c₁)
+            (tables st₀ ct nd) t₁ r =
+            rw (rw i at (h .held), h .version, nothing-held d) at w in
+            by-read (outerStatements v (relations d) ms s c₁)
             (λ ss c₂ j.
             let u : r ≡ Step.Next Fit.NoKind c₂ = rw j at (known .answer) in
-            let v = rw j at (known .filled) in
+            let f₂ = rw j at (known .filled) in
             by-read (endOf s c₂)
             (λ x c₃ k.
-            let b : bodyOf (relations d) s c ≡ read (record { messages = ms; statements = ss }) c₃ = rw (bodyOf, i, j, k) in
+            let b : bodyOf v (relations d) s c ≡ read (record { version = v; messages = ms; statements = ss }) c₃ = rw (bodyOf, i, j, k) in
             record {
               answer-is = rw (b, u, k);
               rows-are = rw (b, rw i at (h .rows));
               parameters-filled = rw (b, rw i at (h .filled));
-              filled = rw (b, u) (rows-whole ms c₁ i ss c₂ j st st₀ ct nd t₁ h₀ v);
+              filled = rw (b, u) (rows-whole ms c₁ i ss c₂ j st st₀ ct nd t₁ h₀ f₂);
             })
             (λ n p k. whole-refused n p (rw (bodyOf, i, j, k)) (rw (u, k))))
             (λ n p j. let u : r ≡ Step.Refused n p = rw j at (known .answer) in whole-refused n p (rw (bodyOf, i, j)) (rw u))
@@ -180,22 +185,33 @@ module _ (s d pt : List ℕ) (c : Cursor) (begun : Begun s d pt c) where
 
 -- ---- the head, and the request from its head on
 
--- the cursor after the head
-pub begun-after : (s d pt : List ℕ) → Beside s d pt → (u : Unit {0}) (c : Cursor) → headOf s start ≡ read u c → Begun s d pt c
-unfolding headOf
-begun-after s d pt b u c h =
-    undo (code blr.version4 BadVersion s start) _ h (λ x q e w. undo (code blr.begin NotDue s q) _ w (λ y q₁ e₁ w₁.
-    let i = code-went blr.version4 BadVersion s start e in
-    let j = code-went blr.begin NotDue s q e₁ in
-    let k = counted-went (q .at) s q₁ w₁ .0 in
-    record {
-      beside = b;
-      place = omega (arith, i .place, j .place, k .place);
-      inside = omega (arith, i .place, j .place, inside j (inside i (omega arith)));
-      statements = omega (arith, i .counted, j .counted, k .counted);
-      contexts = omega (arith, i .declared, j .declared, k .declared);
-      conditions = omega (arith, i .noted, j .noted, k .noted);
-    }))
+-- the cursor after the head, and the version that the first byte says
+module _ (s d pt : List ℕ) (b : Beside s d pt) (v : Version) (c : Cursor) (h : headOf s start ≡ read v c) where
+  pub begun-after : Begun s d pt c
+  unfolding headOf
+  begun-after =
+      undo (version s start) _ h (λ x q e w. undo (code blr.begin NotDue s q) _ w (λ y q₁ e₁ w₁.
+      undo (countStatement (q .at) s q₁) _ w₁ (λ u q₂ e₂ w₂.
+      let i = version-went s start e in
+      let j = code-went blr.begin NotDue s q e₁ in
+      let k = counted-went (q .at) s q₁ e₂ .0 in
+      same w₂ (λ v c. Begun s d pt c) (record {
+        beside = b;
+        place = omega (arith, i .place, j .place, k .place);
+        inside = omega (arith, i .place, j .place, inside j (inside i (omega arith)));
+        statements = omega (arith, i .counted, j .counted, k .counted);
+        contexts = omega (arith, i .declared, j .declared, k .declared);
+        conditions = omega (arith, i .noted, j .noted, k .noted);
+      }))))
+
+  pub version-first : v ≡ versionOf (byteAt s 0)
+  unfolding headOf version
+  version-first =
+      undo (version s start) _ h (λ x q e w. undo (code blr.begin NotDue s q) _ w (λ y q₁ e₁ w₁.
+      undo (countStatement (q .at) s q₁) _ w₁ (λ u q₂ e₂ w₂.
+      same w₂ (λ v c. v ≡ versionOf (byteAt s 0))
+      (undo (tested byte isVersion BadVersion s start) _ e (λ y q₃ e₃ w₃.
+      same w₃ (λ v c. v ≡ versionOf (byteAt s 0)) (ap versionOf (taken-read s start 1 byteAt (tested-read s start byte isVersion _ e₃ .0) .1)))))))
 
 -- readings one after another
 module _ {A B : Type 0} (x : Read A) where
@@ -205,21 +221,28 @@ module _ {A B : Type 0} (x : Read A) where
   in-turn : {C : Type 0} (f : A → Cursor → Read C) (g : C → Cursor → Read B) → onRead (onRead x f) g ≡ onRead x (λ a q. onRead (f a q) g)
   in-turn f g = by-read x (λ a q e. rw e) (λ n p e. rw e)
 
+-- what is handed on does not show in a step
+pub handed-on : {A B : Type 0} (x : Read A) (b : B) → stepOf noKind x ≡ stepOf noKind (onRead x (λ a c. read b c))
+handed-on (read a c) b = refl
+handed-on (refused r p) b = refl
+
 -- a request is its head and its body
-request-parts : (d : List Relation) (s : List ℕ) → request d s start ≡ onRead (headOf s start) (λ u c. bodyOf d s c)
+request-parts : (d : List Relation) (s : List ℕ) → request d s start ≡ onRead (headOf s start) (λ v c. bodyOf v d s c)
 unfolding request headOf bodyOf endOf
 request-parts d s =
-    same-after (code blr.version4 BadVersion s start) (λ x q.
+    same-after (version s start) (λ v q.
     same-after (code blr.begin NotDue s q) (λ y q₁.
     same-after (countStatement (q .at) s q₁) (λ u c.
-    same-after (messages maxMessages [] s c) (λ ms c₁.
-    same-after (outerStatements d ms s c₁) (λ ss c₂.
-    sym (in-turn (code blr.eoc NotDue s c₂) (λ z c₃. nothingMore s c₃) (λ z c₃. read (record { messages = ms; statements = ss }) c₃))))))
-    ∙ sym (in-turn (code blr.begin NotDue s q) (λ y q₁. countStatement (q .at) s q₁) (λ u c. bodyOf d s c)))
-    ∙ sym (in-turn (code blr.version4 BadVersion s start)
-    (λ x q. onRead (code blr.begin NotDue s q) (λ y q₁. countStatement (q .at) s q₁)) (λ u c. bodyOf d s c))
+    same-after (messages v maxMessages [] s c) (λ ms c₁.
+    same-after (outerStatements v d ms s c₁) (λ ss c₂.
+    sym (in-turn (code blr.eoc NotDue s c₂) (λ z c₃. nothingMore s c₃)
+    (λ z c₃. read (record { version = v; messages = ms; statements = ss }) c₃)))))
+    ∙ sym (in-turn (countStatement (q .at) s q₁) (λ u c. read v c) (λ v c. bodyOf v d s c)))
+    ∙ sym (in-turn (code blr.begin NotDue s q) (λ y q₁. onRead (countStatement (q .at) s q₁) (λ u c. read v c)) (λ v c. bodyOf v d s c)))
+    ∙ sym (in-turn (version s start)
+    (λ v q. onRead (code blr.begin NotDue s q) (λ y q₁. onRead (countStatement (q .at) s q₁) (λ u c. read v c))) (λ v c. bodyOf v d s c))
 
 -- a request whose head is known
-pub from-head : (d : List Relation) (s : List ℕ) {x : Read (Unit {0})} → headOf s start ≡ x →
-    request d s start ≡ onRead x (λ u c. bodyOf d s c)
-from-head d s e = request-parts d s ∙ ap (λ x. onRead x (λ u c. bodyOf d s c)) e
+pub from-head : (d : List Relation) (s : List ℕ) {x : Read Version} → headOf s start ≡ x →
+    request d s start ≡ onRead x (λ v c. bodyOf v d s c)
+from-head d s e = request-parts d s ∙ ap (λ x. onRead x (λ v c. bodyOf v d s c)) e

@@ -7,6 +7,7 @@ use lib.Dec.{leb}
 use lib.ListN.{length, replicate}
 use lib.Seq.{sets}
 use Rattle.dictionary.specs.Dictionary.{Relation, Checked, proper, atFault, dictionary}
+use Rattle.wire.specs.declared.codes.Version.{Version}
 use Rattle.grammar.specs.declared.Cursor.{Cursor}
 use Rattle.grammar.specs.Tree.{Request}
 use Rattle.grammar.specs.Sizes.{parameterCount}
@@ -14,9 +15,9 @@ use Rattle.grammar.specs.Rows.{requestStatementRows, parameterRows, requestCont
 use Rattle.grammar.specs.Conditions.{requestConditions}
 use Rattle.wire.specs.Codes as blr
 use Rattle.wire.specs.Limits.{maxRequestBytes, maxMessages, parameterTableNumbers}
-use Rattle.grammar.specs.declared.Refusal.the-variants.{TablesTooShort, RequestTooLong, BadDictionary, BadVersion, NotDue}
+use Rattle.grammar.specs.declared.Refusal.the-variants.{TablesTooShort, RequestTooLong, BadDictionary, NotDue}
 use Rattle.grammar.specs.Reader.{Read, read, refused, Reader, _>>=_, _>>_, return, place, code, countStatement}
-use Rattle.grammar.specs.Reading.{answer, room, nothingMore, outerStatements}
+use Rattle.grammar.specs.Reading.{answer, room, nothingMore, version, outerStatements}
 use Rattle.grammar.specs.Messages.{messages}
 use Rattle.grammar.specs.Internal.Steps.{stepOf, noKind}
 use Rattle.grammar.specs.declared.Fit.{Fit}
@@ -73,12 +74,13 @@ outerRow t (Step.Refused r p) = t
 
 -- ---- the parts of a request, before its messages and after its statements
 
-unfoldable pub headOf : Reader (Unit {0})
+unfoldable pub headOf : Reader Version
 headOf = do
-  code blr.version4 BadVersion
+  v ← version
   p ← place
   code blr.begin NotDue
   countStatement p
+  return v
 
 unfoldable pub endOf : Reader (Unit {0})
 endOf = do
@@ -86,12 +88,12 @@ endOf = do
   nothingMore
 
 -- messages, statements and the end
-unfoldable pub bodyOf : List Relation → Reader Request
-bodyOf d = do
-  ms ← messages maxMessages []
-  ss ← outerStatements d ms
+unfoldable pub bodyOf : Version → List Relation → Reader Request
+bodyOf v d = do
+  ms ← messages v maxMessages []
+  ss ← outerStatements v d ms
   endOf
-  return (record { messages = ms; statements = ss })
+  return (record { version = v; messages = ms; statements = ss })
 
 -- ---- what is given
 

@@ -2,13 +2,15 @@
 ghost use mathlib.Core.Path.{_≡_};
 ghost use mathlib.Core.List.{[]};
 ghost use Rattle.grammar.specs.Reader.{countStatement as countStatementAt};
-ghost use Rattle.grammar.specs.Reading.{request as requestOf, start};
+ghost use Rattle.grammar.specs.Reading.{request as requestOf, version as versionOf, start};
 ghost use Rattle.grammar.specs.Internal.Steps.{stepOf, noKind};
 ghost use Rattle.openings.specs.Streams.{relations};
 ghost use Rattle.tables.specs.Tables.{tables};
 ghost use Rattle.reader.specs.Request.{Requested, Begun, Beside, onStep, outerRow, headOf, bodyOf, endOf};
 use crate::statements::Level;
 use crate::statements::read_statements;
+use classes::version_of;
+use grammar::ByteStep;
 use grammar::Cursor;
 use grammar::Fit;
 use grammar::Refusal;
@@ -18,11 +20,15 @@ use messages::declared::row_count;
 use messages::reading::read_messages;
 use scopes::scope::SCOPE;
 use steps::due_code;
+use steps::next_byte;
 use tables::statements::put_boolean;
 use tables::statements::put_statement;
 use wire::blr::BEGIN;
 use wire::blr::EOC;
 use wire::blr::VERSION4;
+use wire::blr::VERSION5;
+use wire::bytes::byte_at;
+use wire::codes::Version;
 use wire::limits::MAX_DEPTH;
 use wire::limits::MAX_STATEMENTS;
 
@@ -44,6 +50,24 @@ fn count_statement(at: usize, c: Cursor) -> Step
     Step::Refused(Refusal::TooGreat, at)
 }
 
+// The first byte: 4 or 5.
+fn version_byte(request: &[u8], c: Cursor) -> Step
+    ensures { λ r. ⌜ r ≡ stepOf noKind (versionOf (now (request .entry)) c) ⌝ }
+{
+    match next_byte(request, c) {
+        ByteStep::Is(b, after) => {
+            if b == VERSION4 {
+                return Step::Next(Fit::NoKind, after);
+            }
+            if b == VERSION5 {
+                return Step::Next(Fit::NoKind, after);
+            }
+            Step::Refused(Refusal::BadVersion, c.at)
+        }
+        ByteStep::Refused(r, p) => Step::Refused(r, p),
+    }
+}
+
 // The version and the outer begin.
 fn head(request: &[u8]) -> Step
     ensures { λ r. ⌜ r ≡ stepOf noKind (headOf (now (request .entry)) start) ⌝ }
@@ -54,7 +78,7 @@ fn head(request: &[u8]) -> Step
         contexts: 0,
         conditions: 0,
     };
-    match due_code(request, first, VERSION4, Refusal::BadVersion) {
+    match version_byte(request, first) {
         Step::Next(_, c) => match due_code(request, c, BEGIN, Refusal::NotDue) {
             Step::Next(_, d) => count_statement(c.at, d),
             Step::Refused(r, p) => Step::Refused(r, p),
@@ -89,7 +113,7 @@ fn outer_row(statements: &mut [u32], body: Step)
     }
 }
 
-// Messages, statements and the end, after the head.
+// Messages, statements and the end, after the head of a request of a version.
 fn body(
     request: &[u8],
     dictionary: &[u8],
@@ -98,15 +122,16 @@ fn body(
     contexts: &mut [u32],
     conditions: &mut [u32],
     c: Cursor,
+    v: Version,
 ) -> Whole
     requires { ⌜ Begun (now request) (now dictionary) (now parameters) c ⌝ }
-    ensures { λ r. ⌜ Requested (bodyOf (relations (now (dictionary .entry))) (now (request .entry)) c)
+    ensures { λ r. ⌜ Requested (bodyOf v (relations (now (dictionary .entry))) (now (request .entry)) c)
         (now (dictionary .entry)) (now (parameters .entry)) (now (parameters .exit))
         (tables (now (statements .entry)) (now (contexts .entry)) (now (conditions .entry)))
         (tables (now (statements .exit)) (now (contexts .exit)) (now (conditions .exit))) r ⌝ }
 {
     let mut around = [0u32; AROUND];
-    let declared = read_messages(request, parameters, &mut around, c);
+    let declared = read_messages(request, parameters, &mut around, c, v);
     let Step::Next(_, first) = declared else {
         return Whole {
             step: declared,
@@ -161,6 +186,7 @@ pub(crate) fn read_whole(
             contexts,
             conditions,
             c,
+            version_of(byte_at(request, 0)),
         ),
         Step::Refused(r, p) => Whole {
             step: Step::Refused(r, p),

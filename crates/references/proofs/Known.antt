@@ -1,13 +1,16 @@
 -- What a name or a number stands for, and the step where it stands for something. Assumes nothing.
 use Prim.Native.Nat.{ℕ, _+_}
 use mathlib.Core.Path.{_≡_, refl, sym, ap, _∙_}
-use mathlib.Core.Bool.{Bool, true, false}
+use mathlib.Core.Bool.{Bool, true, false, cond}
 use mathlib.Core.List.{List}
-use mathlib.Core.Option.{Option, none, some, Option·map}
+use mathlib.Core.Option.{Option, none, some}
 use lib.Dec.{leb}
 use lib.ListN.{length, take, drop, getElem?}
 use Rattle.wire.specs.Lists.{find, isSome, _andThen_}
 use Rattle.wire.specs.Words.{byteAt}
+use Rattle.wire.specs.Versions.{fieldDue}
+use Rattle.wire.specs.declared.codes.Version.{Version}
+use Rattle.dictionary.specs.Format.{Format}
 use Rattle.dictionary.specs.Dictionary.{Relation, nameAt}
 use Rattle.dictionary.specs.Naming.{Name, named, numbered, fieldOf, formatOf}
 use Rattle.dictionary.specs.Internal.Walk.{relationAt, fieldsOf, hasName}
@@ -16,18 +19,18 @@ use Rattle.dictionary.proofs.FieldFormats.{entryFormat, named-format, numbered-
 use Rattle.grammar.specs.Kind.{Kind}
 use Rattle.grammar.specs.Kind as Kind
 use Rattle.grammar.specs.declared.Refusal.{Refusal}
-use Rattle.grammar.specs.declared.Refusal.the-variants.{EndsEarly, Unknown}
+use Rattle.grammar.specs.declared.Refusal.the-variants.{EndsEarly, Unknown, Unfit}
 use Rattle.grammar.specs.declared.Cursor.{Cursor}
 use Rattle.grammar.specs.declared.Fit.{Fit}
 use Rattle.grammar.specs.declared.Step.{Step}
 use Rattle.grammar.specs.declared.Step.the-variants as Step
-use Rattle.grammar.specs.Kinds.{formatKind}
+use Rattle.grammar.specs.Kinds.{formatKind, fieldKind}
 use Rattle.grammar.specs.Reader.{read, refused, Reader, onRead, on, need, bytes, name, tested}
 use Rattle.grammar.specs.Values.{byName}
 use Rattle.grammar.specs.Internal.Steps.{fitOf, stepOf, noKind}
 use Rattle.grammar.proofs.StepLaws.{absurd-eq, taken-whole, taken-cut}
 use Rattle.references.proofs.Literals.{whole}
-use Rattle.references.specs.Promises.{nameKind, entryFit, knownStep, fieldIn}
+use Rattle.references.specs.Promises.{nameKind, dueStep, entryStep, knownStep, fieldIn}
 
 -- ---- a field whose test is that it has a kind
 
@@ -48,35 +51,47 @@ module _ {A : Type 0} (field : Reader A) (test : A → Bool) (f : A → Fit) (x 
   unfolding tested
   tested-refused h = rw (tested, h)
 
-pub some-map : {A B : Type 0} (f : A → B) (o : Option A) → isSome o ≡ isSome (Option·map f o)
-some-map f none = refl
-some-map f (some a) = refl
-
 -- ---- fields of a relation
 
-module _ (r : Relation) (n : Name) where
-  field-test : isSome (fieldOf r n andThen formatOf r) ≡ isSome (nameKind r n)
-  unfolding nameKind
-  field-test = some-map formatKind (fieldOf r n andThen formatOf r)
+-- the step of a format, if there is one, for the name at k and the code at p
+abbrev pub nameStep : Version → Option Format → ℕ → ℕ → Cursor → Step
+nameStep v none k p c = Step.Refused Unknown k
+nameStep v (some f) k p c = dueStep v f p c
 
-module _ (d : List ℕ) where
-  entry-kind : (o : Option ℕ) → entryFit d (placeAnswer o) ≡ fitOf (Option·map formatKind (entryFormat d o))
-  entry-kind none = refl
-  entry-kind (some q) = refl
+module _ {A : Type 0} (v : Version) (f : A → Fit) (s : List ℕ) (p : ℕ) (q : Cursor) where
+  due-by : (x : Format) (a : A) (o : Option Kind) → o ≡ fieldKind v x → f a ≡ fitOf o →
+      stepOf f (onRead (need (isSome o) Unfit p s q) (λ u c. read a c)) ≡ dueStep v x p q
+  unfolding fieldKind
+  due-by x a o i e = by (fieldDue v (x .type)) o i e
+    where
+      by : (b : Bool) (o : Option Kind) → o ≡ cond b (some (formatKind x)) none → f a ≡ fitOf o →
+          stepOf f (onRead (need (isSome o) Unfit p s q) (λ u c. read a c)) ≡
+          cond b (Step.Next (fitOf (some (formatKind x))) q) (Step.Refused Unfit p)
+      by true o i e = rw i (ap (λ k. Step.Next k q) (rw i at e))
+      by false o i e = rw i
 
-  -- the kind of the entry that was found is the kind of the field
-  entry-fit : (r : Relation) (n : Name) (o : Option ℕ) → fieldOf r n andThen formatOf r ≡ entryFormat d o →
-      entryFit d (placeAnswer o) ≡ fitOf (nameKind r n)
-  unfolding nameKind
-  entry-fit r n o e = entry-kind o ∙ ap (λ x. fitOf (Option·map formatKind x)) (sym e)
+  -- a name or an id that was read: the format that it has, then whether the version may name it
+  pub name-steps : (o : Option Format) (g : Name → A) (kind : Name → Option Kind) (m : Name) (k : ℕ) → kind m ≡ (o andThen fieldKind v) →
+      f (g m) ≡ fitOf (kind m) →
+      stepOf f (onRead (onRead (need (isSome o) Unknown k s q) (λ u c. read m c))
+      (λ n c. onRead (need (isSome (kind n)) Unfit p s c) (λ u c. read (g n) c))) ≡ nameStep v o k p q
+  name-steps none g kind m k i e = refl
+  name-steps (some x) g kind m k i e = due-by x (g m) (kind m) i e
+
+module _ (v : Version) (d : List ℕ) (k p : ℕ) (c : Cursor) where
+  entry-step : (o : Option ℕ) → entryStep v d (placeAnswer o) k p c ≡ nameStep v (entryFormat d o) k p c
+  entry-step none = refl
+  entry-step (some q) = refl
 
   module _ (r : ℕ) where
-    pub named-fit : (n : List ℕ) →
-        entryFit d (placeAnswer (find (hasName d n) (fieldsOf d r))) ≡ fitOf (nameKind (relationAt d r) (named n))
-    named-fit n = entry-fit (relationAt d r) (named n) (find (hasName d n) (fieldsOf d r)) (named-format d n r)
+    pub named-step : (n : List ℕ) → entryStep v d (placeAnswer (find (hasName d n) (fieldsOf d r))) k p c ≡
+        nameStep v (fieldOf (relationAt d r) (named n) andThen formatOf (relationAt d r)) k p c
+    named-step n =
+        entry-step (find (hasName d n) (fieldsOf d r)) ∙ ap (λ x. nameStep v x k p c) (sym (named-format d n r))
 
-    pub numbered-fit : (i : ℕ) → entryFit d (placeAnswer (getElem? (fieldsOf d r) i)) ≡ fitOf (nameKind (relationAt d r) (numbered i))
-    numbered-fit i = entry-fit (relationAt d r) (numbered i) (getElem? (fieldsOf d r) i) (numbered-format d r i)
+    pub numbered-step : (i : ℕ) → entryStep v d (placeAnswer (getElem? (fieldsOf d r) i)) k p c ≡
+        nameStep v (fieldOf (relationAt d r) (numbered i) andThen formatOf (relationAt d r)) k p c
+    numbered-step i = entry-step (getElem? (fieldsOf d r) i) ∙ ap (λ x. nameStep v x k p c) (sym (numbered-format d r i))
 
 module _ (s : List ℕ) (c : Cursor) where
   name-by : (b : Bool) → leb (c .at + 1) (length s) ≡ b → {k : Fit} {q : Cursor} → Step.Next k q ≡ stepOf noKind (name s c) →
@@ -95,15 +110,15 @@ module _ (s : List ℕ) (c : Cursor) where
   pub name-read : {k : Fit} {q : Cursor} → Step.Next k q ≡ stepOf noKind (name s c) → byName s c ≡ read (named (nameAt s (c .at))) q
   name-read e = rw (name-by (leb (c .at + 1) (length s)) refl e)
 
-module _ (r : Relation) (s : List ℕ) (c : Cursor) where
+module _ (v : Version) (r : Relation) (p : ℕ) (s : List ℕ) (c : Cursor) where
   pub field-known : (naming : Reader Name) {n : Name} {q : Cursor} → naming s c ≡ read n q →
-      fieldIn r naming s c ≡ knownStep Unknown (fitOf (nameKind r n)) (c .at) q
-  unfolding fieldIn
-  field-known naming {n} h =
-      tested-known naming (λ n. isSome (fieldOf r n andThen formatOf r)) (λ n. fitOf (nameKind r n)) Unknown s c
-      (nameKind r n) h (field-test r n) refl
+      fieldIn v r naming p s c ≡ nameStep v (fieldOf r n andThen formatOf r) (c .at) p q
+  unfolding fieldIn tested nameKind
+  field-known naming {n} {q} h =
+      rw (fieldIn, tested, h)
+      (name-steps v (λ n. fitOf (nameKind v r n)) s p q (fieldOf r n andThen formatOf r) (λ n. n) (nameKind v r) n (c .at) refl refl)
 
-  pub field-refused : (naming : Reader Name) {x : Refusal} {p : ℕ} → naming s c ≡ refused x p → fieldIn r naming s c ≡ Step.Refused x p
-  unfolding fieldIn
-  field-refused naming h =
-      tested-refused naming (λ n. isSome (fieldOf r n andThen formatOf r)) (λ n. fitOf (nameKind r n)) Unknown s c h
+  pub field-refused : (naming : Reader Name) {x : Refusal} {q : ℕ} → naming s c ≡ refused x q →
+      fieldIn v r naming p s c ≡ Step.Refused x q
+  unfolding fieldIn tested
+  field-refused naming h = rw (fieldIn, tested, h)

@@ -5,9 +5,9 @@ use mathlib.Core.Bool.{Bool, true, false}
 use mathlib.Core.List.{List}
 use lib.Dec.{leb}
 use lib.ListN.{length, take, drop}
-use Rattle.wire.specs.Words.{signed, wordAt, longAt}
+use Rattle.wire.specs.Words.{signed, wordAt, longAt, int64At}
 use Rattle.wire.specs.declared.codes.Width.{Width}
-use Rattle.wire.specs.declared.codes.Width.the-variants.{Short, Long}
+use Rattle.wire.specs.declared.codes.Width.the-variants.{Short, Long, Int64}
 use Rattle.wire.specs.declared.codes.LiteralType.the-variants.{NumberLiteral, TextLiteral}
 use Rattle.dictionary.specs.Format.{widthBytes}
 use Rattle.grammar.specs.declared.Refusal.{Refusal}
@@ -63,6 +63,7 @@ module _ (w : Width) (s : List ℕ) (c : Cursor) where
           (n : ℕ) × (numberOf v s c ≡ read n q)
       by Short e = (wordAt s (c .at), whole 2 wordAt (λ s p. take 2 (drop p s)) s c e)
       by Long e = (longAt s (c .at), whole 4 longAt (λ s p. take 4 (drop p s)) s c e)
+      by Int64 e = (int64At s (c .at), whole 8 int64At (λ s p. take 8 (drop p s)) s c e)
 
   pub number-refused : {r : Refusal} {p : ℕ} → Step.Refused r p ≡ stepOf noKind (bytes (widthBytes w) s c) → numberOf w s c ≡ refused r p
   number-refused = by w
@@ -70,16 +71,17 @@ module _ (w : Width) (s : List ℕ) (c : Cursor) where
       by : (v : Width) {r : Refusal} {p : ℕ} → Step.Refused r p ≡ stepOf noKind (bytes (widthBytes v) s c) → numberOf v s c ≡ refused r p
       by Short e = cut 2 wordAt (λ s p. take 2 (drop p s)) s c e
       by Long e = cut 4 longAt (λ s p. take 4 (drop p s)) s c e
+      by Int64 e = cut 8 int64At (λ s p. take 8 (drop p s)) s c e
 
 -- ---- literals
 
 module _ (w : Width) (s : List ℕ) (c : Cursor) where
-  pub number-scale-refused : {r : Refusal} {p : ℕ} → scaleByte s c ≡ refused r p →
+  pub number-scale-refused : {r : Refusal} {p : ℕ} → scaleByte w s c ≡ refused r p →
       stepOf literalFit (literalUnder (NumberLiteral w) s c) ≡ Step.Refused r p
   unfolding literalUnder
   number-scale-refused h = rw (literalUnder, h)
 
-  module _ {scale : ℕ} {first : Cursor} (h : scaleByte s c ≡ read scale first) where
+  module _ {scale : ℕ} {first : Cursor} (h : scaleByte w s c ≡ read scale first) where
     pub number-is : {k : Fit} {q : Cursor} → Step.Next k q ≡ stepOf noKind (bytes (widthBytes w) s first) →
         stepOf literalFit (literalUnder (NumberLiteral w) s c) ≡ Step.Next (Fit.Number (signed 1 scale)) q
     unfolding literalUnder literalKind

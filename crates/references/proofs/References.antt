@@ -3,12 +3,12 @@ use Prim.Native.Nat.{ℕ}
 use mathlib.Core.Path.{_≡_, refl, sym, ap, _∙_}
 use mathlib.Core.Bool.{Bool, true, false}
 use mathlib.Core.List.{List}
-use mathlib.Core.Option.{Option, none, some, Option·map}
+use mathlib.Core.Option.{Option, none, some}
 use lib.ListN.{length}
 use Rattle.wire.specs.Words.{byteAt}
-use Rattle.wire.specs.Lists.{isSome}
+use Rattle.wire.specs.Lists.{isSome, _andThen_}
 use Rattle.dictionary.specs.Dictionary.{Relation}
-use Rattle.dictionary.specs.Naming.{Name}
+use Rattle.dictionary.specs.Naming.{Name, fieldOf, formatOf}
 use Rattle.grammar.specs.Kind.{Kind}
 use Rattle.grammar.specs.Kind as Kind
 use Rattle.grammar.specs.declared.Refusal.{Refusal}
@@ -22,7 +22,7 @@ use Rattle.grammar.specs.declared.Role.the-variants.{AsValue, AsTarget}
 use Rattle.grammar.specs.Tree.{Reference, field, parameter, parameter2}
 use Rattle.grammar.specs.Environment.{Environment, Scope, relationOfContext, fieldFormat}
 use Rattle.grammar.specs.Scope.{inScope, declared}
-use Rattle.grammar.specs.Kinds.{formatKind, flagged, referenceKind}
+use Rattle.grammar.specs.Kinds.{fieldKind, flagged, referenceKind}
 use Rattle.grammar.specs.Reader.{Read, read, refused, Reader, _>>=_, _>>_, return, onRead, need, byte, word, tested}
 use Rattle.grammar.specs.Values.{contextByte, messageByte, parameterWord, byName, byNumber}
 use Rattle.grammar.specs.Values.{fieldName, fieldAllowed, parameterAllowed, readField, readReference}
@@ -33,9 +33,9 @@ use Rattle.messages.specs.declared.declared.FoundMessage.the-variants.{At}
 use Rattle.messages.specs.Entries.{declaredIn, foundOf, messageAt, messagesIn, parameterKind}
 use Rattle.messages.proofs.Descriptors.{taken-ended}
 use Rattle.messages.proofs.Found.{parameter-format, parameter-known as parameter-some}
-use Rattle.references.specs.Promises.{referenceFit, placeOf, fieldAllows, parameterAllows, nameKind, knownStep}
+use Rattle.references.specs.Promises.{referenceFit, placeOf, fieldAllows, parameterAllows, knownStep}
 use Rattle.references.specs.Promises.{fieldIn, fieldCode, parameterIn, flagStep, flagIn, parameterCode, referenceStep}
-use Rattle.references.proofs.Known.{tested-known, tested-refused, some-map, field-known, field-refused}
+use Rattle.references.proofs.Known.{tested-known, tested-refused, name-steps, field-known, field-refused}
 
 -- ---- what a target asks
 
@@ -67,40 +67,43 @@ abbrev pub namingOf : Bool → Reader Name
 namingOf true = byName
 namingOf false = byNumber
 
-last-step : {A B : Type 0} (f : B → Fit) (g : A → B) (x : Read A) → stepOf f (onRead x (λ a q. read (g a) q)) ≡ stepOf (λ a. f (g a)) x
-last-step f g (read a q) = refl
-last-step f g (refused r p) = refl
-
 module _ (e : Environment) (sc : Scope) (n : ℕ) (r : Relation) (h : relationOfContext sc n ≡ some r) (naming : Reader Name)
-    (s : List ℕ) where
-  format-kind : (m : Name) → Option·map formatKind (fieldFormat sc n m) ≡ nameKind r m
-  unfolding fieldFormat nameKind
-  format-kind m = rw (fieldFormat, nameKind, h)
+    (p : ℕ) (s : List ℕ) (c : Cursor) where
+  format-is : (m : Name) → fieldFormat sc n m ≡ (fieldOf r m andThen formatOf r)
+  unfolding fieldFormat
+  format-is m = rw (fieldFormat, h)
 
-  module _ (c : Cursor) where
-    name-by : (x : Read Name) → naming s c ≡ x →
-        stepOf (λ m. referenceFit e sc (field n m)) (fieldName sc n naming s c) ≡ fieldIn r naming s c
-    unfolding fieldName referenceKind
-    name-by (read m q) k =
-        tested-known naming (λ m. isSome (fieldFormat sc n m)) (λ m. referenceFit e sc (field n m)) Unknown s c (nameKind r m) k
-        (some-map formatKind (fieldFormat sc n m) ∙ ap isSome (format-kind m)) (ap fitOf (format-kind m)) ∙
-        sym (field-known r s c naming k)
-    name-by (refused x p) k =
-        tested-refused naming (λ m. isSome (fieldFormat sc n m)) (λ m. referenceFit e sc (field n m)) Unknown s c k ∙
-        sym (field-refused r s c naming k)
+  kind-is : (m : Name) → referenceKind e sc (field n m) ≡ ((fieldOf r m andThen formatOf r) andThen fieldKind (e .version))
+  unfolding referenceKind
+  kind-is m = ap (λ x. x andThen fieldKind (e .version)) (format-is m)
 
-    named-field : stepOf (referenceFit e sc) (onRead (fieldName sc n naming s c) (λ m q. read (field n m) q)) ≡ fieldIn r naming s c
-    named-field = last-step (referenceFit e sc) (field n) (fieldName sc n naming s c) ∙ name-by (naming s c) refl
+  -- what stands after the context of a field
+  abbrev named : Read Name → Read Reference
+  named x =
+      onRead x (λ m q. onRead (need (isSome (referenceKind e sc (field n m))) Unfit p s q) (λ u q. read (field n m) q))
+
+  named-by : (x : Read Name) → naming s c ≡ x →
+      stepOf (referenceFit e sc) (named (fieldName sc n naming s c)) ≡ fieldIn (e .version) r naming p s c
+  unfolding fieldName tested
+  named-by (read m q) k =
+      rw (fieldName, tested, k, format-is m)
+      (name-steps (e .version) (referenceFit e sc) s p q (fieldOf r m andThen formatOf r) (field n) (λ m. referenceKind e sc (field n m)) m
+      (c .at) (kind-is m) refl)
+      ∙ sym (field-known (e .version) r p s c naming k)
+  named-by (refused x q) k = rw (fieldName, tested, k) (sym (field-refused (e .version) r p s c naming k))
+
+  named-field : stepOf (referenceFit e sc) (named (fieldName sc n naming s c)) ≡ fieldIn (e .version) r naming p s c
+  named-field = named-by (naming s c) refl
 
 module _ (e : Environment) (sc : Scope) (role : Role) (p : ℕ) where
   field-by : (b : Bool) (s : List ℕ) (c : Cursor) →
-      referenceStep e sc role p (fieldCode b) s c ≡ stepOf (referenceFit e sc) (readField sc role (namingOf b) s c)
+      referenceStep e sc role p (fieldCode b) s c ≡ stepOf (referenceFit e sc) (readField e sc role p (namingOf b) s c)
   unfolding referenceStep readReference
   field-by true s c = refl
   field-by false s c = refl
 
 module _ (e : Environment) (sc : Scope) (role : Role) (p : ℕ) (b : Bool) (s : List ℕ) (c : Cursor) where
-  field-step : referenceStep e sc role p (fieldCode b) s c ≡ stepOf (referenceFit e sc) (readField sc role (namingOf b) s c)
+  field-step : referenceStep e sc role p (fieldCode b) s c ≡ stepOf (referenceFit e sc) (readField e sc role p (namingOf b) s c)
   field-step = field-by e sc role p b s c
 
   pub field-ended : {x : Refusal} {q : ℕ} → byte s c ≡ refused x q →
@@ -120,11 +123,11 @@ module _ (e : Environment) (sc : Scope) (role : Role) (p : ℕ) (b : Bool) (s : 
       field-misplaced a = field-step ∙ rw (readField, contextByte, tested, h, k, field-not-allowed sc n s first role a)
 
       pub field-placed : fieldAllows role sc n ≡ true → {r : Relation} → relationOfContext sc n ≡ some r →
-          referenceStep e sc role p (fieldCode b) s c ≡ fieldIn r (namingOf b) s first
+          referenceStep e sc role p (fieldCode b) s c ≡ fieldIn (e .version) r (namingOf b) p s first
       unfolding readField contextByte tested
       field-placed a {r} i =
           field-step ∙
-          rw (readField, contextByte, tested, h, k, field-allowed sc n s first role a) (named-field e sc n r i (namingOf b) s first)
+          rw (readField, contextByte, tested, h, k, field-allowed sc n s first role a) (named-field e sc n r i (namingOf b) p s first)
 
 -- ---- parameters
 

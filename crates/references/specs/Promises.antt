@@ -1,11 +1,14 @@
 -- What the readers of literals and references promise, in the definitions' terms.
 use Prim.Native.Nat.{ℕ}
-use mathlib.Core.Bool.{Bool, true, false}
+use mathlib.Core.Bool.{Bool, true, false, cond}
 use mathlib.Core.List.{List}
 use mathlib.Core.Option.{Option, none, some, Option·map}
 use Rattle.wire.specs.Lists.{isSome, _andThen_}
 use Rattle.wire.specs.declared.codes.ReferenceCode.{ReferenceCode}
 use Rattle.wire.specs.declared.codes.ReferenceCode.the-variants as Code
+use Rattle.wire.specs.Versions.{fieldDue}
+use Rattle.wire.specs.declared.codes.Version.{Version}
+use Rattle.dictionary.specs.Format.{Format}
 use Rattle.dictionary.specs.Dictionary.{Relation, dictionary}
 use Rattle.dictionary.specs.Internal.Walk.{entryField}
 use Rattle.dictionary.specs.declared.lookup.Place.{Place}
@@ -24,16 +27,16 @@ use Rattle.grammar.specs.declared.Role.the-variants.{AsValue, AsTarget}
 use Rattle.grammar.specs.Tree.{Literal, Reference}
 use Rattle.grammar.specs.Environment.{Environment, Scope}
 use Rattle.grammar.specs.Scope.{fieldTarget, parameterTarget}
-use Rattle.grammar.specs.Kinds.{formatKind, literalKind, referenceKind}
-use Rattle.grammar.specs.Reader.{Read, Reader, word, tested}
+use Rattle.grammar.specs.Kinds.{formatKind, fieldKind, literalKind, referenceKind}
+use Rattle.grammar.specs.Reader.{Read, Reader, _>>=_, _>>_, return, need, word, tested}
 use Rattle.grammar.specs.Reading.{relationsOf}
 use Rattle.grammar.specs.Values.{readReference}
 use Rattle.grammar.specs.Internal.Steps.{fitOf, stepOf}
-use Rattle.messages.specs.Entries.{messagesIn, messageAt, parameterKind}
+use Rattle.messages.specs.Entries.{messagesIn, versionIn, messageAt, parameterKind}
 
--- what stands around the statements: the relations of the dictionary, and the messages that their array stands for
+-- what stands around the statements: the relations of the dictionary, and the version and the messages that their array stands for
 unfoldable pub environmentOf : List ℕ → List ℕ → Environment
-environmentOf d around = record { relations = relationsOf (dictionary d); messages = messagesIn around }
+environmentOf d around = record { version = versionIn around; relations = relationsOf (dictionary d); messages = messagesIn around }
 
 -- ---- the kinds of what was read
 
@@ -59,13 +62,18 @@ parameterAllows (AsTarget p) sc m = parameterTarget sc m
 
 -- ---- fields of a relation
 
-unfoldable pub nameKind : Relation → Name → Option Kind
-nameKind r n = Option·map formatKind (fieldOf r n andThen formatOf r)
+-- the kind of a field, where a request of a version may name it
+unfoldable pub nameKind : Version → Relation → Name → Option Kind
+nameKind v r n = (fieldOf r n andThen formatOf r) andThen fieldKind v
 
--- the kind of the field whose entry was looked up
-abbrev pub entryFit : List ℕ → Place → Fit
-entryFit d (Place.At q) = fitOf (some (formatKind (entryField d q .format)))
-entryFit d Place.Unknown = Fit.NoKind
+-- the kind of a field, or 13 at the place of its code where a request of the version may not name it
+abbrev pub dueStep : Version → Format → ℕ → Cursor → Step
+dueStep v f p c = cond (fieldDue v (f .type)) (Step.Next (fitOf (some (formatKind f))) c) (Step.Refused Unfit p)
+
+-- the field whose entry was looked up for the name at q, and whose code stands at p
+abbrev pub entryStep : Version → List ℕ → Place → ℕ → ℕ → Cursor → Step
+entryStep v d (Place.At x) q p c = dueStep v (entryField d x .format) p c
+entryStep v d Place.Unknown q p c = Step.Refused Unknown q
 
 -- a kind that was looked up for what stands at a place
 abbrev pub knownStep : Refusal → Fit → ℕ → Cursor → Step
@@ -74,9 +82,15 @@ knownStep x Fit.Text p c = Step.Next Fit.Text c
 knownStep x Fit.Date p c = Step.Next Fit.Date c
 knownStep x Fit.NoKind p c = Step.Refused x p
 
--- the name or the id of a field of a relation
-unfoldable pub fieldIn : Relation → Reader Name → List ℕ → Cursor → Step
-fieldIn r naming s c = stepOf (λ n. fitOf (nameKind r n)) (tested naming (λ n. isSome (fieldOf r n andThen formatOf r)) Unknown s c)
+-- the name or the id of a field of a relation, whose code stands at p of a request of a version
+abbrev pub namedIn : Version → Relation → Reader Name → ℕ → Reader Name
+namedIn v r naming p = do
+  n ← tested naming (λ n. isSome (fieldOf r n andThen formatOf r)) Unknown
+  need (isSome (nameKind v r n)) Unfit p
+  return n
+
+unfoldable pub fieldIn : Version → Relation → Reader Name → ℕ → List ℕ → Cursor → Step
+fieldIn v r naming p s c = stepOf (λ n. fitOf (nameKind v r n)) (namedIn v r naming p s c)
 
 abbrev pub fieldCode : Bool → ReferenceCode
 fieldCode true = Code.Field

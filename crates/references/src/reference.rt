@@ -14,6 +14,7 @@ use grammar::Refusal;
 use grammar::Role;
 use grammar::Step;
 use messages::declared::AROUND;
+use messages::declared::version;
 use scopes::scope::SCOPE;
 use steps::next_byte;
 use wire::codes::ReferenceCode;
@@ -33,8 +34,14 @@ pub fn read_reference(
         (scopeOf (now (dictionary .entry)) (now (scope .entry))) role at code (now (request .entry)) c ⌝ }
 {
     match code {
-        ReferenceCode::Field => read_field(request, dictionary, scope, role, true, c),
-        ReferenceCode::Fid => read_field(request, dictionary, scope, role, false, c),
+        ReferenceCode::Field => {
+            let v = version(around);
+            read_field(request, dictionary, scope, role, true, v, at, c)
+        }
+        ReferenceCode::Fid => {
+            let v = version(around);
+            read_field(request, dictionary, scope, role, false, v, at, c)
+        }
         ReferenceCode::Parameter => { read_parameter(request, around, scope, role, false, at, c) }
         ReferenceCode::Parameter2 => { read_parameter(request, around, scope, role, true, at, c) }
     }

@@ -13,6 +13,7 @@ use wire::bytes::signed_byte;
 use wire::codes::DataType;
 use wire::codes::FieldType;
 use wire::codes::Operator;
+use wire::codes::Version;
 use wire::limits::MIN_ARITHMETIC_SCALE;
 
 // The kind of a stored type with its scale byte.
@@ -56,8 +57,8 @@ fn smaller(a: i32, b: i32) -> i32
 }
 
 // The kind of an operator's result on two scales.
-fn scaled(o: Operator, a: i8, b: i8) -> Fit
-    ensures { λ r. ⌜ r ≡ fitOf (arithmeticRange (resultScale o a b)) ⌝ }
+fn scaled(v: Version, o: Operator, a: i8, b: i8) -> Fit
+    ensures { λ r. ⌜ r ≡ fitOf (arithmeticRange (resultScale v o a b)) ⌝ }
 {
     let first = a as i32;
     let second = b as i32;
@@ -65,17 +66,20 @@ fn scaled(o: Operator, a: i8, b: i8) -> Fit
         Operator::Add => within(smaller(first, second)),
         Operator::Subtract => within(smaller(first, second)),
         Operator::Multiply => within(first + second),
-        Operator::Divide => within(first - second),
+        Operator::Divide => match v {
+            Version::Version4 => within(first - second),
+            Version::Version5 => within(first + second),
+        },
     }
 }
 
 // The kind of a sum, a difference, a product or a quotient.
-pub fn arithmetic_fit(o: Operator, a: Fit, b: Fit) -> Fit
-    ensures { λ r. ⌜ r ≡ fitOf (arithmeticKind o (kindIn a) (kindIn b)) ⌝ }
+pub fn arithmetic_fit(v: Version, o: Operator, a: Fit, b: Fit) -> Fit
+    ensures { λ r. ⌜ r ≡ fitOf (arithmeticKind v o (kindIn a) (kindIn b)) ⌝ }
 {
     match a {
         Fit::Number(x) => match b {
-            Fit::Number(y) => scaled(o, x, y),
+            Fit::Number(y) => scaled(v, o, x, y),
             Fit::Text => Fit::NoKind,
             Fit::Date => Fit::NoKind,
             Fit::NoKind => Fit::NoKind,

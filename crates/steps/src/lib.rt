@@ -22,6 +22,7 @@ use grammar::Step;
 use grammar::WordStep;
 use wire::bytes::byte_at;
 use wire::bytes::word_at;
+use wire::codes::Width;
 use wire::limits::MAX_STREAMS;
 use wire::numbers::ContextNumber;
 use wire::numbers::LabelNumber;
@@ -153,13 +154,13 @@ pub fn due_code(s: &[u8], c: Cursor, k: u8, r: Refusal) -> Step
     }
 }
 
-// A scale byte.
-pub fn scale_byte(s: &[u8], c: Cursor) -> ByteStep
-    ensures { λ r. ⌜ r ≡ byteStep (scaleByte (now (s .entry)) c) ⌝ }
+// The scale byte of a number of a width.
+pub fn scale_byte(s: &[u8], w: Width, c: Cursor) -> ByteStep
+    ensures { λ r. ⌜ r ≡ byteStep (scaleByte w (now (s .entry)) c) ⌝ }
 {
     match next_byte(s, c) {
         ByteStep::Is(scale, first) => {
-            if scale_in_range(scale) {
+            if scale_in_range(w, scale) {
                 ByteStep::Is(scale, first)
             } else {
                 ByteStep::Refused(Refusal::OutOfRange, c.at)

@@ -11,7 +11,7 @@ use borrow.Author.Tests.{eqb-true, ltb-true, leb-true}
 use Rattle.wire.specs.Words.{byteAt, wordAt}
 use Rattle.wire.specs.Lists.{anyOf, find, sumOf, sameBytes}
 use Rattle.wire.specs.Classes.{Class, due, leftOut, foreign, fieldClass}
-use Rattle.wire.specs.declared.codes.Width.the-variants.{Short, Long}
+use Rattle.wire.specs.declared.codes.Width.the-variants.{Short, Long, Int64}
 use Rattle.wire.specs.declared.codes.TextType.the-variants.{Text, Varying, Cstring}
 use Rattle.wire.specs.declared.codes.DataType.the-variants.{Number, Date, Chars}
 use Rattle.wire.specs.declared.codes.FieldType.{FieldType}
@@ -42,6 +42,7 @@ size-there n e = leb-true 1 n (both-left (leb 1 n) _ e)
 type-held : (t : FieldType) (scale n : ℕ) → fitting t scale n ≡ true → 1 ≤ typeBytes t n
 type-held (Plain (Number Short)) scale n e = omega arith
 type-held (Plain (Number Long)) scale n e = omega arith
+type-held (Plain (Number Int64)) scale n e = omega arith
 type-held (Plain Date) scale n e = omega arith
 type-held (Plain (Chars Text)) scale n e = size-there n (both-right (eqb scale 0) (sizeInRange n) e)
 type-held (Plain (Chars Varying)) scale n e = omega arith

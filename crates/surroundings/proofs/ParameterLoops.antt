@@ -62,6 +62,7 @@ far-foreign code h =
     rw (
       ne-eqb code 7 (λ z. omega (arith, z)),
       ne-eqb code 8 (λ z. omega (arith, z)),
+      ne-eqb code 16 (λ z. omega (arith, z)),
       ne-eqb code 35 (λ z. omega (arith, z)),
       ne-eqb code 14 (λ z. omega (arith, z)),
       ne-eqb code 37 (λ z. omega (arith, z)),

@@ -11,7 +11,7 @@ use borrow.Author.Tests.{eq-eqb, ne-eqb, eqb-true, eqb-false}
 use Rattle.wire.specs.Words.{byteAt}
 use Rattle.wire.specs.Lists.{anyOf, among, indexOf, sumOf, _andThen_}
 use Rattle.wire.specs.Classes.{classify, descriptorClass}
-use Rattle.wire.specs.declared.codes.Width.the-variants.{Short, Long}
+use Rattle.wire.specs.declared.codes.Width.the-variants.{Short, Long, Int64}
 use Rattle.wire.specs.declared.codes.TextType.the-variants.{Text, Varying, Cstring}
 use Rattle.dictionary.specs.Format.{Format, held}
 use Rattle.grammar.specs.Tree.{Descriptor, Message}
@@ -35,6 +35,7 @@ row-format : (d : Descriptor) → formatTold d ≡ some (descriptorFormat d)
 unfolding rowFormat descriptorClass classify descriptorBytes descriptorFormat held
 row-format (Descriptor.number Short scale) = refl
 row-format (Descriptor.number Long scale) = refl
+row-format (Descriptor.number Int64 scale) = refl
 row-format Descriptor.date = refl
 row-format (Descriptor.text Text n) = refl
 row-format (Descriptor.text Varying n) = let h : n + 2 - 2 ≡ n = omega arith in rw h

@@ -1,6 +1,7 @@
 -- What a test of values stands for, and what the functions on values alone promise.
 use Prim.Native.Nat.{ℕ}
 use mathlib.Core.Path.{_≡_}
+use Rattle.wire.specs.declared.codes.Version.{Version}
 use Rattle.wire.specs.declared.codes.Operator.{Operator}
 use Rattle.wire.specs.declared.codes.Comparison.{Comparison}
 use Rattle.wire.specs.declared.codes.TextSearch.{TextSearch}
@@ -56,11 +57,11 @@ ResultIs a place end r = (m : Lent) → valued m r ≡ ended (result place a) (e
 
 -- a missing operand of arithmetic or negation, by its kind and cause
 pub record MissingNumber (k : Kind) (w : Cause) (end : Position) (r : Valued) : Type 0 where
-  pub operand : (m : Lent) (o : Operator) (p : ℕ) → valued m r ≡ ended (arithmeticPair o p (lacking k w)) (end .at)
+  pub operand : (m : Lent) (v : Version) (o : Operator) (p : ℕ) → valued m r ≡ ended (arithmeticPair v o p (lacking k w)) (end .at)
   pub negated : (m : Lent) (p : ℕ) → valued m r ≡ ended (negateOf p (absent k w)) (end .at)
 
-abbrev pub CalculatedOf : Operator → Value → Value → ℕ → Position → Valued → Type 0
-CalculatedOf o x y place end r = (m : Lent) → valued m r ≡ ended (arithmeticOf o place (datum m x) (datum m y)) (end .at)
+abbrev pub CalculatedOf : Version → Operator → Value → Value → ℕ → Position → Valued → Type 0
+CalculatedOf v o x y place end r = (m : Lent) → valued m r ≡ ended (arithmeticOf v o place (datum m x) (datum m y)) (end .at)
 
 abbrev pub NegatedOf : Value → ℕ → Position → Valued → Type 0
 NegatedOf x place end r = (m : Lent) → valued m r ≡ ended (negateOf place (datum m x)) (end .at)

@@ -2,6 +2,7 @@
 -- order, stands.
 use Prim.Native.Nat.{ℕ}
 use mathlib.Core.Path.{_≡_}
+use Rattle.wire.specs.declared.codes.Version.{Version}
 use Rattle.wire.specs.declared.codes.Operator.{Operator}
 use Rattle.wire.specs.declared.codes.Comparison.{Comparison}
 use Rattle.wire.specs.declared.codes.TextSearch.{TextSearch}
@@ -12,8 +13,8 @@ use Rattle.values.specs.declared.Valued.{Valued}
 use Rattle.values.specs.declared.Tested.{Tested}
 use Rattle.values.specs.Values.{Lent, valued, tested}
 
-abbrev pub Calculated : Operator → Valued → Valued → ℕ → Valued → Type 0
-Calculated o a b place r = (m : Lent) → valued m r ≡ (valued m a ▷ (λ x q. valued m b ▷ (λ y e. ended (arithmeticOf o place x y) e)))
+abbrev pub Calculated : Version → Operator → Valued → Valued → ℕ → Valued → Type 0
+Calculated v o a b place r = (m : Lent) → valued m r ≡ (valued m a ▷ (λ x q. valued m b ▷ (λ y e. ended (arithmeticOf v o place x y) e)))
 
 abbrev pub Negated : Valued → ℕ → Valued → Type 0
 Negated a place r = (m : Lent) → valued m r ≡ (valued m a ▷ (λ x e. ended (negateOf place x) e))

@@ -13,6 +13,7 @@ use meaning::Fault;
 use meaning::Kind;
 use records::missing::Cause;
 use wire::codes::Operator;
+use wire::codes::Version;
 
 // What a computation gives; a refusal is at the operator's place.
 fn given(a: Computed, place: usize, end: Position) -> Valued
@@ -36,11 +37,11 @@ fn missing_number(k: Kind, w: Cause, end: Position) -> Valued
     }
 }
 
-fn arithmetic_of(o: Operator, x: Value, y: Value, place: usize, end: Position) -> Valued
-    ensures { λ r. ⌜ CalculatedOf o x y place end r ⌝ }
+fn arithmetic_of(v: Version, o: Operator, x: Value, y: Value, place: usize, end: Position) -> Valued
+    ensures { λ r. ⌜ CalculatedOf v o x y place end r ⌝ }
 {
     match paired(x, y) {
-        Pair::Numbers(n, k) => given(decimal::compute(o, n, k), place, end),
+        Pair::Numbers(n, k) => given(decimal::compute(v, o, n, k), place, end),
         Pair::Texts(_, _) => Valued::Stray,
         Pair::Dates(_, _) => Valued::Stray,
         Pair::Lacking(k, w) => missing_number(k, w, end),
@@ -48,12 +49,12 @@ fn arithmetic_of(o: Operator, x: Value, y: Value, place: usize, end: Position) -
     }
 }
 
-// The operator at a place, on two values.
-pub fn arithmetic(o: Operator, a: Valued, b: Valued, place: usize) -> Valued
-    ensures { λ r. ⌜ Calculated o a b place r ⌝ }
+// The operator at a place of a request of a version, on two values.
+pub fn arithmetic(v: Version, o: Operator, a: Valued, b: Valued, place: usize) -> Valued
+    ensures { λ r. ⌜ Calculated v o a b place r ⌝ }
 {
     match in_order(a, b) {
-        Operands::Are(x, y, end) => arithmetic_of(o, x, y, place, end),
+        Operands::Are(x, y, end) => arithmetic_of(v, o, x, y, place, end),
         Operands::Refused(f, p) => Valued::Refused(f, p),
         Operands::Stray => Valued::Stray,
     }

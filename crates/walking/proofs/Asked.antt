@@ -6,6 +6,7 @@ use mathlib.Core.Option.{some}
 use native.Mathlib.Omega.{arith}
 use lib.ListN.{length, drop, getElem?, length-append, length-drop}
 use Rattle.wire.specs.Codes as blr
+use Rattle.wire.specs.Versions.{versionCode}
 use Rattle.dictionary.specs.Dictionary.{Relation}
 use Rattle.grammar.specs.Tree.{Request}
 use Rattle.grammar.specs.Bytes.{messagesBytes, statementsBytes, booleanBytes, requestBytes}
@@ -14,12 +15,13 @@ use Rattle.grammar.specs.Rules.{environment}
 use Rattle.grammar.specs.Rows.{statementsStart, requestContextRows}
 use Rattle.grammar.specs.Conditions.{Condition, requestConditions}
 use Rattle.grammar.proofs.StepLaws.{absurd-eq}
+use Rattle.grammar.proofs.Complete.{version-back}
 use Rattle.meaning.specs.Data.{Result}
 use Rattle.meaning.specs.Inputs.{fetch}
 use Rattle.meaning.specs.Meaning.{meaning, truthOf, booleanSize}
 use Rattle.meaning.specs.Demand.{Accepted, Asked, NotStray}
 use Rattle.meaning.proofs.House.{house-is}
-use Rattle.walking.specs.Walk.{ended, booleanAt}
+use Rattle.walking.specs.Walk.{ended, versionAt, booleanAt}
 use Rattle.walking.specs.Declared.{Declared, declaredAll, rowsOf, contextsAt}
 use Rattle.walking.proofs.Link.{past, boolean-walk}
 use Rattle.walking.proofs.Sites.{All, Holds, all-sites, contexts-rows}
@@ -47,12 +49,17 @@ module _ (s d : List ℕ) (rs : List Relation) (t : Request) (a : Accepted s d r
       let ms = messagesBytes (t .messages) in
       let ss = statementsBytes (t .statements) in
       let tail = blr.end ∷ blr.eoc ∷ [] in
-      let f : s ≡ (blr.version4 ∷ blr.begin ∷ ms) ++ (ss ++ tail) = a .bytes ∙ ap (λ z. blr.version4 ∷ blr.begin ∷ z) (append-assoc ms ss tail) in
-      let z : 0 + length (blr.version4 ∷ blr.begin ∷ ms) ≡ statementsStart t = omega arith in
-      let g : drop (statementsStart t) s ≡ ss ++ tail = rw z at (past s 0 (blr.version4 ∷ blr.begin ∷ ms) _ f) in
+      let f : s ≡ (versionCode (t .version) ∷ blr.begin ∷ ms) ++ (ss ++ tail) = a .bytes ∙ ap (λ z. versionCode (t .version) ∷ blr.begin ∷ z) (append-assoc ms ss tail) in
+      let z : 0 + length (versionCode (t .version) ∷ blr.begin ∷ ms) ≡ statementsStart t = omega arith in
+      let g : drop (statementsStart t) s ≡ ss ++ tail = rw z at (past s 0 (versionCode (t .version) ∷ blr.begin ∷ ms) _ f) in
       let w = a .allowed .sized .depth in
       at-index _ (requestConditions rs t) n x
       (all-sites s (environment rs t) (t .statements) outermost (statementsStart t) 32 tail (omega (arith, w)) (a .allowed .statements) g) c
+
+  -- the first byte of the request says its version
+  first-version : versionAt s ≡ t .version
+  unfolding requestBytes
+  first-version = ap versionAt (a .bytes) ∙ version-back (t .version) .1
 
   -- a condition stands after the messages, so that no place is 0
   pub stands-after : statementsStart t ≤ x .place
@@ -74,7 +81,7 @@ module _ (s d : List ℕ) (rs : List Relation) (t : Request) (a : Accepted s d r
   scope-by-rows = site .scoped
 
   module _ (images rows : List ℕ) where
-    pub means : meaning s d n images rows ≡ truthOf (fetch (t .messages) (x .scope) images rows) (x .place) (x .boolean)
+    pub means : meaning s d n images rows ≡ truthOf (t .version) (fetch (t .messages) (x .scope) images rows) (x .place) (x .boolean)
     unfolding meaning
     means = rw (a .bytes, decoded t, house-is d rs (a .house), c)
 
@@ -82,6 +89,7 @@ module _ (s d : List ℕ) (rs : List Relation) (t : Request) (a : Accepted s d r
     pub walks : booleanAt (fetch (t .messages) (x .scope) images rows) 32 s (x .place) ≡ ended (meaning s d n images rows) (x .place + booleanSize (x .boolean))
     walks =
         boolean-walk s (fetch (t .messages) (x .scope) images rows) (x .boolean) 32 (x .place) (site .rest) (site .shallow) (site .stands)
+        ∙ ap (λ v. ended (truthOf v (fetch (t .messages) (x .scope) images rows) (x .place) (x .boolean)) (x .place + booleanSize (x .boolean))) first-version
         ∙ ap (λ z. ended z (x .place + booleanSize (x .boolean))) (sym means)
 
     -- "stray never occurs"

@@ -14,9 +14,10 @@ use lib.IntN.{pos}
 use Rattle.wire.specs.declared.codes.FieldType.{FieldType}
 use Rattle.wire.specs.declared.codes.FieldType.the-variants.{Plain, Reading}
 use Rattle.wire.specs.declared.codes.DataType.the-variants as Data
-use Rattle.wire.specs.declared.codes.Width.the-variants.{Short, Long}
+use Rattle.wire.specs.declared.codes.Version.{Version}
+use Rattle.wire.specs.declared.codes.Width.the-variants.{Short, Long, Int64}
 use Rattle.meaning.specs.Data.{number, date, absent}
-use Rattle.wire.specs.Words.{byteAt, wordAt, longAt, signed}
+use Rattle.wire.specs.Words.{byteAt, wordAt, longAt, int64At, signed}
 use Rattle.dictionary.specs.Format.{Format, held, typeBytes, textBytes}
 use Rattle.dictionary.specs.Dictionary.{Field, Relation}
 use Rattle.dictionary.specs.Naming.{Name, fieldOf, formatOf, fieldFormat}
@@ -98,11 +99,16 @@ module _ (s t : List ℕ) (sized : length s ≡ length t) where
       ap₂ (λ x y. x + 65536 * y) (word-same p (h p (omega arith) (omega arith)) (h (p + 1) (omega arith) (omega arith)))
       (word-same (p + 2) (h (p + 2) (omega arith) (omega arith)) (h (p + 2 + 1) (omega arith) (omega arith)))
 
+  int64-same : (p : ℕ) → ((j : ℕ) → p ≤ j → j < p + 8 → byteAt s j ≡ byteAt t j) → int64At s p ≡ int64At t p
+  int64-same p h =
+      ap₂ (λ x y. x + 4294967296 * y) (long-same p (λ j a b. h j a (omega arith))) (long-same (p + 4) (λ j a b. h j (omega arith) (omega arith)))
+
   type-same : (k : FieldType) (scale n p : ℕ) → ((j : ℕ) → p ≤ j → j < p + typeBytes k n → byteAt s j ≡ byteAt t j) →
       typeValue k scale n s p ≡ typeValue k scale n t p
   type-same (Plain (Data.Number Short)) scale n p h =
       ap (λ z. value (number (record { value = signed 2 z; scale = signed 1 scale }))) (word-same p (h p (omega arith) (omega arith)) (h (p + 1) (omega arith) (omega arith)))
   type-same (Plain (Data.Number Long)) scale n p h = ap (λ z. value (number (record { value = signed 4 z; scale = signed 1 scale }))) (long-same p h)
+  type-same (Plain (Data.Number Int64)) scale n p h = ap (λ z. value (number (record { value = signed 8 z; scale = signed 1 scale }))) (int64-same p h)
   type-same (Plain Data.Date) scale n p h =
       ap₂ (λ x y. value (date (signed 4 x) y)) (long-same p (λ j a b. h j a (omega arith))) (long-same (p + 4) (λ j a b. h j (omega arith) (omega arith)))
   type-same (Plain (Data.Chars c)) scale n p h = ap (λ z. textIn z c) (part-same p (textBytes c n) h)
@@ -299,6 +305,6 @@ same-references ms sc images rows rows′ w (field c n) = same-fields (sc .conte
 same-references ms sc images rows rows′ w (parameter m i) = refl
 same-references ms sc images rows rows′ w (parameter2 m i flag) = refl
 
-pub blind : (ms : List Message) (sc : Scope) (images rows rows′ : List ℕ) → Alike (sc .contexts) rows rows′ → (p : ℕ) (b : Boolean) →
-    truthOf (fetch ms sc images rows) p b ≡ truthOf (fetch ms sc images rows′) p b
-blind ms sc images rows rows′ w p b = ap (λ (g : Reference → Fetched). truthOf g p b) (fun-ext (same-references ms sc images rows rows′ w))
+pub blind : (v : Version) (ms : List Message) (sc : Scope) (images rows rows′ : List ℕ) → Alike (sc .contexts) rows rows′ → (p : ℕ) (b : Boolean) →
+    truthOf v (fetch ms sc images rows) p b ≡ truthOf v (fetch ms sc images rows′) p b
+blind v ms sc images rows rows′ w p b = ap (λ (g : Reference → Fetched). truthOf v g p b) (fun-ext (same-references ms sc images rows rows′ w))

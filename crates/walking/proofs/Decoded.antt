@@ -10,10 +10,12 @@ use lib.Seq.{drop-append-seam, take-append-seam}
 use borrow.Author.Tests.{le-leb, eq-eqb, ne-eqb}
 use Rattle.wire.specs.Codes as blr
 use Rattle.wire.specs.Lists.{among, anyOf}
-use Rattle.wire.specs.Words.{wordBytes, longBytes}
+use Rattle.wire.specs.Words.{wordBytes, longBytes, int64Bytes}
 use Rattle.wire.specs.Classes.{Class, due, classify, valueClass, booleanClass, literalClass, targetClass, streamClass, clauseClass, directionClass, statementClass, descriptorClass}
+use Rattle.wire.specs.Versions.{versionCode}
+use Rattle.wire.specs.declared.codes.Version.{Version}
 use Rattle.wire.specs.declared.codes.Width.{Width}
-use Rattle.wire.specs.declared.codes.Width.the-variants.{Short, Long}
+use Rattle.wire.specs.declared.codes.Width.the-variants.{Short, Long, Int64}
 use Rattle.dictionary.specs.Naming.{Name, named, numbered}
 use Rattle.grammar.specs.Tree as Tree
 use Rattle.grammar.specs.Tree.{Descriptor, Message, Stream, Heading, loop, modify, handler, receive, send, store, label, Keys, noKeys, key, Clauses, noClauses, such, sorted, Rse, rse, Statement, assignment, begin, erase, for, headed, leave, if, ifElse, select, Statements, none as nothing, Receives, last, more, Request, Literal, Reference, field, parameter, parameter2, Value, literal, reference, arithmetic, negate, Boolean, compare, search, between, connect, not, missing}
@@ -22,8 +24,9 @@ use Rattle.grammar.specs.Bytes.{widthCode, operatorCode, comparisonCode, search
 use Rattle.grammar.specs.Sizes.{valueDepth, booleanDepth, keysDepth, clausesDepth, rseDepth, statementDepth, statementsDepth, receivesDepth}
 use Rattle.grammar.proofs.Due.{width-due, text-due, number-due, operator-due, comparison-due, search-due, connective-due, direction-due}
 use Rattle.grammar.proofs.Found.{Other, other-first}
+use Rattle.grammar.proofs.Complete.{version-back}
 use Rattle.grammar.proofs.CompleteStatements.{statement-first}
-use Rattle.meaning.specs.Decoding.{Decoder, onward, _>>=_, return, one, byte, peek, bytes, word, long, code, coded, several, atEnd, countedName, id, numberOf, literalUnder, referenceUnder, valueUnder, value, booleanUnder, boolean, streamUnder, stream, keys, clausesUnder, clauses, rseOf, many, manyReceives, statementUnder, statement, descriptorUnder, descriptor, message, messages, request, ended, whole, decode}
+use Rattle.meaning.specs.Decoding.{Decoder, onward, _>>=_, return, one, byte, peek, bytes, word, long, int64, code, coded, several, atEnd, countedName, id, numberOf, literalUnder, referenceUnder, valueUnder, value, booleanUnder, boolean, streamUnder, stream, keys, clausesUnder, clauses, rseOf, many, manyReceives, statementUnder, statement, descriptorUnder, descriptor, message, messages, version, request, ended, whole, decode}
 
 word-back : (n : ℕ) (post : List ℕ) → word (wordBytes n ++ post) ≡ some (n, post)
 unfolding word byte
@@ -35,6 +38,12 @@ long-back n post =
     let z : n % 65536 + 65536 * (n / 65536) ≡ n = omega arith in
     rw (word-back (n % 65536) (wordBytes (n / 65536) ++ post), word-back (n / 65536) post) (ap (λ x. some (x, post)) z)
 
+int64-back : (n : ℕ) (post : List ℕ) → int64 (int64Bytes n ++ post) ≡ some (n, post)
+unfolding int64
+int64-back n post =
+    let z : n % 4294967296 + 4294967296 * (n / 4294967296) ≡ n = omega arith in
+    rw (long-back (n % 4294967296) (longBytes (n / 4294967296) ++ post), long-back (n / 4294967296) post) (ap (λ x. some (x, post)) z)
+
 bytes-back : (t post : List ℕ) → bytes (length t) (t ++ post) ≡ some (t, post)
 unfolding bytes
 bytes-back t post =
@@ -44,6 +53,7 @@ bytes-back t post =
 number-back : (w : Width) (n : ℕ) (post : List ℕ) → numberOf w (numberBytes w n ++ post) ≡ some (n, post)
 number-back Short n post = word-back n post
 number-back Long n post = long-back n post
+number-back Int64 n post = int64-back n post
 
 coded-back : {A : Type 0} (class : ℕ → Class A) (x : ℕ) (a : A) (s : List ℕ) → class x ≡ due a → coded class (x ∷ s) ≡ some (a, s)
 unfolding coded byte
@@ -401,6 +411,10 @@ mutual
   receives-few (last m s) = omega (arith, depth-few s)
   receives-few (more m s rs) = omega (arith, depth-few s, receives-few rs, length-append (statementBytes s) (receivesBytes rs))
 
+version-read : (v : Version) (post : List ℕ) → version (versionCode v ∷ post) ≡ some (v, post)
+unfolding version byte
+version-read v post = let b = version-back v in rw (b .0, b .1)
+
 request-back : (t : Request) (n : ℕ) → length (requestBytes t) ≤ n → request n (requestBytes t) ≡ some (t, [])
 unfolding request requestBytes code byte
 request-back t n h =
@@ -411,6 +425,7 @@ request-back t n h =
     let x = messages-few (t .messages) in
     let v = depths-few (t .statements) in
     rw (
+      version-read (t .version) (blr.begin ∷ (ms ++ ss ++ (blr.end ∷ blr.eoc ∷ []))),
       append-assoc ms ss (blr.end ∷ blr.eoc ∷ []),
       messages-back (t .messages) n (ss ++ (blr.end ∷ blr.eoc ∷ [])) (omega (arith, h, x, y, z)) (statements-other (t .statements) (blr.eoc ∷ [])),
       many-back n (t .statements) n n (blr.eoc ∷ []) (omega (arith, h, v, y, z)) (omega (arith, h, y, z)) (omega (arith, h, y, z)),

@@ -59,7 +59,7 @@ module _ (s d : List ℕ) (rs : List Relation) (t : Request) (a : Accepted s d r
   same-answer images rows rows′ i k k′ w r r′ h h′ =
       let v = by-places (x .scope .contexts) rows rows′ (related (x .scope .contexts) rows k) w in
       let m : meaning s d n images rows ≡ meaning s d n images rows′ =
-      means s d rs t a n x c images rows ∙ blind (t .messages) (x .scope) images rows rows′ v (x .place) (x .boolean)
+      means s d rs t a n x c images rows ∙ blind (t .version) (t .messages) (x .scope) images rows rows′ v (x .place) (x .boolean)
       ∙ sym (means s d rs t a n x c images rows′) in
       record {
         same-meaning = m;

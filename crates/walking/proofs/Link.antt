@@ -7,10 +7,10 @@ use native.Mathlib.Numerals.{add-one}
 use lib.ListN.{length, take, drop, getD, length-append, length-drop}
 use lib.Seq.{drop-cons, drop-drop, getD-drop, take-at, drop-at, drop-append-seam, take-append-seam}
 use Rattle.wire.specs.Codes as blr
-use Rattle.wire.specs.Words.{byteAt, wordAt, longAt, wordBytes, longBytes}
+use Rattle.wire.specs.Words.{byteAt, wordAt, wordBytes}
 use Rattle.wire.specs.Classes.{Class, due, classify, valueClass, booleanClass, literalClass}
 use Rattle.wire.specs.declared.codes.Width.{Width}
-use Rattle.wire.specs.declared.codes.Width.the-variants.{Short, Long}
+use Rattle.wire.specs.declared.codes.Width.the-variants.{Short, Long, Int64}
 use Rattle.wire.specs.declared.codes.LiteralType.the-variants.{NumberLiteral, TextLiteral}
 use Rattle.wire.specs.declared.codes.ReferenceCode.the-variants.{Field, Fid, Parameter, Parameter2}
 use Rattle.wire.specs.declared.codes.ValueCode.{ValueCode}
@@ -24,13 +24,13 @@ use Rattle.grammar.specs.Tree as Tree
 use Rattle.grammar.specs.Tree.{Literal, Reference, field, parameter, parameter2, Value, literal, reference, arithmetic, negate, compare, search, between, connect, not, missing}
 use Rattle.grammar.specs.Bytes.{widthCode, operatorCode, comparisonCode, searchCode, connectiveCode, numberBytes, literalBytes, referenceBytes, valueBytes, booleanBytes}
 use Rattle.grammar.specs.Sizes.{valueDepth, booleanDepth}
-use Rattle.grammar.proofs.Found.{byte-on, word-on}
+use Rattle.grammar.proofs.Found.{byte-on, word-on, long-at, int64-at}
 use Rattle.grammar.proofs.Due.{number-due, operator-due, comparison-due, search-due, connective-due}
 use Rattle.meaning.specs.declared.Truth.{Truth}
 use Rattle.meaning.specs.Data.{Result, is, refused, stray, _>>=_, Datum, arithmeticOf, negateOf, compareOf, searchOf, betweenOf, missingOf, connected, opposite}
 use Rattle.meaning.specs.Inputs.{Fetched, literalValue}
 use Rattle.meaning.specs.Meaning.{fetchedAt, size, booleanSize, valueOf, truthOf}
-use Rattle.walking.specs.Walk.{Walked, at, fault, astray, _▷_, ended, onClass, numberAt, literalUnder, literalAt, referenceAt, valueUnder, valueAt, booleanUnder, booleanAt}
+use Rattle.walking.specs.Walk.{Walked, at, fault, astray, _▷_, ended, onClass, numberAt, versionAt, literalUnder, literalAt, referenceAt, valueUnder, valueAt, booleanUnder, booleanAt}
 
 -- ---- one after another
 
@@ -80,21 +80,17 @@ module _ (s : List ℕ) where
       let z : p + 0 ≡ p = omega arith in
       let w = rw z at (word-on s p 0 (wordBytes n ++ t) e) in omega (arith, w)
 
-  long-is : (p n : ℕ) (t : List ℕ) → drop p s ≡ longBytes n ++ t → longAt s p ≡ n
-  long-is p n t e =
-      let z : p + 0 ≡ p = omega arith in
-      let low = rw z at (word-on s p 0 (longBytes n ++ t) e) in
-      let high = word-on s p 2 (longBytes n ++ t) e in omega (arith, low, high)
-
   number-is : (w : Width) (p n : ℕ) (t : List ℕ) → drop p s ≡ numberBytes w n ++ t → numberAt w s p ≡ n
   number-is Short = word-is
-  number-is Long = long-is
+  number-is Long = long-at s
+  number-is Int64 = int64-at s
 
   -- ---- literals and references
 
   width-size : (w : Width) (n : ℕ) → length (numberBytes w n) ≡ widthBytes w
   width-size Short n = refl
   width-size Long n = refl
+  width-size Int64 n = refl
 
   pub literal-walk : (l : Literal) (p : ℕ) (post : List ℕ) → drop p s ≡ literalBytes l ++ post →
       literalAt s p ≡ at (literalValue l) (p + length (literalBytes l))
@@ -158,7 +154,7 @@ module _ (s : List ℕ) where
     value-code (suc l) p x k t e c h = let z : suc l - 1 ≡ l = omega arith in rw (valueAt, byte-is p x t e, c, z)
 
     pub value-walk : (v : Value) (l p : ℕ) (post : List ℕ) → valueDepth v ≤ l → drop p s ≡ valueBytes v ++ post →
-        valueAt g l s p ≡ ended (valueOf g p v) (p + size v)
+        valueAt g l s p ≡ ended (valueOf (versionAt s) g p v) (p + size v)
     unfolding valueDepth valueBytes valueOf valueUnder valueClass classify valueAt
     value-walk (literal l) n p post h e =
         value-code n p blr.literal Code.Literal _ e refl (omega arith)
@@ -169,15 +165,15 @@ module _ (s : List ℕ) where
         let e1 : drop (p + 1) s ≡ valueBytes v ++ (valueBytes w ++ post) = next p (operatorCode o) _ e ∙ append-assoc (valueBytes v) (valueBytes w) post in
         let e2 = past (p + 1) (valueBytes v) _ e1 in
         value-code n p (operatorCode o) (Code.Arithmetic o) _ e (operator-due o) (omega arith)
-        ∙ two-ended (valueAt g (n - 1) s (p + 1)) (λ q. valueAt g (n - 1) s q) (valueOf g (p + 1) v) (p + 1 + size v)
-        (valueOf g (p + 1 + size v) w) (p + 1 + size v + size w) (arithmeticOf o p)
+        ∙ two-ended (valueAt g (n - 1) s (p + 1)) (λ q. valueAt g (n - 1) s q) (valueOf (versionAt s) g (p + 1) v) (p + 1 + size v)
+        (valueOf (versionAt s) g (p + 1 + size v) w) (p + 1 + size v + size w) (arithmeticOf (versionAt s) o p)
         (value-walk v (n - 1) (p + 1) _ (omega arith) e1) (value-walk w (n - 1) (p + 1 + size v) post (omega arith) e2)
-        ∙ ap (ended (valueOf g p (arithmetic o v w))) (omega (arith, length-append (valueBytes v) (valueBytes w)))
+        ∙ ap (ended (valueOf (versionAt s) g p (arithmetic o v w))) (omega (arith, length-append (valueBytes v) (valueBytes w)))
     value-walk (negate v) n p post h e =
         value-code n p blr.negate Code.Negate _ e refl (omega arith)
-        ∙ one-ended (valueAt g (n - 1) s (p + 1)) (valueOf g (p + 1) v) (p + 1 + size v) (negateOf p)
+        ∙ one-ended (valueAt g (n - 1) s (p + 1)) (valueOf (versionAt s) g (p + 1) v) (p + 1 + size v) (negateOf p)
         (value-walk v (n - 1) (p + 1) post (omega arith) (next p blr.negate _ e))
-        ∙ ap (ended (valueOf g p (negate v))) (omega arith)
+        ∙ ap (ended (valueOf (versionAt s) g p (negate v))) (omega arith)
 
     boolean-code : (l p x : ℕ) (k : BooleanCode) (t : List ℕ) → drop p s ≡ x ∷ t → booleanClass x ≡ due k → 0 < l →
         booleanAt g l s p ≡ booleanUnder (λ q. valueAt g (l - 1) s q) (λ q. booleanAt g (l - 1) s q) p k
@@ -189,23 +185,23 @@ module _ (s : List ℕ) where
     two-values : {C : Type 0} (v w : Value) (l p : ℕ) (post : List ℕ) (f : Datum → Datum → Result C) → valueDepth v ≤ l → valueDepth w ≤ l →
         drop p s ≡ (valueBytes v ++ valueBytes w) ++ post →
         (valueAt g l s p ▷ (λ x q. valueAt g l s q ▷ (λ y e. ended (f x y) e))) ≡
-        ended (valueOf g p v >>= (λ x. valueOf g (p + size v) w >>= (λ y. f x y))) (p + size v + size w)
+        ended (valueOf (versionAt s) g p v >>= (λ x. valueOf (versionAt s) g (p + size v) w >>= (λ y. f x y))) (p + size v + size w)
     two-values v w l p post f h k e =
         let e1 : drop p s ≡ valueBytes v ++ (valueBytes w ++ post) = e ∙ append-assoc (valueBytes v) (valueBytes w) post in
-        two-ended (valueAt g l s p) (λ q. valueAt g l s q) (valueOf g p v) (p + size v) (valueOf g (p + size v) w) (p + size v + size w) f
+        two-ended (valueAt g l s p) (λ q. valueAt g l s q) (valueOf (versionAt s) g p v) (p + size v) (valueOf (versionAt s) g (p + size v) w) (p + size v + size w) f
         (value-walk v l p _ h e1) (value-walk w l (p + size v) post k (past p (valueBytes v) _ e1))
 
     pub boolean-walk : (b : Tree.Boolean) (l p : ℕ) (post : List ℕ) → booleanDepth b ≤ l → drop p s ≡ booleanBytes b ++ post →
-        booleanAt g l s p ≡ ended (truthOf g p b) (p + booleanSize b)
+        booleanAt g l s p ≡ ended (truthOf (versionAt s) g p b) (p + booleanSize b)
     unfolding booleanDepth booleanBytes truthOf booleanUnder booleanClass classify
     boolean-walk (compare c v w) n p post h e =
         boolean-code n p (comparisonCode c) (Boolean.Compare c) _ e (comparison-due c) (omega arith)
         ∙ two-values v w (n - 1) (p + 1) post (compareOf c) (omega arith) (omega arith) (next p (comparisonCode c) _ e)
-        ∙ ap (ended (truthOf g p (compare c v w))) (omega (arith, length-append (valueBytes v) (valueBytes w)))
+        ∙ ap (ended (truthOf (versionAt s) g p (compare c v w))) (omega (arith, length-append (valueBytes v) (valueBytes w)))
     boolean-walk (search t v w) n p post h e =
         boolean-code n p (searchCode t) (Boolean.Search t) _ e (search-due t) (omega arith)
         ∙ two-values v w (n - 1) (p + 1) post (searchOf t) (omega arith) (omega arith) (next p (searchCode t) _ e)
-        ∙ ap (ended (truthOf g p (search t v w))) (omega (arith, length-append (valueBytes v) (valueBytes w)))
+        ∙ ap (ended (truthOf (versionAt s) g p (search t v w))) (omega (arith, length-append (valueBytes v) (valueBytes w)))
     boolean-walk (between u v w) n p post h e =
         let e1 : drop (p + 1) s ≡ valueBytes u ++ (valueBytes v ++ (valueBytes w ++ post)) =
         next p blr.between _ e ∙ append-assoc (valueBytes u ++ valueBytes v) (valueBytes w) post
@@ -213,28 +209,28 @@ module _ (s : List ℕ) where
         let e2 = past (p + 1) (valueBytes u) _ e1 in
         let e3 = past (p + 1 + size u) (valueBytes v) _ e2 in
         boolean-code n p blr.between Boolean.Between _ e refl (omega arith)
-        ∙ three-ended (valueAt g (n - 1) s (p + 1)) (λ q. valueAt g (n - 1) s q) (valueOf g (p + 1) u) (valueOf g (p + 1 + size u) v)
-        (valueOf g (p + 1 + size u + size v) w) (p + 1 + size u) (p + 1 + size u + size v) (p + 1 + size u + size v + size w) betweenOf
+        ∙ three-ended (valueAt g (n - 1) s (p + 1)) (λ q. valueAt g (n - 1) s q) (valueOf (versionAt s) g (p + 1) u) (valueOf (versionAt s) g (p + 1 + size u) v)
+        (valueOf (versionAt s) g (p + 1 + size u + size v) w) (p + 1 + size u) (p + 1 + size u + size v) (p + 1 + size u + size v + size w) betweenOf
         (value-walk u (n - 1) (p + 1) _ (omega arith) e1) (value-walk v (n - 1) (p + 1 + size u) _ (omega arith) e2)
         (value-walk w (n - 1) (p + 1 + size u + size v) post (omega arith) e3)
-        ∙ ap (ended (truthOf g p (between u v w)))
+        ∙ ap (ended (truthOf (versionAt s) g p (between u v w)))
         (omega (arith, length-append (valueBytes u ++ valueBytes v) (valueBytes w), length-append (valueBytes u) (valueBytes v)))
     boolean-walk (connect c a b) n p post h e =
         let e1 : drop (p + 1) s ≡ booleanBytes a ++ (booleanBytes b ++ post) =
         next p (connectiveCode c) _ e ∙ append-assoc (booleanBytes a) (booleanBytes b) post in
         let e2 = past (p + 1) (booleanBytes a) _ e1 in
         boolean-code n p (connectiveCode c) (Boolean.Connect c) _ e (connective-due c) (omega arith)
-        ∙ two-ended (booleanAt g (n - 1) s (p + 1)) (λ q. booleanAt g (n - 1) s q) (truthOf g (p + 1) a) (p + 1 + booleanSize a)
-        (truthOf g (p + 1 + booleanSize a) b) (p + 1 + booleanSize a + booleanSize b) (λ x y. is (connected c x y))
+        ∙ two-ended (booleanAt g (n - 1) s (p + 1)) (λ q. booleanAt g (n - 1) s q) (truthOf (versionAt s) g (p + 1) a) (p + 1 + booleanSize a)
+        (truthOf (versionAt s) g (p + 1 + booleanSize a) b) (p + 1 + booleanSize a + booleanSize b) (λ x y. is (connected c x y))
         (boolean-walk a (n - 1) (p + 1) _ (omega arith) e1) (boolean-walk b (n - 1) (p + 1 + booleanSize a) post (omega arith) e2)
-        ∙ ap (ended (truthOf g p (connect c a b))) (omega (arith, length-append (booleanBytes a) (booleanBytes b)))
+        ∙ ap (ended (truthOf (versionAt s) g p (connect c a b))) (omega (arith, length-append (booleanBytes a) (booleanBytes b)))
     boolean-walk (not a) n p post h e =
         boolean-code n p blr.not Boolean.Not _ e refl (omega arith)
-        ∙ one-ended (booleanAt g (n - 1) s (p + 1)) (truthOf g (p + 1) a) (p + 1 + booleanSize a) (λ x. is (opposite x))
+        ∙ one-ended (booleanAt g (n - 1) s (p + 1)) (truthOf (versionAt s) g (p + 1) a) (p + 1 + booleanSize a) (λ x. is (opposite x))
         (boolean-walk a (n - 1) (p + 1) post (omega arith) (next p blr.not _ e))
-        ∙ ap (ended (truthOf g p (not a))) (omega arith)
+        ∙ ap (ended (truthOf (versionAt s) g p (not a))) (omega arith)
     boolean-walk (missing v) n p post h e =
         boolean-code n p blr.missing Boolean.Missing _ e refl (omega arith)
-        ∙ one-ended (valueAt g (n - 1) s (p + 1)) (valueOf g (p + 1) v) (p + 1 + size v) (λ x. is (missingOf x))
+        ∙ one-ended (valueAt g (n - 1) s (p + 1)) (valueOf (versionAt s) g (p + 1) v) (p + 1 + size v) (λ x. is (missingOf x))
         (value-walk v (n - 1) (p + 1) post (omega arith) (next p blr.missing _ e))
-        ∙ ap (ended (truthOf g p (missing v))) (omega arith)
+        ∙ ap (ended (truthOf (versionAt s) g p (missing v))) (omega arith)

@@ -131,7 +131,7 @@ module _ (s d images rows : List ℕ) where
     unfolding number
     told-condition none e = record { numbered = inr (omega arith, omega arith); placed = omega arith }
     told-condition (some x) e =
-        let w = truth-within (fetch (t .messages) (x .scope) images rows) (x .boolean) (x .place) in
+        let w = truth-within (t .version) (fetch (t .messages) (x .scope) images rows) (x .boolean) (x .place) in
         let v = subst (Within (x .place) (x .place + booleanSize (x .boolean))) (sym (means s d rs t a n x e images rows)) w in
         told-messages (eqb (length images) (sumOf messageSize (t .messages))) _
         (told-records (dueRelations (x .scope .contexts)) _

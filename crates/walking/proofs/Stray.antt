@@ -6,6 +6,7 @@ use mathlib.Core.Option.{Option, none, some}
 use lib.IntN.{ℤ, pos, negsuc}
 use lib.Signed.{leZ}
 use Rattle.wire.specs.Lists.{isSome}
+use Rattle.wire.specs.declared.codes.Version.{Version}
 use Rattle.wire.specs.declared.codes.Operator.{Operator}
 use Rattle.wire.specs.declared.codes.Comparison.{Comparison}
 use Rattle.wire.specs.declared.codes.Comparison.the-variants.{Geq, Leq}
@@ -75,15 +76,15 @@ computed-kind p (Computed.Value a) = refl
 computed-kind p Computed.Overflow = tt
 computed-kind p Computed.ZeroDivisor = tt
 
-arithmetic-kind : (o : Operator) (p : ℕ) (x y : Datum) → kind x ≡ Kind.Number → kind y ≡ Kind.Number → OfKind Kind.Number (arithmeticOf o p x y)
+arithmetic-kind : (v : Version) (o : Operator) (p : ℕ) (x y : Datum) → kind x ≡ Kind.Number → kind y ≡ Kind.Number → OfKind Kind.Number (arithmeticOf v o p x y)
 unfolding arithmeticOf pair kind
-arithmetic-kind o p (number n) (number m) h k = computed-kind p (computed o n m)
-arithmetic-kind o p (number n) (text u) h k = absurd-eq (cc)
-arithmetic-kind o p (number n) (date u v) h k = absurd-eq (cc)
-arithmetic-kind o p (number n) (absent j w) h k = rw k refl
-arithmetic-kind o p (text t) y h k = absurd-eq (cc)
-arithmetic-kind o p (date t u) y h k = absurd-eq (cc)
-arithmetic-kind o p (absent j w) y h k = rw (k, h) refl
+arithmetic-kind v o p (number n) (number m) h k = computed-kind p (computed v o n m)
+arithmetic-kind v o p (number n) (text u) h k = absurd-eq (cc)
+arithmetic-kind v o p (number n) (date t u) h k = absurd-eq (cc)
+arithmetic-kind v o p (number n) (absent j w) h k = rw k refl
+arithmetic-kind v o p (text t) y h k = absurd-eq (cc)
+arithmetic-kind v o p (date t u) y h k = absurd-eq (cc)
+arithmetic-kind v o p (absent j w) y h k = rw (k, h) refl
 
 negate-kind : (p : ℕ) (x : Datum) → kind x ≡ Kind.Number → OfKind Kind.Number (negateOf p x)
 unfolding negateOf kind
@@ -138,17 +139,17 @@ record OfNumbers (x y : Option Scaled.Kind) (k : Scaled.Kind) : Type 0 where
   second-is : y ≡ some (Scaled.Number second)
   result-is : unscaled k ≡ Kind.Number
 
-operands : (o : Operator) (x y : Option Scaled.Kind) (k : Scaled.Kind) → arithmeticKind o x y ≡ some k → OfNumbers x y k
+operands : (v : Version) (o : Operator) (x y : Option Scaled.Kind) (k : Scaled.Kind) → arithmeticKind v o x y ≡ some k → OfNumbers x y k
 unfolding arithmeticKind
-operands o (some (Scaled.Number a)) (some (Scaled.Number b)) k e =
-    let s = resultScale o a b in
+operands v o (some (Scaled.Number a)) (some (Scaled.Number b)) k e =
+    let s = resultScale v o a b in
     record { first = a; second = b; first-is = refl; second-is = refl; result-is = range-number s (leZ (negsuc 17) s && leZ s (pos 0)) k e }
-operands o (some (Scaled.Number a)) (some Scaled.Text) k e = absurd-eq (cc)
-operands o (some (Scaled.Number a)) (some Scaled.Date) k e = absurd-eq (cc)
-operands o (some (Scaled.Number a)) none k e = absurd-eq (cc)
-operands o (some Scaled.Text) y k e = absurd-eq (cc)
-operands o (some Scaled.Date) y k e = absurd-eq (cc)
-operands o none y k e = absurd-eq (cc)
+operands v o (some (Scaled.Number a)) (some Scaled.Text) k e = absurd-eq (cc)
+operands v o (some (Scaled.Number a)) (some Scaled.Date) k e = absurd-eq (cc)
+operands v o (some (Scaled.Number a)) none k e = absurd-eq (cc)
+operands v o (some Scaled.Text) y k e = absurd-eq (cc)
+operands v o (some Scaled.Date) y k e = absurd-eq (cc)
+operands v o none y k e = absurd-eq (cc)
 
 negated-number : (x : Option Scaled.Kind) (k : Scaled.Kind) → negatedKind x ≡ some k → (a : ℤ) × (x ≡ some (Scaled.Number a)) × (unscaled k ≡ Kind.Number)
 negated-number (some (Scaled.Number a)) k e = let z : k ≡ Scaled.Number a = cc in (a, refl, ap unscaled z)
@@ -199,24 +200,24 @@ fetched-kind p k nothing h = absurd h
 
 module _ (e : Environment) (sc : Scope) (g : Reference → Fetched)
     (typed : (r : Reference) (k : Scaled.Kind) → referenceKind e sc r ≡ some k → FetchedOf (unscaled k) (g r)) where
-  pub value-kind : (v : Value) (p : ℕ) (k : Scaled.Kind) → kindOf e sc v ≡ some k → OfKind (unscaled k) (valueOf g p v)
+  pub value-kind : (v : Value) (p : ℕ) (k : Scaled.Kind) → kindOf e sc v ≡ some k → OfKind (unscaled k) (valueOf (e .version) g p v)
   unfolding kindOf valueOf
   value-kind (literal l) p k h = let z : k ≡ literalKind l = cc in rw z (literal-kind l)
   value-kind (reference r) p k h = fetched-kind p (unscaled k) (g r) (typed r k h)
   value-kind (arithmetic o v w) p k h =
-      let i = operands o (kindOf e sc v) (kindOf e sc w) k h in
+      let i = operands (e .version) o (kindOf e sc v) (kindOf e sc w) k h in
       rw (i .result-is)
-      (on-kind Kind.Number Kind.Number (valueOf g (p + 1) v) _ (value-kind v (p + 1) (Scaled.Number (i .first)) (i .first-is)) (λ x hx.
-      on-kind Kind.Number Kind.Number (valueOf g (p + 1 + size v) w) _ (value-kind w (p + 1 + size v) (Scaled.Number (i .second)) (i .second-is)) (λ y hy.
-      arithmetic-kind o p x y hx hy)))
+      (on-kind Kind.Number Kind.Number (valueOf (e .version) g (p + 1) v) _ (value-kind v (p + 1) (Scaled.Number (i .first)) (i .first-is)) (λ x hx.
+      on-kind Kind.Number Kind.Number (valueOf (e .version) g (p + 1 + size v) w) _ (value-kind w (p + 1 + size v) (Scaled.Number (i .second)) (i .second-is)) (λ y hy.
+      arithmetic-kind (e .version) o p x y hx hy)))
   value-kind (negate v) p k h =
       let i = negated-number (kindOf e sc v) k h in
-      rw (i .2) (on-kind Kind.Number Kind.Number (valueOf g (p + 1) v) _ (value-kind v (p + 1) (Scaled.Number (i .0)) (i .1)) (λ x hx. negate-kind p x hx))
+      rw (i .2) (on-kind Kind.Number Kind.Number (valueOf (e .version) g (p + 1) v) _ (value-kind v (p + 1) (Scaled.Number (i .0)) (i .1)) (λ x hx. negate-kind p x hx))
 
-  any-kind : (v : Value) (p : ℕ) → isSome (kindOf e sc v) ≡ true → (k : Kind) × OfKind k (valueOf g p v)
+  any-kind : (v : Value) (p : ℕ) → isSome (kindOf e sc v) ≡ true → (k : Kind) × OfKind k (valueOf (e .version) g p v)
   any-kind v p h = go (kindOf e sc v) refl h
     where
-      go : (x : Option Scaled.Kind) → kindOf e sc v ≡ x → isSome x ≡ true → (k : Kind) × OfKind k (valueOf g p v)
+      go : (x : Option Scaled.Kind) → kindOf e sc v ≡ x → isSome x ≡ true → (k : Kind) × OfKind k (valueOf (e .version) g p v)
       go (some k) i j = (unscaled k, value-kind v p k i)
       go none i j = absurd-eq (cc)
 
@@ -230,37 +231,37 @@ module _ (e : Environment) (sc : Scope) (g : Reference → Fetched)
   -- two values of one kind, under a test
   two-met : (v w : Value) (p : ℕ) → OfOneKind (kindOf e sc v) (kindOf e sc w) → (f : Datum → Datum → Result Truth) →
       ((x y : Datum) → kind x ≡ kind y → NotStray (f x y)) →
-      NotStray (valueOf g p v >>= (λ x. valueOf g (p + size v) w >>= (λ y. f x y)))
+      NotStray (valueOf (e .version) g p v >>= (λ x. valueOf (e .version) g (p + size v) w >>= (λ y. f x y)))
   two-met v w p i f n =
-      on-truth (unscaled (i .first)) (valueOf g p v) _ (value-kind v p (i .first) (i .first-is)) (λ x hx.
-      on-truth (unscaled (i .second)) (valueOf g (p + size v) w) _ (value-kind w (p + size v) (i .second) (i .second-is)) (λ y hy.
+      on-truth (unscaled (i .first)) (valueOf (e .version) g p v) _ (value-kind v p (i .first) (i .first-is)) (λ x hx.
+      on-truth (unscaled (i .second)) (valueOf (e .version) g (p + size v) w) _ (value-kind w (p + size v) (i .second) (i .second-is)) (λ y hy.
       n x y (hx ∙ i .same ∙ sym hy)))
 
-  text-value : (v : Value) (p : ℕ) → oneKind (kindOf e sc v) (some Scaled.Text) ≡ true → OfKind Kind.Text (valueOf g p v)
+  text-value : (v : Value) (p : ℕ) → oneKind (kindOf e sc v) (some Scaled.Text) ≡ true → OfKind Kind.Text (valueOf (e .version) g p v)
   text-value v p h =
       let i = one-kind (kindOf e sc v) (some Scaled.Text) h in
       let z : i .second ≡ Scaled.Text = let y = i .second-is in cc in
       rw (sym (i .same ∙ ap unscaled z)) (value-kind v p (i .first) (i .first-is))
 
-  pub never-stray : (b : Boolean) (p : ℕ) → BooleanAllowed e sc b → NotStray (truthOf g p b)
+  pub never-stray : (b : Boolean) (p : ℕ) → BooleanAllowed e sc b → NotStray (truthOf (e .version) g p b)
   unfolding truthOf bothText allOneKind
   never-stray (compare c v w) p a = two-met v w (p + 1) (one-kind (kindOf e sc v) (kindOf e sc w) (a .2)) (compareOf c) (compare-met c)
   never-stray (search t v w) p a =
       let u = both-true (oneKind (kindOf e sc v) (some Scaled.Text)) (oneKind (kindOf e sc w) (some Scaled.Text)) (a .2) in
-      on-truth Kind.Text (valueOf g (p + 1) v) _ (text-value v (p + 1) (u .0)) (λ x hx.
-      on-truth Kind.Text (valueOf g (p + 1 + size v) w) _ (text-value w (p + 1 + size v) (u .1)) (λ y hy. search-met t x y hx hy))
+      on-truth Kind.Text (valueOf (e .version) g (p + 1) v) _ (text-value v (p + 1) (u .0)) (λ x hx.
+      on-truth Kind.Text (valueOf (e .version) g (p + 1 + size v) w) _ (text-value w (p + 1 + size v) (u .1)) (λ y hy. search-met t x y hx hy))
   never-stray (between u v w) p a =
       let q = both-true (oneKind (kindOf e sc u) (kindOf e sc v)) (oneKind (kindOf e sc u) (kindOf e sc w)) (a .3) in
       let i = one-kind (kindOf e sc u) (kindOf e sc v) (q .0) in
       let j = one-kind (kindOf e sc u) (kindOf e sc w) (q .1) in
       let same : j .first ≡ i .first = let z = i .first-is in let y = j .first-is in cc in
-      on-truth (unscaled (i .first)) (valueOf g (p + 1) u) _ (value-kind u (p + 1) (i .first) (i .first-is)) (λ x hx.
-      on-truth (unscaled (i .second)) (valueOf g (p + 1 + size u) v) _ (value-kind v (p + 1 + size u) (i .second) (i .second-is)) (λ y hy.
-      on-truth (unscaled (j .second)) (valueOf g (p + 1 + size u + size v) w) _ (value-kind w (p + 1 + size u + size v) (j .second) (j .second-is)) (λ z hz.
+      on-truth (unscaled (i .first)) (valueOf (e .version) g (p + 1) u) _ (value-kind u (p + 1) (i .first) (i .first-is)) (λ x hx.
+      on-truth (unscaled (i .second)) (valueOf (e .version) g (p + 1 + size u) v) _ (value-kind v (p + 1 + size u) (i .second) (i .second-is)) (λ y hy.
+      on-truth (unscaled (j .second)) (valueOf (e .version) g (p + 1 + size u + size v) w) _ (value-kind w (p + 1 + size u + size v) (j .second) (j .second-is)) (λ z hz.
       between-met x y z (hx ∙ i .same ∙ sym hy) (hx ∙ ap unscaled (sym same) ∙ j .same ∙ sym hz))))
   never-stray (connect c a b) p w =
-      and-then (truthOf g (p + 1) a) _ (never-stray a (p + 1) (w .0)) (λ x.
-      and-then (truthOf g (p + 1 + booleanSize a) b) _ (never-stray b (p + 1 + booleanSize a) (w .1)) (λ y. tt))
-  never-stray (not a) p w = and-then (truthOf g (p + 1) a) _ (never-stray a (p + 1) w) (λ x. tt)
+      and-then (truthOf (e .version) g (p + 1) a) _ (never-stray a (p + 1) (w .0)) (λ x.
+      and-then (truthOf (e .version) g (p + 1 + booleanSize a) b) _ (never-stray b (p + 1 + booleanSize a) (w .1)) (λ y. tt))
+  never-stray (not a) p w = and-then (truthOf (e .version) g (p + 1) a) _ (never-stray a (p + 1) w) (λ x. tt)
   never-stray (missing v) p w =
-      let i = any-kind v (p + 1) (allowed-some v w) in on-truth (i .0) (valueOf g (p + 1) v) _ (i .1) (λ x hx. tt)
+      let i = any-kind v (p + 1) (allowed-some v w) in on-truth (i .0) (valueOf (e .version) g (p + 1) v) _ (i .1) (λ x hx. tt)

@@ -1,7 +1,7 @@
 -- What a reference that the rules allow gives has the kind that the rules say, or is a malformed text.
 use Prim.Native.Nat.{ℕ, zero, suc}
 use mathlib.Core.Path.{_≡_, refl, sym, ap, subst, _∙_}
-use mathlib.Core.Bool.{Bool, true, false}
+use mathlib.Core.Bool.{Bool, true, false, cond}
 use mathlib.Core.List.{List, [], _∷_}
 use mathlib.Core.Option.{Option, none, some, Option·map}
 use native.Mathlib.Omega.{arith}
@@ -15,6 +15,8 @@ use Rattle.wire.specs.declared.codes.DataType.the-variants as Data
 use Rattle.text.specs.declared.TextPart.{TextPart}
 use Rattle.text.specs.declared.TextPart.the-variants as TextPart
 use Rattle.text.specs.Value.{textPart}
+use Rattle.wire.specs.Versions.{fieldDue}
+use Rattle.wire.specs.declared.codes.Version.{Version}
 use Rattle.dictionary.specs.Format.{Format, textBytes}
 use Rattle.dictionary.specs.Dictionary.{Relation}
 use Rattle.dictionary.specs.Naming.{Name, fieldOf, formatOf}
@@ -26,7 +28,7 @@ use Rattle.grammar.specs.Kind as Scaled
 use Rattle.grammar.specs.Kind.{Kind}
 use Rattle.grammar.specs.Tree.{Message, Reference, field, parameter, parameter2}
 use Rattle.grammar.specs.Environment.{Environment, Context, Scope, contextOf, messageOf, relationIn, relationOfContext, descriptorFormat, parameterFormat, fieldFormat}
-use Rattle.grammar.specs.Kinds.{typeKind, formatKind, referenceKind, parameterKind, flagged as flaggedKind}
+use Rattle.grammar.specs.Kinds.{typeKind, formatKind, fieldKind, referenceKind, parameterKind, flagged as flaggedKind}
 use Rattle.grammar.proofs.StepLaws.{absurd-eq}
 use Rattle.meaning.specs.declared.Kind.the-variants as Unscaled
 use Rattle.meaning.specs.Inputs as Inputs
@@ -105,6 +107,15 @@ map-some : {A B : Type 0} (o : Option A) (f : A → B) (y : B) → Option·map f
 map-some none f y e = absurd-eq (cc)
 map-some (some x) f y e = (x, refl, cc)
 
+-- a field that the version may name has the kind of its format
+due-kind : (v : Version) (f : Format) (k : Kind) → fieldKind v f ≡ some k → formatKind f ≡ k
+unfolding fieldKind
+due-kind v f k h = by (fieldDue v (f .type)) h
+  where
+    by : (b : Bool) → cond b (some (formatKind f)) none ≡ some k → formatKind f ≡ k
+    by true e = cc
+    by false e = absurd-eq (cc)
+
 module _ (e : Environment) (sc : Scope) (images rows : List ℕ) where
   field-of : (c : ℕ) (n : Name) (f : Format) → fieldFormat sc c n ≡ some f → FetchedOf (unscaled (formatKind f)) (fieldValue (sc .contexts) rows c n)
   unfolding fieldFormat relationOfContext contextOf fieldValue fieldIn
@@ -152,7 +163,9 @@ module _ (e : Environment) (sc : Scope) (images rows : List ℕ) where
 
   pub typed : (r : Reference) (k : Kind) → referenceKind e sc r ≡ some k → FetchedOf (unscaled k) (fetch (e .messages) sc images rows r)
   unfolding referenceKind fetch
-  typed (field c n) k h = let a = map-some (fieldFormat sc c n) formatKind k h in rw (sym (a .2)) (field-of c n (a .0) (a .1))
+  typed (field c n) k h =
+      let a = then-some (fieldFormat sc c n) (fieldKind (e .version)) k h in
+      rw (sym (due-kind (e .version) (a .0) k (a .2))) (field-of c n (a .0) (a .1))
   typed (parameter m i) k h = let a = kind-there m i k h in rw (sym (a .2)) (parameter-of m i (a .0) (a .1))
   typed (parameter2 m i flag) k h =
       let q = flag-inv (parameterKind e m flag) (parameterKind e m i) k h in

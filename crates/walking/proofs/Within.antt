@@ -4,6 +4,7 @@ use mathlib.Core.Path.{_≡_, refl}
 use mathlib.Core.List.{List, _++_}
 use native.Mathlib.Omega.{arith}
 use lib.ListN.{length, length-append}
+use Rattle.wire.specs.declared.codes.Version.{Version}
 use Rattle.wire.specs.declared.codes.Operator.{Operator}
 use Rattle.wire.specs.declared.codes.Comparison.{Comparison}
 use Rattle.wire.specs.declared.codes.Comparison.the-variants.{Geq, Leq}
@@ -44,12 +45,12 @@ computed-within p hi (Computed.Value a) h = tt
 computed-within p hi Computed.Overflow h = (omega arith, h)
 computed-within p hi Computed.ZeroDivisor h = (omega arith, h)
 
-arithmetic-within : (o : Operator) (p hi : ℕ) (x y : Datum) → p < hi → Within p hi (arithmeticOf o p x y)
+arithmetic-within : (v : Version) (o : Operator) (p hi : ℕ) (x y : Datum) → p < hi → Within p hi (arithmeticOf v o p x y)
 unfolding arithmeticOf
-arithmetic-within o p hi x y h = by (pair x y)
+arithmetic-within v o p hi x y h = by (pair x y)
   where
-    by : (z : Pair) → Within p hi (arithmeticPair o p z)
-    by (numbers a b) = computed-within p hi (computed o a b) h
+    by : (z : Pair) → Within p hi (arithmeticPair v o p z)
+    by (numbers a b) = computed-within p hi (computed v o a b) h
     by (texts t u) = tt
     by (dates d f e g) = tt
     by (lacking Kind.Number w) = tt
@@ -110,29 +111,29 @@ reference-long (field c (numbered i)) = omega arith
 reference-long (parameter m i) = omega arith
 reference-long (parameter2 m i flag) = omega arith
 
-module _ (g : Reference → Fetched) where
-  pub value-within : (v : Value) (p : ℕ) → Within p (p + size v) (valueOf g p v)
+module _ (e : Version) (g : Reference → Fetched) where
+  pub value-within : (v : Value) (p : ℕ) → Within p (p + size v) (valueOf e g p v)
   unfolding valueOf valueBytes
   value-within (literal l) p = tt
   value-within (reference r) p = fetched-within p _ (g r) (omega (arith, reference-long r))
   value-within (arithmetic o v w) p =
       let l = length-append (valueBytes v) (valueBytes w) in
       let hi = p + size (arithmetic o v w) in
-      onward p hi (valueOf g (p + 1) v) _ (widen _ _ p hi (valueOf g (p + 1) v) (omega arith) (omega (arith, l)) (value-within v (p + 1))) (λ x.
-      onward p hi (valueOf g (p + 1 + size v) w) _
-      (widen _ _ p hi (valueOf g (p + 1 + size v) w) (omega arith) (omega (arith, l)) (value-within w (p + 1 + size v)))
-      (λ y. arithmetic-within o p hi x y (omega arith)))
+      onward p hi (valueOf e g (p + 1) v) _ (widen _ _ p hi (valueOf e g (p + 1) v) (omega arith) (omega (arith, l)) (value-within v (p + 1))) (λ x.
+      onward p hi (valueOf e g (p + 1 + size v) w) _
+      (widen _ _ p hi (valueOf e g (p + 1 + size v) w) (omega arith) (omega (arith, l)) (value-within w (p + 1 + size v)))
+      (λ y. arithmetic-within e o p hi x y (omega arith)))
   value-within (negate v) p =
       let hi = p + size (negate v) in
-      onward p hi (valueOf g (p + 1) v) _ (widen _ _ p hi (valueOf g (p + 1) v) (omega arith) (omega arith) (value-within v (p + 1)))
+      onward p hi (valueOf e g (p + 1) v) _ (widen _ _ p hi (valueOf e g (p + 1) v) (omega arith) (omega arith) (value-within v (p + 1)))
       (λ x. negate-within p hi x (omega arith))
 
   -- a value below p's code
   below : {B : Type 0} (v : Value) (q p hi : ℕ) (f : Datum → Result B) → p ≤ q → q + size v ≤ hi → ((x : Datum) → Within p hi (f x)) →
-      Within p hi (valueOf g q v >>= f)
-  below v q p hi f a b n = onward p hi (valueOf g q v) f (widen _ _ p hi (valueOf g q v) a b (value-within v q)) n
+      Within p hi (valueOf e g q v >>= f)
+  below v q p hi f a b n = onward p hi (valueOf e g q v) f (widen _ _ p hi (valueOf e g q v) a b (value-within v q)) n
 
-  pub truth-within : (b : Boolean) (p : ℕ) → Within p (p + booleanSize b) (truthOf g p b)
+  pub truth-within : (b : Boolean) (p : ℕ) → Within p (p + booleanSize b) (truthOf e g p b)
   unfolding truthOf booleanBytes
   truth-within (compare c v w) p =
       let l = length-append (valueBytes v) (valueBytes w) in
@@ -149,10 +150,10 @@ module _ (g : Reference → Fetched) where
   truth-within (connect c a b) p =
       let l = length-append (booleanBytes a) (booleanBytes b) in
       let hi = p + booleanSize (connect c a b) in
-      onward p hi (truthOf g (p + 1) a) _ (widen _ _ p hi (truthOf g (p + 1) a) (omega arith) (omega (arith, l)) (truth-within a (p + 1))) (λ x.
-      onward p hi (truthOf g (p + 1 + booleanSize a) b) _
-      (widen _ _ p hi (truthOf g (p + 1 + booleanSize a) b) (omega arith) (omega (arith, l)) (truth-within b (p + 1 + booleanSize a))) (λ y. tt))
+      onward p hi (truthOf e g (p + 1) a) _ (widen _ _ p hi (truthOf e g (p + 1) a) (omega arith) (omega (arith, l)) (truth-within a (p + 1))) (λ x.
+      onward p hi (truthOf e g (p + 1 + booleanSize a) b) _
+      (widen _ _ p hi (truthOf e g (p + 1 + booleanSize a) b) (omega arith) (omega (arith, l)) (truth-within b (p + 1 + booleanSize a))) (λ y. tt))
   truth-within (not a) p =
       let hi = p + booleanSize (not a) in
-      onward p hi (truthOf g (p + 1) a) _ (widen _ _ p hi (truthOf g (p + 1) a) (omega arith) (omega arith) (truth-within a (p + 1))) (λ x. tt)
+      onward p hi (truthOf e g (p + 1) a) _ (widen _ _ p hi (truthOf e g (p + 1) a) (omega arith) (omega arith) (truth-within a (p + 1))) (λ x. tt)
   truth-within (missing v) p = below v (p + 1) p _ _ (omega arith) (omega arith) (λ x. tt)

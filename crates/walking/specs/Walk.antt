@@ -2,10 +2,12 @@
 use Prim.Native.Nat.{ℕ, zero, suc, _+_}
 use mathlib.Core.List.{List}
 use lib.ListN.{length, take, drop}
-use Rattle.wire.specs.Words.{byteAt, wordAt, longAt, signed}
+use Rattle.wire.specs.Words.{byteAt, wordAt, longAt, int64At, signed}
 use Rattle.wire.specs.Classes.{Class, valueClass, booleanClass, literalClass}
+use Rattle.wire.specs.Versions.{versionOf}
+use Rattle.wire.specs.declared.codes.Version.{Version}
 use Rattle.wire.specs.declared.codes.Width.{Width}
-use Rattle.wire.specs.declared.codes.Width.the-variants.{Short, Long}
+use Rattle.wire.specs.declared.codes.Width.the-variants.{Short, Long, Int64}
 use Rattle.wire.specs.declared.codes.LiteralType.{LiteralType}
 use Rattle.wire.specs.declared.codes.LiteralType.the-variants.{NumberLiteral, TextLiteral}
 use Rattle.wire.specs.declared.codes.ReferenceCode.{ReferenceCode}
@@ -51,6 +53,7 @@ onClass Class.foreign f = astray
 abbrev pub numberAt : Width → List ℕ → ℕ → ℕ
 numberAt Short s p = wordAt s p
 numberAt Long s p = longAt s p
+numberAt Int64 s p = int64At s p
 
 -- a literal whose type stands at p
 abbrev pub literalUnder : List ℕ → ℕ → LiteralType → Walked Datum
@@ -70,11 +73,15 @@ referenceAt g s p Parameter = ended (fetchedAt p (g (parameter (byteAt s (p + 1)
 referenceAt g s p Parameter2 =
     ended (fetchedAt p (g (parameter2 (byteAt s (p + 1)) (wordAt s (p + 2)) (wordAt s (p + 4))))) (p + 6)
 
+-- the version that a request's first byte says
+abbrev pub versionAt : List ℕ → Version
+versionAt s = versionOf (byteAt s 0)
+
 -- what stands under a value's code at p; `inner` gives the values one level down
 unfoldable pub valueUnder : (Reference → Fetched) → (ℕ → Walked Datum) → List ℕ → ℕ → ValueCode → Walked Datum
 valueUnder g inner s p Code.Literal = literalAt s (p + 1)
 valueUnder g inner s p (Code.Reference c) = referenceAt g s p c
-valueUnder g inner s p (Code.Arithmetic o) = inner (p + 1) ▷ (λ x q. inner q ▷ (λ y e. ended (arithmeticOf o p x y) e))
+valueUnder g inner s p (Code.Arithmetic o) = inner (p + 1) ▷ (λ x q. inner q ▷ (λ y e. ended (arithmeticOf (versionAt s) o p x y) e))
 valueUnder g inner s p Code.Negate = inner (p + 1) ▷ (λ x e. ended (negateOf p x) e)
 
 -- a value at a place, with so many levels left

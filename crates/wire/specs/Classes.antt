@@ -24,7 +24,7 @@ use Rattle.wire.specs.declared.codes.ClauseCode.{ClauseCode}
 use Rattle.wire.specs.declared.codes.ClauseCode.the-variants.{Boolean, Sort, End}
 use Rattle.wire.specs.declared.codes.Direction.{Direction}
 use Rattle.wire.specs.declared.codes.Direction.the-variants.{Ascending, Descending}
-use Rattle.wire.specs.declared.codes.Width.the-variants.{Short, Long}
+use Rattle.wire.specs.declared.codes.Width.the-variants.{Short, Long, Int64}
 use Rattle.wire.specs.declared.codes.TextType.the-variants.{Text, Varying, Cstring}
 use Rattle.wire.specs.declared.codes.DataType.{DataType}
 use Rattle.wire.specs.declared.codes.DataType.the-variants.{Number, Date, Chars}
@@ -109,7 +109,7 @@ directionClass =
 unfoldable pub descriptorClass : ℕ → Class DataType
 descriptorClass =
     classify
-    ((blr.short, Number Short) ∷ (blr.long, Number Long) ∷ (blr.date, Date) ∷
+    ((blr.short, Number Short) ∷ (blr.long, Number Long) ∷ (blr.int64, Number Int64) ∷ (blr.date, Date) ∷
     (blr.text, Chars Text) ∷ (blr.varying, Chars Varying) ∷ (blr.cstring, Chars Cstring) ∷ [])
     (blr.quad ∷ blr.float ∷ blr.d-float ∷ blr.double ∷ [])
 
@@ -117,14 +117,14 @@ descriptorClass =
 unfoldable pub literalClass : ℕ → Class LiteralType
 literalClass =
     classify
-    ((blr.short, NumberLiteral Short) ∷ (blr.long, NumberLiteral Long) ∷ (blr.text, TextLiteral) ∷ [])
+    ((blr.short, NumberLiteral Short) ∷ (blr.long, NumberLiteral Long) ∷ (blr.int64, NumberLiteral Int64) ∷ (blr.text, TextLiteral) ∷ [])
     (blr.quad ∷ blr.float ∷ blr.d-float ∷ blr.double ∷ blr.date ∷ blr.varying ∷ blr.cstring ∷ [])
 
 -- the types of a field in the dictionary
 unfoldable pub fieldClass : ℕ → Class FieldType
 fieldClass =
     classify
-    ((blr.short, Plain (Number Short)) ∷ (blr.long, Plain (Number Long)) ∷ (blr.date, Plain Date) ∷
+    ((blr.short, Plain (Number Short)) ∷ (blr.long, Plain (Number Long)) ∷ (blr.int64, Plain (Number Int64)) ∷ (blr.date, Plain Date) ∷
     (blr.text, Plain (Chars Text)) ∷ (blr.varying, Plain (Chars Varying)) ∷ (blr.cstring, Plain (Chars Cstring)) ∷
     (blr.house-reading, Reading) ∷ [])
     []

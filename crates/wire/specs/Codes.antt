@@ -6,6 +6,10 @@ use Prim.Native.Nat.{ℕ}
 abbrev pub version4 : ℕ
 version4 = 4
 
+-- 02, No. 8: "Version 5 beside version 4."
+abbrev pub version5 : ℕ
+version5 = 5
+
 abbrev pub eoc : ℕ
 eoc = 76
 
@@ -236,6 +240,10 @@ short = 7
 
 abbrev pub long : ℕ
 long = 8
+
+-- 02, No. 8: "type 16, a 64-bit integer of 8 bytes"
+abbrev pub int64 : ℕ
+int64 = 16
 
 abbrev pub text : ℕ
 text = 14

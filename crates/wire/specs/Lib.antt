@@ -6,4 +6,5 @@ pub mod Limits
 pub mod Entries
 pub mod Orders
 pub mod Classes
+pub mod Versions
 pub mod Internal

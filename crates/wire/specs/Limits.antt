@@ -76,6 +76,13 @@ shortSize = 2
 abbrev pub longSize : ℕ
 longSize = 4
 
+-- 02, No. 8: "type 16, a 64-bit integer of 8 bytes with a scale of -18 to 0"
+abbrev pub int64Size : ℕ
+int64Size = 8
+
+abbrev pub minInt64Scale : ℤ
+minInt64Scale = negsuc 17
+
 abbrev pub dateSize : ℕ
 dateSize = 8
 

@@ -18,12 +18,19 @@ wordAt s p = byteAt s p + 256 * byteAt s (p + 1)
 abbrev pub longAt : List ℕ → ℕ → ℕ
 longAt s p = wordAt s p + 65536 * wordAt s (p + 2)
 
--- the bytes of a word, and of a four-byte number
+-- eight bytes
+abbrev pub int64At : List ℕ → ℕ → ℕ
+int64At s p = longAt s p + 4294967296 * longAt s (p + 4)
+
+-- the bytes of a word, of a four-byte number and of an eight-byte number
 abbrev pub wordBytes : ℕ → List ℕ
 wordBytes n = n % 256 ∷ n / 256 ∷ []
 
 abbrev pub longBytes : ℕ → List ℕ
 longBytes n = wordBytes (n % 65536) ++ wordBytes (n / 65536)
+
+abbrev pub int64Bytes : ℕ → List ℕ
+int64Bytes n = longBytes (n % 4294967296) ++ longBytes (n / 4294967296)
 
 -- a number below twice `half`, in two's complement
 abbrev pub twos : ℕ → ℕ → ℤ

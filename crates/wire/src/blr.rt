@@ -4,6 +4,9 @@
 // Version and ends.
 pub const VERSION4: u8 = 4;
 
+// 02, No. 8: "Version 5 beside version 4."
+pub const VERSION5: u8 = 5;
+
 pub const EOC: u8 = 76;
 
 pub const END: u8 = 255;
@@ -160,6 +163,9 @@ pub const AGGREGATE: u8 = 79;
 pub const SHORT: u8 = 7;
 
 pub const LONG: u8 = 8;
+
+// 02, No. 8: "type 16, a 64-bit integer of 8 bytes".
+pub const INT64: u8 = 16;
 
 pub const TEXT: u8 = 14;
 

@@ -1,3 +1,9 @@
+// The version of a request.
+pub enum Version {
+    Version4,
+    Version5,
+}
+
 // What a code says at the kind of place where it is due.
 pub enum StatementCode {
     Assignment,
@@ -83,10 +89,11 @@ pub enum Direction {
     Descending,
 }
 
-// The two widths of a number in a message, a literal or a field.
+// The three widths of a number in a message, a literal or a field.
 pub enum Width {
     Short,
     Long,
+    Int64,
 }
 
 pub enum TextType {

@@ -53,6 +53,11 @@ pub const SHORT_SIZE: usize = 2;
 
 pub const LONG_SIZE: usize = 4;
 
+// 02, No. 8: "type 16, a 64-bit integer of 8 bytes with a scale of -18 to 0".
+pub const INT64_SIZE: usize = 8;
+
+pub const MIN_INT64_SCALE: i8 = -18;
+
 pub const DATE_SIZE: usize = 8;
 
 // "a varying's follows its length word"

@@ -1,16 +1,21 @@
 //! Pieces of requests written by hand, beside the relation of `dictionaries::house`.
 
 use crate::wire::{
-    ADD, ASSIGNMENT, BEGIN, BOOLEAN, DIVIDE, END, EOC, FID, FOR, LITERAL, LONG, MESSAGE, MULTIPLY,
-    NEGATE, PARAMETER, RID, RSE, SHORT, SUBTRACT, TEXT, VERSION4,
+    ADD, ASSIGNMENT, BEGIN, BOOLEAN, DIVIDE, END, EOC, FID, FOR, INT64, LITERAL, LONG, MESSAGE,
+    MULTIPLY, NEGATE, PARAMETER, RID, RSE, SHORT, SUBTRACT, TEXT, VERSION4,
 };
 
 /// The empty begin.
 pub const NOTHING: [u8; 2] = [BEGIN, END];
 
-/// Version, begin, the parts, end, eoc.
+/// Version 4, begin, the parts, end, eoc.
 pub fn request(parts: &[&[u8]]) -> Vec<u8> {
-    [&[VERSION4, BEGIN], parts.concat().as_slice(), &[END, EOC]].concat()
+    request_of(VERSION4, parts)
+}
+
+/// Version, begin, the parts, end, eoc.
+pub fn request_of(version: u8, parts: &[&[u8]]) -> Vec<u8> {
+    [&[version, BEGIN], parts.concat().as_slice(), &[END, EOC]].concat()
 }
 
 /// A message with descriptors.
@@ -28,6 +33,12 @@ pub fn short(scale: i8, number: i16) -> Vec<u8> {
 /// A long literal.
 pub fn long(scale: i8, number: i32) -> Vec<u8> {
     let head = [LITERAL, LONG, scale.to_le_bytes()[0]];
+    [&head[..], &number.to_le_bytes()].concat()
+}
+
+/// A literal of a 64-bit integer.
+pub fn int64(scale: i8, number: i64) -> Vec<u8> {
+    let head = [LITERAL, INT64, scale.to_le_bytes()[0]];
     [&head[..], &number.to_le_bytes()].concat()
 }
 

@@ -6,8 +6,8 @@ use super::{Case, Size, TABLE_LENGTHS};
 use crate::dictionary::{Dictionary, Field, Relation};
 use crate::hex;
 use crate::wire::{
-    ASCENDING, BEGIN, CSTRING, DATE, DIVIDE, END, EOC, EQL, FIELD, LITERAL, LONG, MISSING,
-    MULTIPLY, NEGATE, NOT, READING, RELATION, SEND, SHORT, SORT, TEXT, VARYING, VERSION4,
+    ASCENDING, BEGIN, CSTRING, DATE, DIVIDE, END, EOC, EQL, FIELD, INT64, LITERAL, LONG, MISSING,
+    MULTIPLY, NEGATE, NOT, READING, RELATION, SEND, SHORT, SORT, TEXT, VARYING, VERSION4, VERSION5,
 };
 use std::sync::OnceLock;
 
@@ -19,7 +19,9 @@ pub fn all() -> Vec<Case> {
         message_sizes(),
         context_counts(),
         request_ranges(),
+        ranges_of_type_16(),
         arithmetic_scales(),
+        quotient_scales(),
         names(),
         table_lengths(),
         dictionary_counts(),
@@ -159,6 +161,38 @@ fn request_ranges() -> Vec<Case> {
     cases
 }
 
+/// Scales of type 16 in descriptors and literals, in both versions.
+fn ranges_of_type_16() -> Vec<Case> {
+    let mut cases = Vec::new();
+    for version in [VERSION4, VERSION5] {
+        for scale in [-19i8, -18, -10, 0, 1] {
+            let declared = message(0, &[&[INT64, scale.to_le_bytes()[0]]]);
+            cases.push(read(assemble::request_of(version, &[&declared])));
+            let test = operator(MISSING, &[&assemble::int64(scale, -1)]);
+            cases.push(read(assemble::request_of(version, &[&condition(&test)])));
+        }
+    }
+    cases
+}
+
+/// Quotients of scale -18 and -19 in version 5, and of scale 0 and 1 in version 4.
+fn quotient_scales() -> Vec<Case> {
+    let mut cases = Vec::new();
+    for scales in [[-9, -9], [-9, -10], [-18, 0], [-18, -1], [0, -18], [-8, -9], [0, 0]] {
+        let [left, right] = scales.map(|scale| assemble::int64(scale, 1));
+        let test = operator(MISSING, &[&operator(DIVIDE, &[&left, &right])]);
+        cases.push(read(assemble::request_of(VERSION5, &[&condition(&test)])));
+    }
+    for scales in [[-9, -9], [-8, -9], [0, -9]] {
+        let [left, right] = scales.map(|scale| short(scale, 1));
+        let test = operator(MISSING, &[&operator(DIVIDE, &[&left, &right])]);
+        for version in [VERSION4, VERSION5] {
+            cases.push(read(assemble::request_of(version, &[&condition(&test)])));
+        }
+    }
+    cases
+}
+
 /// Results of scale -18 and -19, and of scale 0 and 1.
 fn arithmetic_scales() -> Vec<Case> {
     let nine = short(-9, 1);
@@ -263,6 +297,9 @@ fn dictionary_ranges() -> Vec<Case> {
         for scale in [-10, -9, -1, 0, 1] {
             cases.push(beside(field(code, scale, 3, b"F")));
         }
+    }
+    for scale in [-19, -18, 0, 1] {
+        cases.push(beside(field(INT64, scale, 0, b"F")));
     }
     cases
 }

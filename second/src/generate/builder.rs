@@ -11,8 +11,8 @@ use crate::datatype::{self, DataType, Kind};
 use crate::dictionary::Dictionary;
 use crate::reader::parsed::{Message, Role};
 use crate::wire::{
-    ASCENDING, BEGIN, BOOLEAN, BOOLEANS, DESCENDING, DESCRIPTORS, END, EOC, LITERALS, MESSAGE,
-    SORT, STATEMENTS, STREAMS, TARGETS, VALUES, VERSION4,
+    self, ASCENDING, BEGIN, BOOLEAN, BOOLEANS, DESCENDING, DESCRIPTORS5, END, EOC, INT64,
+    LITERALS5, MESSAGE, SORT, STATEMENTS, STREAMS, TARGETS, VALUES, VERSION4, VERSION5,
 };
 
 /// A code in a part of a request.
@@ -24,8 +24,8 @@ pub fn foci() -> Vec<Focus> {
         (Role::Statement, &STATEMENTS),
         (Role::Value, &VALUES),
         (Role::Boolean, &BOOLEANS),
-        (Role::Descriptor, &DESCRIPTORS),
-        (Role::Literal, &LITERALS),
+        (Role::Descriptor, &DESCRIPTORS5),
+        (Role::Literal, &LITERALS5),
         (Role::Target, &TARGETS),
         (Role::Stream, &STREAMS),
         (Role::Clause, &[BOOLEAN, SORT]),
@@ -49,6 +49,7 @@ pub struct Builder<'a> {
     pub dictionary: &'a Dictionary,
     pub size: Size,
     pub focus: Focus,
+    pub version: u8,
     pub draft: Draft,
     /// Bytes after which only short statements and values follow.
     pub budget: usize,
@@ -83,12 +84,15 @@ impl<'a> Builder<'a> {
             Size::Small => rng.between(30, 75),
             Size::Mixed => rng.pick(&[60, 120, 300, 900, 3000]),
         };
+        let is_later = matches!(focus, (Role::Descriptor | Role::Literal, INT64));
+        let version = if is_later { VERSION5 } else { rng.pick(&[VERSION4, VERSION5]) };
         let depth = if size == Size::Small { 9 } else { rng.pick(&[6, 12, 32]) };
         Builder {
             rng,
             dictionary,
             size,
             focus,
+            version,
             draft: Draft::default(),
             budget,
             depth,
@@ -104,7 +108,7 @@ impl<'a> Builder<'a> {
 
     /// Version, begin, messages, statements, end, eoc.
     fn write_request(&mut self, conditional: bool) {
-        self.draft.raw(&[VERSION4]);
+        self.draft.raw(&[self.version]);
         self.draft.code(Role::Statement, BEGIN);
         self.statements += 1;
         self.write_messages();
@@ -169,12 +173,12 @@ impl<'a> Builder<'a> {
 
     /// One descriptor.
     fn write_descriptor(&mut self) -> DataType {
-        let code = self.choose(Role::Descriptor, &DESCRIPTORS);
+        let code = self.choose(Role::Descriptor, wire::descriptors(self.version));
         self.draft.code(Role::Descriptor, code);
         let mut scale = 0;
         let mut n = 0;
         if datatype::has_scale(code) {
-            scale = dictionaries::scale(self.rng);
+            scale = dictionaries::scale_of(self.rng, code);
             self.draft.byte(Mark::Scale, scale.to_le_bytes()[0]);
         }
         if datatype::has_size(code) {

@@ -5,7 +5,7 @@ use super::rng::Rng;
 use crate::datatype::DataType;
 use crate::dictionary::{Dictionary, Relation};
 use crate::reader::parsed::{Condition, Parsed};
-use crate::wire::{CSTRING, DATE, LONG, READING, SHORT, VARYING};
+use crate::wire::{CSTRING, DATE, INT64, LONG, READING, SHORT, VARYING};
 
 /// Bytes of texts: few letters in both cases, so that texts are often equal, and what the tests
 /// treat apart.
@@ -25,6 +25,16 @@ pub fn long(rng: &mut Rng) -> i32 {
     let usual = [0, 0, 1, -1, 2, -7, 30, 300, 1_000_000_000, i32::MAX, i32::MIN];
     if rng.one_in(4) {
         return (rng.bits() >> 32) as u32 as i32;
+    }
+    rng.pick(&usual)
+}
+
+/// A 64-bit integer, often an end of the range, a power of ten or a number near zero.
+pub fn int64(rng: &mut Rng) -> i64 {
+    let ten = 10i64.pow(rng.below(19) as u32);
+    let usual = [0, 0, 1, -1, 2, -7, 30, 300, ten, -ten, ten - 1, i64::MAX, i64::MIN];
+    if rng.one_in(4) {
+        return rng.bits() as i64;
     }
     rng.pick(&usual)
 }
@@ -77,6 +87,7 @@ pub fn stored(rng: &mut Rng, data: DataType, malformed: usize) -> Vec<u8> {
     match data.code {
         SHORT => short(rng).to_le_bytes().to_vec(),
         LONG => long(rng).to_le_bytes().to_vec(),
+        INT64 => int64(rng).to_le_bytes().to_vec(),
         READING => reading(rng).to_le_bytes().to_vec(),
         DATE => date(rng),
         VARYING => {
@@ -96,7 +107,7 @@ pub fn messages(rng: &mut Rng, parsed: &Parsed, malformed: usize) -> Vec<u8> {
     let parameters = parsed.messages.iter().flat_map(|message| &message.parameters);
     let mut bytes = Vec::new();
     for data in parameters {
-        let is_number = matches!(data.code, SHORT | LONG);
+        let is_number = matches!(data.code, SHORT | LONG | INT64);
         if is_number && rng.one_in(3) {
             bytes.extend(vec![0; data.held()]);
         } else {

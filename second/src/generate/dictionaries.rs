@@ -4,10 +4,10 @@ use super::rng::Rng;
 use super::Size;
 use crate::datatype::DataType;
 use crate::dictionary::{Dictionary, Field, Relation};
-use crate::wire::{self, CSTRING, DATE, LONG, READING, SHORT, TEXT, VARYING};
+use crate::wire::{self, CSTRING, DATE, INT64, LONG, READING, SHORT, TEXT, VARYING};
 
 /// The types of fields.
-pub const FIELD_TYPES: [u8; 7] = [SHORT, LONG, TEXT, DATE, VARYING, CSTRING, READING];
+pub const FIELD_TYPES: [u8; 8] = [SHORT, LONG, TEXT, INT64, DATE, VARYING, CSTRING, READING];
 
 /// A dictionary as entries; nothing is checked.
 pub fn encode(dictionary: &Dictionary) -> Vec<u8> {
@@ -59,6 +59,7 @@ pub fn house() -> Dictionary {
         field(VARYING, 0, 3, b"V"),
         field(CSTRING, 0, 3, b"C"),
         field(DATE, 0, 0, b"D"),
+        field(INT64, -3, 0, b"I"),
     ];
     Dictionary { relations: vec![Relation { id: 1, name: b"R".to_vec(), fields }] }
 }
@@ -90,9 +91,9 @@ fn add_fields(rng: &mut Rng, size: Size, relation: &mut Relation) {
 
 /// A type with a scale or n in range.
 pub fn field_type(rng: &mut Rng, size: Size) -> DataType {
-    let code = rng.pick(&FIELD_TYPES);
-    let is_number = matches!(code, SHORT | LONG | READING);
-    let scale = if is_number { scale(rng) } else { 0 };
+    let code = if rng.one_in(6) { READING } else { rng.pick(&FIELD_TYPES) };
+    let is_number = matches!(code, SHORT | LONG | READING | INT64);
+    let scale = if is_number { scale_of(rng, code) } else { 0 };
     DataType::new(code, scale, text_size(rng, size))
 }
 
@@ -102,6 +103,14 @@ pub fn scale(rng: &mut Rng) -> i8 {
         return -(rng.below(10) as i8);
     }
     rng.pick(&[0, 0, -1, -2, -9])
+}
+
+/// A scale of a type; that of type 16 is from -18 to 0.
+pub fn scale_of(rng: &mut Rng, code: u8) -> i8 {
+    if code == INT64 && rng.one_in(4) {
+        return rng.pick(&[-10, -17, -18, -18]);
+    }
+    scale(rng)
 }
 
 /// An n of a text.
@@ -154,7 +163,7 @@ fn entry_starts(bytes: &[u8]) -> Vec<usize> {
 }
 
 /// The number of ways in which `damaged` breaks a rule.
-pub const DAMAGES: usize = 24;
+pub const DAMAGES: usize = 25;
 
 /// A dictionary that breaks a rule, `way` says which; damage at random may break none.
 pub fn damaged(rng: &mut Rng, dictionary: &Dictionary, way: usize) -> Vec<u8> {
@@ -224,14 +233,17 @@ fn damage_field(rng: &mut Rng, relation: &mut Relation, way: usize) {
         12 => field.name = Vec::new(),
         13 => field.name = vec![b'N'; 32],
         14 => field.name = rng.pick(&[&b" "[..], b"A\x7f", b"\x00", b"\xff"]).to_vec(),
-        15 => field.data.code = rng.pick(&[0, 9, 10, 11, 27, 16, 199, 201]),
+        15 => field.data.code = rng.pick(&[0, 9, 10, 11, 15, 17, 27, 199, 201]),
         16 => field.data = DataType::new(rng.pick(&[SHORT, LONG, READING]), -10, 0),
-        17 => field.data = DataType::new(rng.pick(&[SHORT, LONG, READING]), 1, 0),
+        17 => field.data = DataType::new(rng.pick(&[SHORT, LONG, READING, INT64]), 1, 0),
         18 => field.data = DataType::new(rng.pick(&[TEXT, DATE, VARYING, CSTRING]), -1, 3),
         19 => field.data.size = 0,
         20 => field.data = DataType::new(rng.pick(&[TEXT, VARYING, CSTRING]), 0, 256),
         21 => field.data.size ^= rng.pick(&[256, 512]),
-        22 => field.data = DataType { code: rng.pick(&[SHORT, LONG, DATE]), scale: 0, size: 3 },
+        22 => {
+            field.data = DataType { code: rng.pick(&[SHORT, LONG, DATE, INT64]), scale: 0, size: 3 }
+        }
+        23 => field.data = DataType::new(INT64, rng.pick(&[-19, 2, 127, -128]), 0),
         _ => {
             let repeated = field.clone();
             relation.fields.push(repeated);

@@ -18,7 +18,7 @@ use crate::record::Cause;
 use crate::refusal::Refusal;
 use crate::wire::{
     ADD, BOOLEANS, CSTRING, DIVIDE, EQL, GEQ, MISSING, MULTIPLY, NEQ, PARAMETER2, SHORT, VALUES,
-    VARYING,
+    VARYING, VERSION4, VERSION5,
 };
 
 /// The causes of a missing answer.
@@ -118,7 +118,8 @@ pub fn edge(rng: &mut Rng) -> Case {
         2 => operator(NEQ, &[value, other]),
         _ => operator(EQL, &[&operator(ADD, &[value, &fid(0, 0)]), &short(-2, 3)]),
     };
-    with_data(rng, &house(), assemble::request(&[&condition(&test)]), 1000)
+    let version = rng.pick(&[VERSION4, VERSION5]);
+    with_data(rng, &house(), assemble::request_of(version, &[&condition(&test)]), 1000)
 }
 
 /// A test of a varying or cstring of the record or of a message.

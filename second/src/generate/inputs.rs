@@ -56,9 +56,18 @@ fn with(mut input: Vec<u8>, place: usize, bytes: &[u8]) -> Vec<u8> {
 fn alterations() -> Vec<Vec<u8>> {
     let changed = |place: usize, byte: u8| with(S.to_vec(), place, &[byte]);
     let mut requests = vec![S.to_vec(), S[..40].to_vec(), [&S[..], &[0]].concat(), Vec::new()];
-    for (place, byte) in
-        [(0, 5), (18, 1), (19, 1), (19, 2), (36, 5), (37, 1), (23, 0xF7), (23, 0xF6)]
-    {
+    for (place, byte) in [
+        (0, 3),
+        (0, 5),
+        (0, 6),
+        (18, 1),
+        (19, 1),
+        (19, 2),
+        (36, 5),
+        (37, 1),
+        (23, 0xF7),
+        (23, 0xF6),
+    ] {
         requests.push(changed(place, byte));
     }
     requests.extend((0..S.len()).map(|place| changed(place, S[place].wrapping_add(1))));

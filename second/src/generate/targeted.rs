@@ -1,8 +1,8 @@
 //! Readings aimed at one refusal each.
 
 use super::assemble::{
-    self, assignment, condition, fid, for_house, for_loop, message, operator, parameter, rid,
-    short, text, NOTHING,
+    self, assignment, condition, fid, for_house, for_loop, int64, message, operator, parameter,
+    rid, short, text, NOTHING,
 };
 use super::boundaries;
 use super::builder::{self, foci};
@@ -14,11 +14,11 @@ use crate::dictionary::Dictionary;
 use crate::reader;
 use crate::reader::parsed::Role;
 use crate::wire::{
-    ADD, ASCENDING, BEGIN, BETWEEN, BOOLEAN, CONTAINING, DATE, DIVIDE, END, EQL, ERASE, FOR, GEQ,
-    LABEL, LEAVE, LEFT_OUT_BOOLEANS, LEFT_OUT_CLAUSES, LEFT_OUT_DESCRIPTORS, LEFT_OUT_LITERALS,
-    LEFT_OUT_STATEMENTS, LEFT_OUT_STREAMS, LEFT_OUT_VALUES, LITERAL, LOOP, MATCHING, MODIFY,
-    MULTIPLY, NEGATE, PARAMETER2, RECEIVE, RELATION, RSE, SELECT, SEND, SHORT, SORT, STARTING,
-    STORE, TEXT, VERSION4,
+    ADD, ASCENDING, BEGIN, BETWEEN, BOOLEAN, CONTAINING, DATE, DIVIDE, END, EQL, ERASE, FIELD, FOR,
+    GEQ, INT64, LABEL, LEAVE, LEFT_OUT_BOOLEANS, LEFT_OUT_CLAUSES, LEFT_OUT_DESCRIPTORS,
+    LEFT_OUT_LITERALS, LEFT_OUT_STATEMENTS, LEFT_OUT_STREAMS, LEFT_OUT_VALUES, LITERAL, LOOP,
+    MATCHING, MISSING, MODIFY, MULTIPLY, NEGATE, PARAMETER2, RECEIVE, RELATION, RSE, SELECT, SEND,
+    SHORT, SORT, STARTING, STORE, TEXT, VERSION4,
 };
 
 /// The refusals of a reading; those that have many causes come more than once.
@@ -117,7 +117,7 @@ fn changed(rng: &mut Rng, size: Size, number: u32) -> Case {
     match number {
         2 => request.resize(rng.pick(&[65_536, 65_537, 70_000]), rng.pick(&[0, 2, 255])),
         4 => request.truncate(rng.below(draft.bytes.len())),
-        5 => request[0] = rng.pick(&[0, 3, 5, 252, 255]),
+        5 => request[0] = rng.pick(&[0, 3, 6, 252, 255]),
         6 => change_code(rng, &draft, &mut request, |_| &[0, 4, 16, 46, 64, 80, 254]),
         7 => change_code(rng, &draft, &mut request, left_out),
         9 => change(rng, &draft, &mut request, Mark::Message, &[14, 200, 254]),
@@ -150,7 +150,7 @@ fn change_name(rng: &mut Rng, draft: &Draft, request: &mut [u8]) {
 /// Sets a scale, a text size, or a count of streams or sort values out of range.
 fn change_range(rng: &mut Rng, draft: &Draft, request: &mut [u8]) {
     match rng.below(3) {
-        0 => change(rng, draft, request, Mark::Scale, &[1, 246, 127, 128]),
+        0 => change(rng, draft, request, Mark::Scale, &[1, 237, 246, 127, 128]),
         1 => change(rng, draft, request, Mark::Count, &[0, 9, 255]),
         _ => change(rng, draft, request, Mark::Size, &[0]),
     }
@@ -218,9 +218,20 @@ fn codes_not_due(rng: &mut Rng) -> Vec<u8> {
         assemble::request(&[&for_loop(&[&rid(1, 0)], &[SORT, 1, BOOLEAN], &NOTHING)]),
         assemble::request(&[&two_clauses(BOOLEAN)]),
         assemble::request(&[&two_clauses(SORT)]),
+        assemble::request(&[&later_types()[rng.below(3)]]),
     ];
     let at = rng.below(requests.len());
     requests[at].clone()
+}
+
+/// Parts of a request with type 16 in a message and in a literal, which version 4 does not have.
+fn later_types() -> [Vec<u8>; 3] {
+    let literal = int64(0, 1);
+    [
+        message(0, &[&[SHORT, 0], &[INT64, 0]]),
+        condition(&operator(EQL, &[&literal, &literal])),
+        for_loop(&[&rid(1, 0)], &[&[SORT, 1, ASCENDING], &literal[..]].concat(), &NOTHING),
+    ]
 }
 
 /// An rse with one clause twice.
@@ -294,7 +305,8 @@ fn context_faults() -> Vec<Vec<u8>> {
 fn no_fit(rng: &mut Rng) -> Vec<u8> {
     let field = rng.pick(&[0, 1, 2]);
     let words = rng.pick(&[3, 4, 5]);
-    let (messages, statements) = fit_faults(field, words);
+    let (messages, mut statements) = fit_faults(field, words);
+    statements.extend(later_fields());
     one_of(rng, &messages, statements)
 }
 
@@ -330,6 +342,17 @@ fn fit_faults(field: u8, words: u8) -> Faults {
         for_house(&[&[MODIFY, 0, 1], &assignment(&letters, &fid(1, field))[..]].concat()),
     ];
     (messages, statements)
+}
+
+/// Statements of version 4 that name the field of type 16 of `house`.
+fn later_fields() -> Vec<Vec<u8>> {
+    let number = short(-1, 3);
+    vec![
+        condition(&operator(EQL, &[&number, &fid(0, 7)])),
+        condition(&operator(MISSING, &[&[FIELD, 0, 1, b'I']])),
+        for_loop(&[&rid(1, 0)], &[&[SORT, 1, ASCENDING], &fid(0, 7)[..]].concat(), &NOTHING),
+        for_house(&[&[MODIFY, 0, 1], &assignment(&number, &fid(1, 7))[..]].concat()),
+    ]
 }
 
 /// 14: contexts not of a for, wrong targets, conversations in updates, leaves outside labels.
@@ -377,6 +400,7 @@ pub fn written() -> Vec<Case> {
         (Vec::new(), context_faults()),
         fit_faults(1, 4),
         fit_faults(2, 3),
+        (Vec::new(), later_fields()),
         statement_faults(7),
     ];
     let mut cases = Vec::new();
@@ -384,6 +408,7 @@ pub fn written() -> Vec<Case> {
         let request = |statement: &Vec<u8>| assemble::request(&[messages, statement]);
         cases.extend(statements.iter().map(|statement| read(&house(), request(statement))));
     }
+    cases.extend(later_types().iter().map(|part| read(&house(), assemble::request(&[part]))));
     cases.extend(left_out_codes().iter().map(|part| read(&house(), assemble::request(&[part]))));
     cases
 }

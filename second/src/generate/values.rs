@@ -8,8 +8,8 @@ use crate::datatype::{DataType, Kind};
 use crate::decimal;
 use crate::reader::parsed::Role;
 use crate::wire::{
-    ADD, AND, BETWEEN, BOOLEANS, CONTAINING, DIVIDE, FID, FIELD, LITERAL, LONG, MATCHING, MISSING,
-    MULTIPLY, NEGATE, NOT, OR, PARAMETER, PARAMETER2, SHORT, STARTING, SUBTRACT, TEXT,
+    self, ADD, AND, BETWEEN, BOOLEANS, CONTAINING, DIVIDE, FID, FIELD, INT64, LITERAL, MATCHING,
+    MISSING, MULTIPLY, NEGATE, NOT, OR, PARAMETER, PARAMETER2, STARTING, SUBTRACT, TEXT, VERSION5,
 };
 
 /// A field or parameter that may be named.
@@ -32,10 +32,13 @@ impl Builder<'_> {
         }
     }
 
-    /// The fields of a context.
+    /// The fields of a context that the version may name.
     pub fn fields(&self, context: u8, relation: usize) -> Vec<Source> {
         let count = self.dictionary.relations[relation].fields.len();
-        (0..count).map(|field| Source::Field { context, relation, field }).collect()
+        let fields = (0..count).map(|field| Source::Field { context, relation, field });
+        let may_name =
+            |source: &Source| self.version == VERSION5 || self.data_type(*source).code != INT64;
+        fields.filter(may_name).collect()
     }
 
     /// The parameters of a message.
@@ -150,17 +153,14 @@ impl Builder<'_> {
             self.draft.raw(&text);
             return 0;
         }
-        let code = self.choose(Role::Literal, &[SHORT, LONG]);
-        let scale = dictionaries::scale(self.rng);
+        let mut codes = wire::literals(self.version).to_vec();
+        codes.retain(|code| *code != TEXT);
+        let code = self.choose(Role::Literal, &codes);
+        let scale = dictionaries::scale_of(self.rng, code);
         self.draft.code(Role::Literal, code);
         self.draft.byte(Mark::Scale, scale.to_le_bytes()[0]);
-        if code == SHORT {
-            let number = data::short(self.rng);
-            self.draft.raw(&number.to_le_bytes());
-        } else {
-            let number = data::long(self.rng);
-            self.draft.raw(&number.to_le_bytes());
-        }
+        let bytes = data::stored(self.rng, DataType::new(code, scale, 0), usize::MAX);
+        self.draft.raw(&bytes);
         scale
     }
 
@@ -169,13 +169,13 @@ impl Builder<'_> {
         let place = self.draft.code(Role::Value, code);
         let left = self.value(Kind::Number, level + 1);
         let right = self.value(Kind::Number, level + 1);
-        let scale = result_scale(code, left, right);
+        let scale = result_scale(self.version, code, left, right);
         if decimal::is_scale(i32::from(scale)) {
             return scale;
         }
         let other = self.rng.pick(&[ADD, SUBTRACT]);
         self.draft.bytes[place] = other;
-        result_scale(other, left, right)
+        result_scale(self.version, other, left, right)
     }
 
     /// A kind of which there are values, one in scope rather than another.
@@ -217,9 +217,10 @@ impl Builder<'_> {
 }
 
 /// The scale of an operator's result, in range or not.
-fn result_scale(code: u8, left: i8, right: i8) -> i8 {
+fn result_scale(version: u8, code: u8, left: i8, right: i8) -> i8 {
     match code {
         MULTIPLY => left + right,
+        DIVIDE if version == VERSION5 => left + right,
         DIVIDE => left - right,
         _ => left.min(right),
     }

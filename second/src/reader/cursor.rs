@@ -65,6 +65,12 @@ impl<'a> Cursor<'a> {
         Ok(u32::from_le_bytes([field[0], field[1], field[2], field[3]]))
     }
 
+    /// The next signed eight-byte number.
+    pub fn eight_bytes(&mut self) -> Result<i64, Refusal> {
+        let field = self.take(8)?;
+        Ok(wire::signed_eight_bytes(field, 0).expect("eight bytes"))
+    }
+
     /// A counted name as one field.
     pub fn counted_name(&mut self) -> Result<&'a [u8], Refusal> {
         let count = usize::from(self.peek()?);
@@ -82,11 +88,11 @@ impl<'a> Cursor<'a> {
         refuse(number, self.at)
     }
 
-    /// A scale byte from -9 to 0.
-    pub fn scale(&mut self) -> Result<i8, Refusal> {
+    /// The scale byte of a type.
+    pub fn scale(&mut self, code: u8) -> Result<i8, Refusal> {
         let place = self.at;
         let scale = wire::signed_byte(self.byte()?);
-        if !datatype::is_scale(scale) {
+        if !datatype::is_scale_of(code, scale) {
             return refuse(refusal::OUT_OF_RANGE, place);
         }
         Ok(scale)

@@ -8,7 +8,7 @@ use super::parsed::{Message, Role};
 use super::Reader;
 use crate::datatype::{self, DataType};
 use crate::refusal::{self, refuse, Refusal};
-use crate::wire::{DESCRIPTORS, LEFT_OUT_DESCRIPTORS, MESSAGE};
+use crate::wire::{self, LEFT_OUT_DESCRIPTORS, MESSAGE};
 
 /// Most messages.
 pub const MOST_MESSAGES: usize = 16;
@@ -61,8 +61,9 @@ impl Reader<'_> {
     /// One descriptor: type code, then its scale or its n, then the bytes of the message.
     fn descriptor(&mut self, message: &mut Message) -> Result<(), Refusal> {
         let place = self.cursor.place();
-        let code = self.cursor.code(&DESCRIPTORS, &LEFT_OUT_DESCRIPTORS)?;
-        let scale = if datatype::has_scale(code) { self.cursor.scale()? } else { 0 };
+        let due = wire::descriptors(self.parsed.version);
+        let code = self.cursor.code(due, &LEFT_OUT_DESCRIPTORS)?;
+        let scale = if datatype::has_scale(code) { self.cursor.scale(code)? } else { 0 };
         let n = if datatype::has_size(code) { self.cursor.text_size()? } else { 0 };
         message.parameters.push(DataType::new(code, scale, n));
         if message.length() > MOST_MESSAGE_BYTES {

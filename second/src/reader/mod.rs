@@ -2,7 +2,7 @@
 //!
 //! Document 01: "Acceptance gives the counts of rows and fills three lent tables of 32-bit numbers,
 //! the rest zero"; "Order: 1, 2, 3, then reading order"; "A refusal by the reader zeroes all lent
-//! tables of any length".
+//! tables of any length". Document 02, No. 8: "5 now for a first byte other than 4 or 5".
 
 /// Booleans and conditions.
 mod boolean;
@@ -25,7 +25,7 @@ mod value;
 
 use crate::dictionary::Dictionary;
 use crate::refusal::{self, refuse, Refusal};
-use crate::wire::{BEGIN, END, EOC, MESSAGE, VERSION4};
+use crate::wire::{BEGIN, END, EOC, MESSAGE, VERSION4, VERSION5};
 use cursor::Cursor;
 use parsed::Parsed;
 use scope::Scope;
@@ -88,7 +88,8 @@ struct Reader<'a> {
 impl Reader<'_> {
     /// Request: version, begin, messages, statements, end, eoc, nothing more.
     fn request(&mut self) -> Result<(), Refusal> {
-        if self.cursor.byte()? != VERSION4 {
+        self.parsed.version = self.cursor.byte()?;
+        if !matches!(self.parsed.version, VERSION4 | VERSION5) {
             return refuse(refusal::WRONG_VERSION, 0);
         }
         let place = self.cursor.place();

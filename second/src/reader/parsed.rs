@@ -121,6 +121,8 @@ pub enum Role {
 /// An accepted request.
 #[derive(Clone, Debug, Default)]
 pub struct Parsed {
+    /// 4 or 5.
+    pub version: u8,
     pub statements: Vec<Statement>,
     pub messages: Vec<Message>,
     pub contexts: Vec<Context>,

@@ -13,8 +13,8 @@ use crate::wire::{
 };
 
 impl Reader<'_> {
-    /// The rse of a for with its row; its values and its boolean are at `level`. Gives the number of
-    /// streams, whose contexts are left in scope.
+    /// The rse of a for with its row; its values and its boolean are at `level`. Gives the number
+    /// of streams, whose contexts are left in scope.
     pub fn rse(&mut self, row: usize, level: usize) -> Result<usize, Refusal> {
         self.due(RSE)?;
         let count = self.cursor.count()?;

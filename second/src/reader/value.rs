@@ -6,15 +6,18 @@
 //! or at 41. "A field target names the context of the nearest enclosing modify or store; a
 //! parameter target stands inside a send of its message": 14 at the assignment, after the tests of
 //! the ctx or message byte.
+//!
+//! Document 02, No. 8: "a type 16 field may stand in a dictionary but a version 4 request that names
+//! it gets 13 at the field code"; in version 5 "a quotient has the sum of the two scales".
 
 use super::parsed::{Form, Role, Shape, Value};
 use super::Reader;
-use crate::datatype::Kind;
+use crate::datatype::{self, Kind};
 use crate::decimal;
 use crate::refusal::{self, refuse, Refusal};
 use crate::wire::{
-    self, ADD, FID, FIELD, LEFT_OUT_LITERALS, LEFT_OUT_VALUES, LITERAL, LITERALS, LONG, MULTIPLY,
-    NEGATE, PARAMETER, PARAMETER2, SHORT, SUBTRACT, TARGETS, VALUES,
+    self, ADD, FID, FIELD, INT64, LEFT_OUT_LITERALS, LEFT_OUT_VALUES, LITERAL, LONG, MULTIPLY,
+    NEGATE, PARAMETER, PARAMETER2, SHORT, SUBTRACT, TARGETS, VALUES, VERSION5,
 };
 
 const TEXT_SHAPE: Shape = Shape { kind: Kind::Text, scale: 0 };
@@ -48,19 +51,12 @@ impl Reader<'_> {
 
     /// The type and bytes of a literal.
     fn literal(&mut self, place: usize) -> Result<Value, Refusal> {
-        let code = self.cursor.code(&LITERALS, &LEFT_OUT_LITERALS)?;
+        let code = self.cursor.code(wire::literals(self.parsed.version), &LEFT_OUT_LITERALS)?;
         self.note(Role::Literal, code);
-        if code == SHORT {
-            let scale = self.cursor.scale()?;
-            let value = wire::signed_word(self.cursor.word()?);
-            let form = Form::Number(i64::from(value));
-            return Ok(Value { place, shape: number(scale), form });
-        }
-        if code == LONG {
-            let scale = self.cursor.scale()?;
-            let value = wire::signed_four_bytes(self.cursor.four_bytes()?);
-            let form = Form::Number(i64::from(value));
-            return Ok(Value { place, shape: number(scale), form });
+        if datatype::has_scale(code) {
+            let shape = number(self.cursor.scale(code)?);
+            let form = Form::Number(self.literal_number(code)?);
+            return Ok(Value { place, shape, form });
         }
         let n = self.cursor.text_size()?;
         let start = self.cursor.place();
@@ -69,7 +65,17 @@ impl Reader<'_> {
         Ok(Value { place, shape: TEXT_SHAPE, form })
     }
 
-    /// The name or id of a field: 12 at its count byte or its word.
+    /// The bytes of a number literal.
+    fn literal_number(&mut self, code: u8) -> Result<i64, Refusal> {
+        match code {
+            SHORT => Ok(i64::from(wire::signed_word(self.cursor.word()?))),
+            LONG => Ok(i64::from(wire::signed_four_bytes(self.cursor.four_bytes()?))),
+            _ => self.cursor.eight_bytes(),
+        }
+    }
+
+    /// The name or id of a field: 12 at its count byte or its word; 13 at the field's code if the
+    /// version has no such type.
     fn field(&mut self, place: usize, code: u8, context: usize) -> Result<Value, Refusal> {
         let relation = &self.dictionary.relations[self.parsed.contexts[context].relation];
         let field_place = self.cursor.place();
@@ -78,12 +84,20 @@ impl Reader<'_> {
             _ => relation.field_by_id(self.cursor.word()?),
         };
         match found {
+            Some(field) if !self.has_type(relation.fields[field].data.code) => {
+                refuse(refusal::NO_FIT, place)
+            }
             Some(field) => {
                 let shape = Shape::of(relation.fields[field].data);
                 Ok(Value { place, shape, form: Form::Field { context, field } })
             }
             None => refuse(refusal::UNKNOWN_NAME, field_place),
         }
+    }
+
+    /// Whether the request's version has a type of fields.
+    fn has_type(&self, code: u8) -> bool {
+        code != INT64 || self.parsed.version == VERSION5
     }
 
     /// The word of a parameter and, for parameter2, that of its flag.
@@ -119,7 +133,7 @@ impl Reader<'_> {
     fn arithmetic(&mut self, place: usize, code: u8, level: usize) -> Result<Value, Refusal> {
         let left = self.value(level + 1)?;
         let right = self.value(level + 1)?;
-        match result_scale(code, left.shape, right.shape) {
+        match result_scale(self.parsed.version, code, left.shape, right.shape) {
             Some(scale) => {
                 let form = Form::Arithmetic(code, Box::new([left, right]));
                 Ok(Value { place, shape: number(scale), form })
@@ -150,7 +164,7 @@ impl Reader<'_> {
 }
 
 /// The scale of an operator's result, or nothing if the operands don't fit.
-fn result_scale(code: u8, left: Shape, right: Shape) -> Option<i8> {
+fn result_scale(version: u8, code: u8, left: Shape, right: Shape) -> Option<i8> {
     if left.kind != Kind::Number || right.kind != Kind::Number {
         return None;
     }
@@ -158,6 +172,7 @@ fn result_scale(code: u8, left: Shape, right: Shape) -> Option<i8> {
     let scale = match code {
         ADD | SUBTRACT => first.min(second),
         MULTIPLY => first + second,
+        _ if version == VERSION5 => first + second,
         _ => first - second,
     };
     i8::try_from(scale).ok().filter(|_| decimal::is_scale(scale))

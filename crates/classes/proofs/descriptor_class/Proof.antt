@@ -10,7 +10,7 @@ use Rattle.classes.proofs.descriptor_class.Statement.{statement}
 use Rattle.classes.proofs.descriptor_class.Tie as tie
 
 abbrev arms : List (List ℕ)
-arms = each (blr.short ∷ blr.long ∷ blr.date ∷ blr.text ∷ blr.varying ∷ blr.cstring ∷ []) ((blr.double ∷ []) ∷ [])
+arms = each (blr.short ∷ blr.long ∷ blr.int64 ∷ blr.date ∷ blr.text ∷ blr.varying ∷ blr.cstring ∷ []) ((blr.double ∷ []) ∷ [])
 
 returns : tie.Need-returns
 unfolding descriptorClass classify
@@ -37,20 +37,24 @@ unfolding descriptorClass classify
 returns-6 c = ap descriptorClass (sym (c .match .keys6))
 
 returns-7 : tie.Need-returns-7
-unfolding descriptorClass classify among anyOf
-returns-7 c = between foreign descriptorClass [] 0 7 refl (c .before .before .args .code) tt (search needs) (search needs)
+unfolding descriptorClass classify
+returns-7 c = ap descriptorClass (sym (c .match .keys7))
 
 returns-8 : tie.Need-returns-8
 unfolding descriptorClass classify among anyOf
-returns-8 c = between foreign descriptorClass arms 12 256 refl _ (c .before .before .match .rest) (search needs) (search needs)
+returns-8 c = between foreign descriptorClass [] 0 7 refl (c .before .before .args .code) tt (search needs) (search needs)
 
 returns-9 : tie.Need-returns-9
 unfolding descriptorClass classify among anyOf
-returns-9 c = at-key leftOut descriptorClass (blr.double ∷ []) refl _ (c .match .keys7)
+returns-9 c = between foreign descriptorClass arms 12 256 refl _ (c .before .before .match .rest) (search needs) (search needs)
 
 returns-10 : tie.Need-returns-10
 unfolding descriptorClass classify among anyOf
-returns-10 c = between leftOut descriptorClass arms 7 12 refl _ (c .before .before .match .rest) (search needs) (search needs)
+returns-10 c = at-key leftOut descriptorClass (blr.double ∷ []) refl _ (c .match .keys8)
+
+returns-11 : tie.Need-returns-11
+unfolding descriptorClass classify among anyOf
+returns-11 c = between leftOut descriptorClass arms 7 12 refl _ (c .before .before .match .rest) (search needs) (search needs)
 
 pub descriptor-class-spec : {M : Type 1} → statement M
 descriptor-class-spec =
@@ -65,4 +69,5 @@ descriptor-class-spec =
     returns-7
     returns-8
     returns-9
-    returns-10)
+    returns-10
+    returns-11)

@@ -10,7 +10,7 @@ use Rattle.classes.proofs.field_class.Statement.{statement}
 use Rattle.classes.proofs.field_class.Tie as tie
 
 abbrev arms : List (List ℕ)
-arms = each (blr.short ∷ blr.long ∷ blr.date ∷ blr.text ∷ blr.varying ∷ blr.cstring ∷ blr.house-reading ∷ []) []
+arms = each (blr.short ∷ blr.long ∷ blr.int64 ∷ blr.date ∷ blr.text ∷ blr.varying ∷ blr.cstring ∷ blr.house-reading ∷ []) []
 
 returns : tie.Need-returns
 unfolding fieldClass classify
@@ -41,8 +41,12 @@ unfolding fieldClass classify
 returns-7 c = ap fieldClass (sym (c .match .keys7))
 
 returns-8 : tie.Need-returns-8
+unfolding fieldClass classify
+returns-8 c = ap fieldClass (sym (c .match .keys8))
+
+returns-9 : tie.Need-returns-9
 unfolding fieldClass classify among anyOf
-returns-8 c = between foreign fieldClass arms 0 256 refl _ (c .match .rest) (search needs) (search needs)
+returns-9 c = between foreign fieldClass arms 0 256 refl _ (c .match .rest) (search needs) (search needs)
 
 pub field-class-spec : {M : Type 1} → statement M
-field-class-spec = tie.close (tie.spec returns returns-2 returns-3 returns-4 returns-5 returns-6 returns-7 returns-8)
+field-class-spec = tie.close (tie.spec returns returns-2 returns-3 returns-4 returns-5 returns-6 returns-7 returns-8 returns-9)

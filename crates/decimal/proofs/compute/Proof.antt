@@ -25,8 +25,17 @@ multiply-requires c κs = search needs
 enum-told-4 : tie.Need-enum-told-4
 enum-told-4 c = search needs
 
+enum-told-5 : tie.Need-enum-told-5
+enum-told-5 c = search needs
+
 divide-requires : tie.Need-divide-requires
 divide-requires c κs = search needs
+
+enum-told-6 : tie.Need-enum-told-6
+enum-told-6 c = search needs
+
+divide5-requires : tie.Need-divide5-requires
+divide5-requires c κs = search needs
 
 returns : tie.Need-returns
 unfolding computed
@@ -42,7 +51,17 @@ returns-3 c = rw (c .before .enum-told3 .given .1) (c .multiply .ensures)
 
 returns-4 : tie.Need-returns-4
 unfolding computed
-returns-4 c = rw (c .before .enum-told4 .given .1) (c .divide .ensures)
+returns-4 c =
+    let enum-told4′ = c .before .before .before .enum-told4 in
+    let enum-told5′ = c .before .enum-told5 in
+    rw (enum-told4′ .given .1, enum-told5′ .given .1) (c .divide .ensures)
+
+returns-5 : tie.Need-returns-5
+unfolding computed
+returns-5 c =
+    let enum-told4′ = c .before .before .before .enum-told4 in
+    let enum-told6′ = c .before .enum-told6 in
+    rw (enum-told4′ .given .1, enum-told6′ .given .1) (c .divide5 .ensures)
 
 pub compute-spec : {M : Type 1} → statement M
 compute-spec =
@@ -55,8 +74,12 @@ compute-spec =
     enum-told-3
     multiply-requires
     enum-told-4
+    enum-told-5
     divide-requires
+    enum-told-6
+    divide5-requires
     returns
     returns-2
     returns-3
-    returns-4)
+    returns-4
+    returns-5)

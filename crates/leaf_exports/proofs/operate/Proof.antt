@@ -3,6 +3,7 @@ use mathlib.Core.Path.{ap, _∙_}
 use borrow.Author.Needs.{needs}
 use borrow.Author.Tests.{lt-ltb, le-ltb, eq-eqb, ne-eqb}
 use mir.Facts.{toZ-ofZ}
+use Rattle.wire.specs.declared.codes.Version.the-variants.{Version4}
 use Rattle.wire.specs.declared.codes.Operator.{Operator}
 use Rattle.decimal.specs.Number.{computed}
 use Rattle.leaf_exports.specs.Exports.{operation}
@@ -23,7 +24,7 @@ returns c =
     let parts = rw (toZ-ofZ (fits′ .a), toZ-ofZ (fits′ .a-scale), toZ-ofZ (fits′ .b), toZ-ofZ (fits′ .b-scale)) at (c .compute .ensures) in
     rw (lt-ltb (args′ .o) 4 (c .before .before .if1 .taken))
     (parts
-    ∙ ap (λ (o : Operator). computed o (record { value = args′ .a; scale = args′ .a-scale }) (record { value = args′ .b; scale = args′ .b-scale }))
+    ∙ ap (λ (o : Operator). computed Version4 o (record { value = args′ .a; scale = args′ .a-scale }) (record { value = args′ .b; scale = args′ .b-scale }))
     (c .before .operator-of .ensures))
 
 negate-requires : tie.Need-negate-requires
@@ -37,15 +38,35 @@ returns-2 c =
     rw (le-ltb (args′ .o) 4 (c .before .before .if1 .left), eq-eqb (args′ .o) 4 (c .before .if2 .taken))
     (rw (toZ-ofZ (fits′ .a), toZ-ofZ (fits′ .a-scale)) at (c .negate .ensures))
 
-rescale-requires : tie.Need-rescale-requires
-rescale-requires c κs = search needs
+compute-requires-2 : tie.Need-compute-requires-2
+compute-requires-2 c κs = search needs
 
 returns-3 : tie.Need-returns-3
 unfolding operation
 returns-3 c =
-    let args′ = c .before .before .before .args in
-    let fits′ = c .before .before .before .fits in
-    rw (le-ltb (args′ .o) 4 (c .before .before .if1 .left), ne-eqb (args′ .o) 4 (c .before .if2 .left))
+    let args′ = c .before .before .before .before .args in
+    let fits′ = c .before .before .before .before .fits in
+    let parts = rw (toZ-ofZ (fits′ .a), toZ-ofZ (fits′ .a-scale), toZ-ofZ (fits′ .b), toZ-ofZ (fits′ .b-scale)) at (c .compute2 .ensures) in
+    rw (
+      le-ltb (args′ .o) 4 (c .before .before .before .if1 .left),
+      ne-eqb (args′ .o) 4 (c .before .before .if2 .left),
+      eq-eqb (args′ .o) 6 (c .before .if3 .taken),
+    )
+    parts
+
+rescale-requires : tie.Need-rescale-requires
+rescale-requires c κs = search needs
+
+returns-4 : tie.Need-returns-4
+unfolding operation
+returns-4 c =
+    let args′ = c .before .before .before .before .args in
+    let fits′ = c .before .before .before .before .fits in
+    rw (
+      le-ltb (args′ .o) 4 (c .before .before .before .if1 .left),
+      ne-eqb (args′ .o) 4 (c .before .before .if2 .left),
+      ne-eqb (args′ .o) 6 (c .before .if3 .left),
+    )
     (rw (toZ-ofZ (fits′ .a), toZ-ofZ (fits′ .a-scale), toZ-ofZ (fits′ .b-scale)) at (c .rescale .ensures))
 
 pub operate-spec : {M : Type 1} → statement M
@@ -57,5 +78,7 @@ operate-spec =
     returns
     negate-requires
     returns-2
+    compute-requires-2
+    returns-3
     rescale-requires
-    returns-3)
+    returns-4)

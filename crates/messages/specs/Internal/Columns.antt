@@ -1,4 +1,5 @@
--- The columns of the array that messages are kept in: two counts, three lists of 16 numbers, and a list of 256.
+-- The columns of the array that messages are kept in: two counts, three lists of 16 numbers, a list of 256, and
+-- the version of the request.
 use Prim.Native.Nat.{ℕ}
 
 abbrev pub messageCount : ℕ
@@ -19,5 +20,8 @@ firstsFrom = 34
 abbrev pub descriptorsFrom : ℕ
 descriptorsFrom = 50
 
+abbrev pub versionAt : ℕ
+versionAt = 306
+
 abbrev pub aroundNumbers : ℕ
-aroundNumbers = 306
+aroundNumbers = 307

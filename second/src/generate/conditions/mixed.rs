@@ -1,6 +1,8 @@
 //! Conditions at random over few values, which are edges more often than not.
 
-use super::sheet::{cstring, date, long, reading, short, text, varying, Sheet, Stored, Where};
+use super::sheet::{
+    cstring, date, int64, long, reading, short, text, varying, Sheet, Stored, Where,
+};
 use super::texts::SEARCHES;
 use super::COMPARISONS;
 use crate::datatype::Kind;
@@ -18,7 +20,8 @@ struct Maker<'a> {
 
 /// A condition over values of few fields and parameters. Its scales may not fit.
 pub fn condition(rng: &mut Rng) -> Case {
-    let mut maker = Maker { rng, sheet: Sheet::default() };
+    let sheet = if rng.one_in(2) { Sheet::default() } else { Sheet::version_5() };
+    let mut maker = Maker { rng, sheet };
     let boolean = maker.boolean(2);
     maker.sheet.case(&boolean)
 }
@@ -84,8 +87,12 @@ impl Maker<'_> {
         self.sheet.value(place, &stored, missing)
     }
 
-    /// A short, a long, or in a field a reading.
+    /// A short, a long, in a field a reading, or in version 5 a 64-bit integer.
     fn number(&mut self, place: Where) -> Stored {
+        if self.sheet.is_version_5() && self.rng.one_in(3) {
+            let scale = self.rng.pick(&[0, 0, -1, -9, -10, -18]);
+            return int64(scale, data::int64(self.rng));
+        }
         let scale = self.rng.pick(&[0, 0, 0, -1, -2, -9]);
         match self.rng.below(5) {
             0 | 1 => short(scale, data::short(self.rng)),

@@ -24,6 +24,8 @@ mod numbers;
 mod sheet;
 /// Texts.
 mod texts;
+/// Version 5: 64-bit integers and its quotients.
+mod wide;
 
 use super::evaluations::{outcome, Outcome};
 use super::rng::Rng;
@@ -75,6 +77,12 @@ pub fn written() -> Vec<Case> {
 
 /// The families of conditions written by hand.
 fn families() -> Vec<Vec<Case>> {
+    let parts = [tests_of_values(), missing_values(), places(), later()];
+    parts.into_iter().flatten().collect()
+}
+
+/// And, or, not, and tests of values that are there.
+fn tests_of_values() -> Vec<Vec<Case>> {
     vec![
         logic::tables(),
         logic::refusals(),
@@ -94,6 +102,12 @@ fn families() -> Vec<Vec<Case>> {
         texts::stored(),
         texts::order(),
         texts::searches(),
+    ]
+}
+
+/// Missing values and their causes.
+fn missing_values() -> Vec<Vec<Case>> {
+    vec![
         absent::tests(),
         absent::arithmetic(),
         absent::missing_tests(),
@@ -107,6 +121,12 @@ fn families() -> Vec<Vec<Case>> {
         causes::betweens(),
         causes::logic(),
         causes::settled(),
+    ]
+}
+
+/// Where things stand.
+fn places() -> Vec<Vec<Case>> {
+    vec![
         layout::streams(),
         layout::contexts(),
         layout::names(),
@@ -116,6 +136,11 @@ fn families() -> Vec<Vec<Case>> {
         layout::inside(),
         layout::places(),
     ]
+}
+
+/// What document 02 adds.
+fn later() -> Vec<Vec<Case>> {
+    vec![wide::stored(), wide::beside(), wide::quotients(), wide::both_versions()]
 }
 
 /// The condition at random of a seed with an index, of the outcome whose turn it is.

@@ -6,7 +6,8 @@ use crate::generate::assemble::{self, fid, message, parameter, NOTHING};
 use crate::generate::dictionaries;
 use crate::generate::Case;
 use crate::wire::{
-    CSTRING, DATE, END, IF, LITERAL, LONG, PARAMETER2, READING, SHORT, TEXT, VARYING,
+    CSTRING, DATE, END, IF, INT64, LITERAL, LONG, PARAMETER2, READING, SHORT, TEXT, VARYING,
+    VERSION4, VERSION5,
 };
 
 /// The bytes of a field, a parameter or a literal, with their type.
@@ -47,6 +48,11 @@ pub fn short(scale: i8, number: i16) -> Stored {
 /// A long.
 pub fn long(scale: i8, number: i32) -> Stored {
     Stored::new(LONG, scale, &number.to_le_bytes())
+}
+
+/// A 64-bit integer, of version 5.
+pub fn int64(scale: i8, number: i64) -> Stored {
+    Stored::new(INT64, scale, &number.to_le_bytes())
 }
 
 /// A reading.
@@ -91,11 +97,22 @@ pub type FieldValue = (Stored, bool);
 /// The fields of one relation and the parameters of one message, as a condition needs them.
 #[derive(Clone, Debug, Default)]
 pub struct Sheet {
+    is_version_5: bool,
     fields: Vec<FieldValue>,
     parameters: Vec<Stored>,
 }
 
 impl Sheet {
+    /// A sheet whose request is of version 5.
+    pub fn version_5() -> Sheet {
+        Sheet { is_version_5: true, ..Sheet::default() }
+    }
+
+    /// Whether the request is of version 5.
+    pub fn is_version_5(&self) -> bool {
+        self.is_version_5
+    }
+
     /// A value that is there; gives what names it.
     pub fn there(&mut self, place: Where, stored: &Stored) -> Vec<u8> {
         match place {
@@ -158,10 +175,11 @@ impl Sheet {
             false => vec![relation(1, &self.fields)],
         };
         let records = relations.iter().map(|relation| record(relation, &self.fields));
+        let version = if self.is_version_5 { VERSION5 } else { VERSION4 };
         Case::Evaluate {
             records: records.collect::<Vec<_>>().concat(),
             dictionary: dictionaries::encode(&Dictionary { relations }),
-            request: assemble::request(&[&declared, &statement]),
+            request: assemble::request_of(version, &[&declared, &statement]),
             condition: 0,
             messages: self.parameters.iter().flat_map(|stored| stored.bytes.clone()).collect(),
         }

@@ -18,6 +18,7 @@ use Rattle.evaluator.proofs.operands.value_under.Reads as value-under
 use Rattle.evaluator.proofs.operands.value_under.Kinds as value-under-kinds
 use Rattle.evaluator.proofs.operands.+operation+value_after+value_at+value_under.Lts-value_under as value-under-lts
 use Rattle.classes.proofs.value_class.Reads as value-class-reads
+use Rattle.classes.proofs.version_of.Reads as version-of-reads
 use Rattle.evaluator.proofs.forms.value_form.Reads as value-form-reads
 use Rattle.evaluator.proofs.places.place_after.Reads as place-after-reads
 use Rattle.inputs.proofs.literals.literal.Reads as literal-reads
@@ -72,6 +73,10 @@ operation-calls t = (
   value-at.Post,
   value-after-below t,
   value-after.Post,
+  byte-at-reads.Asked,
+  byte-at-reads.Learnt,
+  version-of-reads.Asked,
+  version-of-reads.Learnt,
   arithmetic-reads.Asked,
   arithmetic-reads.Learnt,
   negation-reads.Asked,
@@ -123,6 +128,12 @@ operation-value-after-requires : (t : ℕ) → operation-lts.Need-value-after-re
 operation-value-after-requires t c κs = search needs
 
 -- src/operands.rt:150:13
+operation-byte-at-requires : (t : ℕ) → operation-lts.Need-byte-at-requires (operation-calls t) (operation-at t) operation.Post
+operation-byte-at-requires t c κs = search needs
+
+operation-version-of-requires : (t : ℕ) → operation-lts.Need-version-of-requires (operation-calls t) (operation-at t) operation.Post
+operation-version-of-requires t c κs = search needs
+
 operation-arithmetic-requires : (t : ℕ) → operation-lts.Need-arithmetic-requires (operation-calls t) (operation-at t) operation.Post
 operation-arithmetic-requires t c κs = search needs
 
@@ -137,12 +148,15 @@ operation-negation-requires t c κs = search needs
 -- src/operands.rt:109:1
 operation-returns : (t : ℕ) → operation-lts.Need-returns (operation-calls t) (operation-at t) operation.Post
 operation-returns t c =
-    let place-after′ = c .before .before .before .before .before .before .place-after in
-    let value-at′ = c .before .before .before .before .before .value-at in
-    let code′ = c .before .before .before .code in
-    let value-after′ = c .before .value-after in
+    let place-after′ = c .before .before .before .before .before .before .before .before .place-after in
+    let value-at′ = c .before .before .before .before .before .before .before .value-at in
+    let code′ = c .before .before .before .before .before .code in
+    let value-after′ = c .before .before .before .value-after in
+    let byte-at′ = c .before .before .byte-at in
+    let version-of′ = c .before .version-of in
     let arithmetic′ = c .arithmetic in
-    arithmetic-is _ _ _ _ (place-after′ .ensures) (value-at′ .ensures) (code′ .given .1) (value-after′ .ensures) (arithmetic′ .ensures _)
+    arithmetic-is _ _ _ _ (place-after′ .ensures) (value-at′ .ensures) (code′ .given .1) (value-after′ .ensures) (byte-at′ .ensures)
+    (version-of′ .ensures) (arithmetic′ .ensures _)
 
 -- src/operands.rt:109:1
 operation-returns-2 : (t : ℕ) → operation-lts.Need-returns-2 (operation-calls t) (operation-at t) operation.Post
@@ -315,6 +329,8 @@ pub +operation+value-after+value-at+value-under-spec : {M : Type 1} → statemen
     (operation-value-at-requires t)
     (operation-enum-known-code t)
     (operation-value-after-requires t)
+    (operation-byte-at-requires t)
+    (operation-version-of-requires t)
     (operation-arithmetic-requires t)
     (operation-enum-told t)
     (operation-negation-requires t)

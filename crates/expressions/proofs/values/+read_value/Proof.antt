@@ -1,4 +1,5 @@
 use borrow.Author.Needs.{needs}
+use Rattle.references.specs.Promises.{environmentOf}
 use Rattle.expressions.proofs.Codes.{value-level, value-falls}
 use Rattle.expressions.proofs.ValueLaws.{literal-wrote, reference-wrote, negate-stopped, negate-wrote, first-stopped, second-stopped, arithmetic-wrote, value-refused}
 use Prim.Native.Nat.{ℕ, _<_}
@@ -10,6 +11,7 @@ use Rattle.expressions.proofs.values.+read_value.Lts-read_value as read
 use Rattle.expressions.proofs.fits.arithmetic.Reads as arithmetic-reads
 use Rattle.expressions.proofs.fits.negation.Reads as negation-reads
 use Rattle.expressions.proofs.heads.value_at.Reads as value-at-reads
+use Rattle.messages.proofs.declared.version.Reads as version-reads
 use Rattle.references.proofs.literal.read_literal.Reads as read-literal-reads
 use Rattle.references.proofs.reference.read_reference.Reads as read-reference-reads
 use Rattle.expressions.proofs.values.+read_value.{statement}
@@ -30,6 +32,8 @@ abbrev calls : ℕ → read-value-lts.Claims
 calls t = (
   value-at-reads.Asked,
   value-at-reads.Learnt,
+  version-reads.Asked,
+  version-reads.Learnt,
   read-literal-reads.Asked,
   read-literal-reads.Learnt,
   read-reference-reads.Asked,
@@ -51,12 +55,18 @@ returns-2 t c =
     search (second-stopped, value-at′ .ensures, k′ .given .1, k3′ .given .1, shared-slice-known′ .given)
 
 returns-6 : (t : ℕ) → read-value-lts.Need-returns-6 (calls t) (at t) read-value.Post
+unfolding environmentOf
 returns-6 t c =
-    let value-at′ = c .before .before .before .before .before .before .before .before .before .before .before .before .before .before .before .before .before .before .before .before .before .value-at in
-    let k′ = c .before .before .before .before .before .before .before .before .before .before .before .before .before .before .before .before .before .before .before .k in
-    let k3′ = c .before .before .before .before .before .before .before .before .before .before .before .before .before .before .before .before .k3 in
-    let shared-slice-known′ = c .before .before .before .before .before .before .before .before .before .before .before .before .before .before .before .before .before .before .before .before .before .before .before .before .shared-slice-known in
-    search (arithmetic-wrote, value-at′ .ensures, k′ .given .1, k3′ .given .1, shared-slice-known′ .given)
+    let version2′ = c .before .version2 in
+    let value-at′ = c .before .before .before .before .before .before .before .before .before .before .before .before .before .before .before .before .before .before .before .before .before .before .value-at in
+    let k′ = c .before .before .before .before .before .before .before .before .before .before .before .before .before .before .before .before .before .before .before .before .k in
+    let k3′ = c .before .before .before .before .before .before .before .before .before .before .before .before .before .before .before .before .before .k3 in
+    let shared-slice-known′ = c .before .before .before .before .before .before .before .before .before .before .before .before .before .before .before .before .before .before .before .before .before .before .before .before .before .shared-slice-known in
+    search (arithmetic-wrote, version2′ .ensures, value-at′ .ensures, k′ .given .1, k3′ .given .1, shared-slice-known′ .given)
+
+returns-4 : (t : ℕ) → read-value-lts.Need-returns-4 (calls t) (at t) read-value.Post
+unfolding environmentOf
+returns-4 t c = search (literal-wrote, c .before .version .ensures)
 
 pub +read-value-spec : {M : Type 1} → statement M
 +read-value-spec = close μ-read-value λ t. read-value-lts.spec
@@ -66,6 +76,7 @@ pub +read-value-spec : {M : Type 1} → statement M
     (λ c κs. search needs)
     (λ c. search needs)
     (λ c. search needs)
+    (λ c κs. search needs)
     (λ c κs. search needs)
     (λ c. search needs)
     (λ c κs. search needs)
@@ -82,6 +93,7 @@ pub +read-value-spec : {M : Type 1} → statement M
     (λ c. search needs)
     (returns-2 t)
     (λ c κs. search needs)
+    (λ c κs. search needs)
     (λ c. search needs)
     (λ c. search value-level)
     (λ c κs. search (needs, value-falls))
@@ -91,7 +103,7 @@ pub +read-value-spec : {M : Type 1} → statement M
     (λ c. search negate-stopped)
     (λ c κs. search needs)
     (λ c. search needs)
-    (λ c. search literal-wrote)
+    (returns-4 t)
     (λ c. search reference-wrote)
     (λ c. search needs)
     (returns-6 t)

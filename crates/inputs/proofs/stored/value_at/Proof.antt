@@ -16,8 +16,8 @@ plain-at-requires c κs = search needs
 enum-told : tie.Need-enum-told
 enum-told c = search needs
 
-number-at-requires : tie.Need-number-at-requires
-number-at-requires c κs = search needs
+reading-at-requires : tie.Need-reading-at-requires
+reading-at-requires c κs = search needs
 
 returns : tie.Need-returns
 unfolding valueAt
@@ -30,10 +30,10 @@ returns-2 : tie.Need-returns-2
 unfolding valueAt
 returns-2 c m e =
     let enum-told′ = c .before .enum-told in
-    let number-at′ = c .number-at in
-    rw (enum-told′ .given .1) (ap (λ (x : Number). value (number x)) (number-at′ .ensures))
+    let reading-at′ = c .reading-at in
+    rw (enum-told′ .given .1) (ap (λ (x : Number). value (number x)) (reading-at′ .ensures))
 
 pub value-at-spec : {M : Type 1} → statement M
 value-at-spec =
     tie.close
-    (tie.spec enum-known-t plain-at-requires enum-told number-at-requires returns returns-2)
+    (tie.spec enum-known-t plain-at-requires enum-told reading-at-requires returns returns-2)

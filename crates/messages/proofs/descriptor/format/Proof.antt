@@ -52,7 +52,7 @@ returns c =
     rw (
       t′ .given .1,
       descriptorUnder,
-      byte-read (scaleByte (args′ .request .now) (args′ .c))
+      byte-read (scaleByte (t′ .given .0 .0) (args′ .request .now) (args′ .c))
           (sym (scale′ .given .1) ∙ scale-byte′ .ensures),
       width-bytes′ .ensures,
     )
@@ -67,7 +67,7 @@ returns-2 c =
     rw (
       t′ .given .1,
       descriptorUnder,
-      byte-refused (scaleByte (args′ .request .now) (args′ .c))
+      byte-refused (scaleByte (t′ .given .0 .0) (args′ .request .now) (args′ .c))
           (sym (r′ .given .1) ∙ scale-byte′ .ensures),
     )
 

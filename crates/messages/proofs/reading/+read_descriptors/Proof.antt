@@ -57,7 +57,7 @@ returns : (t : ℕ) → read-descriptors-lts.Need-returns (callees t) (read-desc
 returns t c =
     let args′ = c .before .before .before .args in
     let if1′ = c .if1 in
-    none-described (args′ .x) (args′ .request .now) (args′ .c) (args′ .table .now) (args′ .around .now) (args′ .left) (if1′ .taken)
+    none-described (args′ .v) (args′ .x) (args′ .request .now) (args′ .c) (args′ .table .now) (args′ .around .now) (args′ .left) (if1′ .taken)
 
 read-descriptor-requires : (t : ℕ) →
     read-descriptors-lts.Need-read-descriptor-requires (callees t) (read-descriptors-at t) read-descriptors.Post
@@ -74,9 +74,9 @@ bounds t c =
     let args′ = c .before .before .before .before .before .before .before .args in
     let code′ = c .before .code in
     let read-descriptor′ = c .before .before .before .read-descriptor in
-    let d = descriptor-read (descriptor (args′ .x .offset) (args′ .request .now) (args′ .c))
+    let d = descriptor-read (descriptor (args′ .v) (args′ .x .offset) (args′ .request .now) (args′ .c))
     (sym (code′ .given .1) ∙ read-descriptor′ .ensures) in
-    (omega arith, omega arith, omega (arith, d .4, descriptor-fits (args′ .x .offset) (args′ .request .now) (args′ .c) (d .1)))
+    (omega arith, omega arith, omega (arith, d .4, descriptor-fits (args′ .v) (args′ .x .offset) (args′ .request .now) (args′ .c) (d .1)))
 
 put-row-requires : (t : ℕ) → read-descriptors-lts.Need-put-row-requires (callees t) (read-descriptors-at t) read-descriptors.Post
 put-row-requires t c κs = let b = bounds t (c .before) in (omega arith, (omega arith, (omega arith, omega arith)))
@@ -134,9 +134,9 @@ returns-2 t c =
     let put-descriptor′ = c .before .before .before .before .before .before .put-descriptor in
     let parameter-after′ = c .before .before .before .parameter-after in
     let read-descriptors′ = c .before .before .read-descriptors in
-    let d = descriptor-read (descriptor (args′ .x .offset) (args′ .request .now) (args′ .c))
+    let d = descriptor-read (descriptor (args′ .v) (args′ .x .offset) (args′ .request .now) (args′ .c))
     (sym (code′ .given .1) ∙ read-descriptor′ .ensures) in
-    descriptors-read (args′ .x) (args′ .request .now) (args′ .c) (args′ .table .now) (args′ .around .now) (args′ .left) (if1′ .left)
+    descriptors-read (args′ .v) (args′ .x) (args′ .request .now) (args′ .c) (args′ .table .now) (args′ .around .now) (args′ .left) (if1′ .left)
     (d .1) (d .2) (d .3) (d .4) (known-told′ .given .1 .0 .1) (omega arith) (pre′ .1 .1 .1 .1)
     (put-row′ .ensures) (put-descriptor′ .ensures) (parameter-after′ .ensures) (read-descriptors′ .ensures)
 
@@ -146,9 +146,9 @@ returns-3 t c =
     let r′ = c .before .r in
     let read-descriptor′ = c .before .before .before .read-descriptor in
     let if1′ = c .before .before .before .before .if1 in
-    let e = descriptor-refused (descriptor (args′ .x .offset) (args′ .request .now) (args′ .c))
+    let e = descriptor-refused (descriptor (args′ .v) (args′ .x .offset) (args′ .request .now) (args′ .c))
     (sym (r′ .given .1) ∙ read-descriptor′ .ensures) in
-    descriptors-refused (args′ .x) (args′ .request .now) (args′ .c) (args′ .table .now) (args′ .around .now) (args′ .left) (if1′ .left) e
+    descriptors-refused (args′ .v) (args′ .x) (args′ .request .now) (args′ .c) (args′ .table .now) (args′ .around .now) (args′ .left) (if1′ .left) e
 
 pub +read-descriptors-spec : {M : Type 1} → statement M
 +read-descriptors-spec = close μ-read-descriptors λ t. read-descriptors-lts.spec (callees t)

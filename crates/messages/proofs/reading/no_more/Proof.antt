@@ -18,30 +18,30 @@ enum-told : tie.Need-enum-told
 enum-told c = search needs
 
 returns : tie.Need-returns
-returns c =
+returns c v =
     let args′ = c .before .before .before .before .args in
     let enum-told′ = c .enum-told in
     let peek-byte′ = c .before .before .peek-byte in
     let e = byte-refused (peek (args′ .request .now) (args′ .c)) (sym (enum-told′ .given .1) ∙ peek-byte′ .ensures) in
-    rw (messages-ended (args′ .request .now) (args′ .c) [] 0 e)
+    rw (messages-ended v (args′ .request .now) (args′ .c) [] 0 e)
 
 returns-2 : tie.Need-returns-2
-returns-2 c =
+returns-2 c v =
     let args′ = c .before .before .before .before .before .before .args in
     let x′ = c .before .before .x in
     let peek-byte′ = c .before .before .before .before .peek-byte in
     let if1′ = c .if1 in
     let e = byte-read (peek (args′ .request .now) (args′ .c)) (sym (x′ .given .1) ∙ peek-byte′ .ensures) in
-    rw (messages-full (args′ .request .now) (args′ .c) [] e (if1′ .taken))
+    rw (messages-full v (args′ .request .now) (args′ .c) [] e (if1′ .taken))
 
 returns-3 : tie.Need-returns-3
-returns-3 c =
+returns-3 c v =
     let args′ = c .before .before .before .before .before .before .args in
     let x′ = c .before .before .x in
     let peek-byte′ = c .before .before .before .before .peek-byte in
     let if1′ = c .if1 in
     let e = byte-read (peek (args′ .request .now) (args′ .c)) (sym (x′ .given .1) ∙ peek-byte′ .ensures) in
-    rw (messages-over (args′ .request .now) (args′ .c) [] 0 e (if1′ .left))
+    rw (messages-over v (args′ .request .now) (args′ .c) [] 0 e (if1′ .left))
 
 pub no-more-spec : {M : Type 1} → statement M
 no-more-spec =

@@ -10,10 +10,10 @@ use Rattle.messages.proofs.reading.read_each.Statement.{statement}
 use Rattle.messages.proofs.reading.read_each.Tie as tie
 
 abbrev Inv-loop : tie.InvT-loop
-Inv-loop request table₀ around₀ at₀ left₀ table around at left = Reached request at₀ at left table₀ table around
+Inv-loop request table₀ around₀ v at₀ left₀ table around at left = Reached v request at₀ at left table₀ table around
 
 abbrev μ-loop : tie.MeasureT-loop
-μ-loop request table₀ around₀ at₀ left₀ table around at left = left
+μ-loop request table₀ around₀ v at₀ left₀ table around at left = left
 
 -- the next code
 peeked : (c : tie.After-x Inv-loop μ-loop) →
@@ -29,7 +29,7 @@ loop-holds c =
     let args′ = c .before .before .before .before .args in
     let clear-arg′ = c .before .clear-arg in
     let clear′ = c .clear in
-    none-reached (args′ .request .now) (args′ .c) (args′ .table .now) (args′ .around .now) (clear-arg′ .given .0 .1) (clear′ .ensures)
+    none-reached (args′ .v) (args′ .request .now) (args′ .c) (args′ .table .now) (args′ .around .now) (clear-arg′ .given .0 .1) (clear′ .ensures)
 
 peek-byte-requires : tie.Need-peek-byte-requires Inv-loop μ-loop
 peek-byte-requires c κs = search needs

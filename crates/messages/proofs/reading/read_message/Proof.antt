@@ -33,7 +33,7 @@ begun : (c : tie.After-read-descriptors) →
     let m = start .before .before .before .before .before .before .before .before .m .given .0 in
     let n = start .n .given .0 in
     let last = c .read-descriptors .last .1 in
-    Begun (args .request .now) (args .c) (args .table .now) (args .around .now) (m .0 .0) (m .1 .0) (n .0) (n .1 .0) (last .0) (last .1 .0)
+    Begun (args .v) (args .request .now) (args .c) (args .table .now) (args .around .now) (m .0 .0) (m .1 .0) (n .0) (n .1 .0) (last .0) (last .1 .0)
     (c .read-descriptors .result)
 begun c =
     let start = c .before .before .before .before .before .before .before .before .before in
@@ -62,7 +62,7 @@ returns c =
     let args′ = c .before .before .before .before .before .args in
     let enum-told′ = c .enum-told in
     let next-message′ = c .before .before .next-message in
-    told-ended (pre′ .0) (args′ .request .now) (args′ .c)
+    told-ended (args′ .v) (pre′ .0) (args′ .request .now) (args′ .c)
     (message-refused (byte (args′ .request .now) (args′ .c)) (sym (enum-told′ .given .1) ∙ next-message′ .ensures))
 
 find-requires : tie.Need-find-requires
@@ -80,7 +80,7 @@ returns-2 c =
     let find′ = c .before .before .find in
     let enum-told2′ = c .enum-told2 in
     let e = message-read (byte (args′ .request .now) (args′ .c)) (sym (m′ .given .1) ∙ next-message′ .ensures) in
-    told-again (pre′ .0) (args′ .request .now) (args′ .c) e (sym (find′ .ensures) ∙ enum-told2′ .given .1)
+    told-again (args′ .v) (pre′ .0) (args′ .request .now) (args′ .c) e (sym (find′ .ensures) ∙ enum-told2′ .given .1)
 
 enum-told-3 : tie.Need-enum-told-3
 enum-told-3 c = search needs
@@ -106,7 +106,7 @@ returns-3 c =
     let enum-told3′ = c .before .before .before .enum-told3 in
     let e = message-read (byte (args′ .request .now) (args′ .c)) (sym (m′ .given .1) ∙ next-message′ .ensures) in
     let g = word-refused (word (args′ .request .now) (m′ .given .0 .1 .0)) (sym (enum-told4′ .given .1) ∙ next-word′ .ensures) in
-    told-cut (pre′ .0) (args′ .request .now) (args′ .c) e (sym (find′ .ensures) ∙ enum-told3′ .given .1) g
+    told-cut (args′ .v) (pre′ .0) (args′ .request .now) (args′ .c) e (sym (find′ .ensures) ∙ enum-told3′ .given .1) g
 
 row-count-requires : tie.Need-row-count-requires
 row-count-requires c κs = search needs
@@ -117,7 +117,7 @@ cast-parameters c = search needs
 returns-4 : tie.Need-returns-4
 returns-4 c =
     let if1′ = c .if1 in
-    told-great (opened (c .before .before .before .before)) (if1′ .taken)
+    told-great _ (opened (c .before .before .before .before)) (if1′ .taken)
 
 add-if2 : tie.Need-add-if2
 add-if2 c = search needs
@@ -127,7 +127,7 @@ returns-5 c =
     let if1′ = c .before .if1 in
     let row-count′ = c .before .before .row-count in
     let if2′ = c .if2 in
-    told-over (opened (c .before .before .before .before .before)) (if1′ .left) (rw (row-count′ .ensures) at (if2′ .taken))
+    told-over _ (opened (c .before .before .before .before .before)) (if1′ .left) (rw (row-count′ .ensures) at (if2′ .taken))
 
 first-parameter-requires : tie.Need-first-parameter-requires
 first-parameter-requires c κs = search needs

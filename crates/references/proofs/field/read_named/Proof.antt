@@ -7,7 +7,7 @@ use Rattle.grammar.specs.Internal.Steps.{noKind}
 use Rattle.grammar.specs.Values.{byName}
 use Rattle.grammar.specs.Reader.{name}
 use Rattle.grammar.proofs.StepLaws.{step-refused}
-use Rattle.references.proofs.Known.{field-known, field-refused, named-fit, name-read}
+use Rattle.references.proofs.Known.{field-known, field-refused, named-step, name-read}
 use Rattle.references.proofs.field.read_named.Statement.{statement}
 use Rattle.references.proofs.field.read_named.Tie as tie
 
@@ -23,32 +23,28 @@ name-at-requires c κs = search needs
 named-entry-requires : tie.Need-named-entry-requires
 named-entry-requires c κs = search needs
 
-entry-fit-requires : tie.Need-entry-fit-requires
-entry-fit-requires c κs = search needs
-
-known-requires : tie.Need-known-requires
-known-requires c κs = search needs
+found-field-requires : tie.Need-found-field-requires
+found-field-requires c κs = search needs
 
 enum-known-r : tie.Need-enum-known-r
 enum-known-r c = search needs
 
 returns : tie.Need-returns
 returns c =
-    let known′ = c .known in
-    let entry-fit′ = c .before .entry-fit in
-    let named-entry′ = c .before .before .named-entry in
-    let name-at′ = c .before .before .before .name-at in
-    let args′ = c .before .before .before .before .before .before .before .before .before .before .args in
-    let after′ = c .before .before .before .before .before .after in
-    let skip-name′ = c .before .before .before .before .before .before .before .skip-name in
+    let found-field′ = c .found-field in
+    let named-entry′ = c .before .named-entry in
+    let name-at′ = c .before .before .name-at in
+    let args′ = c .before .before .before .before .before .before .before .before .before .args in
+    let after′ = c .before .before .before .before .after in
+    let skip-name′ = c .before .before .before .before .before .before .skip-name in
     rw (
-      known′ .ensures,
-      entry-fit′ .ensures,
+      found-field′ .ensures,
       named-entry′ .ensures,
       name-at′ .ensures,
-      named-fit (args′ .dictionary .now) (args′ .relation) (nameAt (args′ .request .now) (args′ .c .at)),
+      named-step (args′ .v) (args′ .dictionary .now) (args′ .c .at) (args′ .at) (after′ .given .0 .1 .0) (args′ .relation)
+          (nameAt (args′ .request .now) (args′ .c .at)),
     )
-    (sym (field-known (relationAt (args′ .dictionary .now) (args′ .relation)) (args′ .request .now) (args′ .c) byName
+    (sym (field-known (args′ .v) (relationAt (args′ .dictionary .now) (args′ .relation)) (args′ .at) (args′ .request .now) (args′ .c) byName
     (name-read (args′ .request .now) (args′ .c) (sym (after′ .given .1) ∙ skip-name′ .ensures))))
 
 returns-2 : tie.Need-returns-2
@@ -56,7 +52,7 @@ returns-2 c =
     let args′ = c .before .before .before .before .before .before .args in
     let r′ = c .before .r in
     let skip-name′ = c .before .before .before .skip-name in
-    sym (field-refused (relationAt (args′ .dictionary .now) (args′ .relation)) (args′ .request .now) (args′ .c) byName
+    sym (field-refused (args′ .v) (relationAt (args′ .dictionary .now) (args′ .relation)) (args′ .at) (args′ .request .now) (args′ .c) byName
     (rw (step-refused noKind (name (args′ .request .now) (args′ .c)) (sym (r′ .given .1) ∙ skip-name′ .ensures))))
 
 pub read-named-spec : {M : Type 1} → statement M
@@ -67,8 +63,7 @@ read-named-spec =
     enum-known-after
     name-at-requires
     named-entry-requires
-    entry-fit-requires
-    known-requires
+    found-field-requires
     enum-known-r
     returns
     returns-2)

@@ -45,7 +45,7 @@ returns c =
     let width-bytes′ = c .before .before .before .before .before .width-bytes in
     ap (λ z. Next (Number z) (after′ .given .0 .1 .0)) (toZ-ofZ (record { sfits = signed-byte′ .ok }) ∙ signed-byte′ .ensures) ∙
     sym (number-is (args′ .w) (args′ .request .now) (args′ .c)
-    (byte-read (scaleByte (args′ .request .now) (args′ .c)) (sym (scale′ .given .1) ∙ scale-byte′ .ensures))
+    (byte-read (scaleByte (args′ .w) (args′ .request .now) (args′ .c)) (sym (scale′ .given .1) ∙ scale-byte′ .ensures))
     (sym (after′ .given .1) ∙ skip′ .ensures ∙ rw (width-bytes′ .ensures)))
 
 returns-2 : tie.Need-returns-2
@@ -57,7 +57,7 @@ returns-2 c =
     let skip′ = c .before .before .before .skip in
     let width-bytes′ = c .before .before .before .before .width-bytes in
     sym (number-cut (args′ .w) (args′ .request .now) (args′ .c)
-    (byte-read (scaleByte (args′ .request .now) (args′ .c)) (sym (scale′ .given .1) ∙ scale-byte′ .ensures))
+    (byte-read (scaleByte (args′ .w) (args′ .request .now) (args′ .c)) (sym (scale′ .given .1) ∙ scale-byte′ .ensures))
     (sym (r′ .given .1) ∙ skip′ .ensures ∙ rw (width-bytes′ .ensures)))
 
 returns-3 : tie.Need-returns-3
@@ -66,7 +66,7 @@ returns-3 c =
     let r2′ = c .before .r2 in
     let scale-byte′ = c .before .before .before .scale-byte in
     sym (number-scale-refused (args′ .w) (args′ .request .now) (args′ .c)
-    (byte-refused (scaleByte (args′ .request .now) (args′ .c)) (sym (r2′ .given .1) ∙ scale-byte′ .ensures)))
+    (byte-refused (scaleByte (args′ .w) (args′ .request .now) (args′ .c)) (sym (r2′ .given .1) ∙ scale-byte′ .ensures)))
 
 pub number-literal-spec : {M : Type 1} → statement M
 number-literal-spec =

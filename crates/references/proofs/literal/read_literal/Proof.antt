@@ -1,5 +1,6 @@
 -- `references::literal::read_literal` meets its contract. By the class of the code. Assumes nothing.
 use mathlib.Core.Path.{sym, ap, _∙_}
+use borrow.Author.Tests.{not-true, not-false}
 use borrow.Author.Needs.{needs}
 use Rattle.classes.specs.Classes.{literalClassOf}
 use Rattle.grammar.specs.Values.{readLiteral}
@@ -19,6 +20,27 @@ literal-class-requires c κs = search needs
 
 enum-known-t : tie.Need-enum-known-t
 enum-known-t c = search needs
+
+literal-due-requires : tie.Need-literal-due-requires
+literal-due-requires c κs = search needs
+
+returns : tie.Need-returns
+unfolding readLiteral coded
+returns c =
+    let args′ = c .before .before .before .before .before .before .before .before .before .before .before .args in
+    let code′ = c .before .before .before .before .before .before .before .code in
+    let next-byte′ = c .before .before .before .before .before .before .before .before .before .next-byte in
+    let literal-class′ = c .before .before .before .before .before .literal-class in
+    let t′ = c .before .before .before .t in
+    let literal-due′ = c .before .literal-due in
+    let if1′ = c .if1 in
+    rw (
+      readLiteral,
+      coded,
+      byte-read (byte (args′ .request .now) (args′ .c)) (sym (code′ .given .1) ∙ next-byte′ .ensures),
+      sym (literal-class′ .ensures) ∙ ap literalClassOf (t′ .given .1),
+      sym (literal-due′ .ensures) ∙ not-true (literal-due′ .result) (if1′ .taken),
+    )
 
 enum-known-t-2 : tie.Need-enum-known-t-2
 enum-known-t-2 c = search needs
@@ -41,15 +63,17 @@ enum-told-3 c = search needs
 enum-known-r : tie.Need-enum-known-r
 enum-known-r c = search needs
 
-returns : tie.Need-returns
+returns-2 : tie.Need-returns-2
 unfolding readLiteral coded
-returns c =
+returns-2 c =
     let number-literal′ = c .number-literal in
-    let args′ = c .before .before .before .before .before .before .before .before .before .before .before .before .before .args in
-    let code′ = c .before .before .before .before .before .before .before .before .before .code in
-    let next-byte′ = c .before .before .before .before .before .before .before .before .before .before .before .next-byte in
-    let literal-class′ = c .before .before .before .before .before .before .before .literal-class in
-    let t′ = c .before .before .before .before .before .t in
+    let args′ = c .before .before .before .before .before .before .before .before .before .before .before .before .before .before .before .args in
+    let code′ = c .before .before .before .before .before .before .before .before .before .before .before .code in
+    let next-byte′ = c .before .before .before .before .before .before .before .before .before .before .before .before .before .next-byte in
+    let literal-class′ = c .before .before .before .before .before .before .before .before .before .literal-class in
+    let t′ = c .before .before .before .before .before .before .before .t in
+    let literal-due′ = c .before .before .before .before .before .literal-due in
+    let if1′ = c .before .before .before .before .if1 in
     let t2′ = c .before .before .t2 in
     rw (
       number-literal′ .ensures,
@@ -57,18 +81,21 @@ returns c =
       coded,
       byte-read (byte (args′ .request .now) (args′ .c)) (sym (code′ .given .1) ∙ next-byte′ .ensures),
       sym (literal-class′ .ensures) ∙ ap literalClassOf (t′ .given .1),
+      sym (literal-due′ .ensures) ∙ not-false (literal-due′ .result) (if1′ .left),
       t2′ .given .1,
     )
 
-returns-2 : tie.Need-returns-2
+returns-3 : tie.Need-returns-3
 unfolding readLiteral coded
-returns-2 c =
+returns-3 c =
     let text-literal′ = c .text-literal in
-    let args′ = c .before .before .before .before .before .before .before .before .before .before .before .before .args in
-    let code′ = c .before .before .before .before .before .before .before .before .code in
-    let next-byte′ = c .before .before .before .before .before .before .before .before .before .before .next-byte in
-    let literal-class′ = c .before .before .before .before .before .before .literal-class in
-    let t′ = c .before .before .before .before .t in
+    let args′ = c .before .before .before .before .before .before .before .before .before .before .before .before .before .before .args in
+    let code′ = c .before .before .before .before .before .before .before .before .before .before .code in
+    let next-byte′ = c .before .before .before .before .before .before .before .before .before .before .before .before .next-byte in
+    let literal-class′ = c .before .before .before .before .before .before .before .before .literal-class in
+    let t′ = c .before .before .before .before .before .before .t in
+    let literal-due′ = c .before .before .before .before .literal-due in
+    let if1′ = c .before .before .before .if1 in
     let enum-told′ = c .before .enum-told in
     rw (
       text-literal′ .ensures,
@@ -76,12 +103,13 @@ returns-2 c =
       coded,
       byte-read (byte (args′ .request .now) (args′ .c)) (sym (code′ .given .1) ∙ next-byte′ .ensures),
       sym (literal-class′ .ensures) ∙ ap literalClassOf (t′ .given .1),
+      sym (literal-due′ .ensures) ∙ not-false (literal-due′ .result) (if1′ .left),
       enum-told′ .given .1,
     )
 
-returns-3 : tie.Need-returns-3
+returns-4 : tie.Need-returns-4
 unfolding readLiteral coded
-returns-3 c =
+returns-4 c =
     let args′ = c .before .before .before .before .before .before .before .before .args in
     let code′ = c .before .before .before .before .code in
     let next-byte′ = c .before .before .before .before .before .before .next-byte in
@@ -94,9 +122,9 @@ returns-3 c =
       sym (literal-class′ .ensures) ∙ ap literalClassOf (enum-told2′ .given .1),
     )
 
-returns-4 : tie.Need-returns-4
+returns-5 : tie.Need-returns-5
 unfolding readLiteral coded
-returns-4 c =
+returns-5 c =
     let args′ = c .before .before .before .before .before .before .before .before .args in
     let code′ = c .before .before .before .before .code in
     let next-byte′ = c .before .before .before .before .before .before .next-byte in
@@ -109,9 +137,9 @@ returns-4 c =
       sym (literal-class′ .ensures) ∙ ap literalClassOf (enum-told3′ .given .1),
     )
 
-returns-5 : tie.Need-returns-5
+returns-6 : tie.Need-returns-6
 unfolding readLiteral coded
-returns-5 c =
+returns-6 c =
     let args′ = c .before .before .before .before .before .args in
     let r′ = c .before .r in
     let next-byte′ = c .before .before .before .next-byte in
@@ -125,6 +153,8 @@ read-literal-spec =
     enum-known-code
     literal-class-requires
     enum-known-t
+    literal-due-requires
+    returns
     enum-known-t-2
     number-literal-requires
     enum-told
@@ -132,8 +162,8 @@ read-literal-spec =
     enum-told-2
     enum-told-3
     enum-known-r
-    returns
     returns-2
     returns-3
     returns-4
-    returns-5)
+    returns-5
+    returns-6)

@@ -49,13 +49,27 @@ within-requires-3 c κs = search needs
 enum-told-4 : tie.Need-enum-told-4
 enum-told-4 c = search needs
 
+enum-told-5 : tie.Need-enum-told-5
+enum-told-5 c = search needs
+
 sub-within : tie.Need-sub-within
 sub-within c =
-    let fits′ = c .before .before .fits in
+    let fits′ = c .before .before .before .before .fits in
     difference-fits (fits′ .a) (fits′ .b)
 
 within-requires-4 : tie.Need-within-requires-4
 within-requires-4 c κs = search needs
+
+enum-told-6 : tie.Need-enum-told-6
+enum-told-6 c = search needs
+
+add-within-2 : tie.Need-add-within-2
+add-within-2 c =
+    let fits′ = c .before .before .before .before .fits in
+    sum-fits (fits′ .a) (fits′ .b)
+
+within-requires-5 : tie.Need-within-requires-5
+within-requires-5 c κs = search needs
 
 returns : tie.Need-returns
 returns c =
@@ -86,10 +100,21 @@ returns-3 c =
 
 returns-4 : tie.Need-returns-4
 returns-4 c =
-    let enum-told4′ = c .before .enum-told4 in
+    let enum-told4′ = c .before .before .before .enum-told4 in
+    let enum-told5′ = c .before .enum-told5 in
     let within4′ = c .within4 in
-    let fits′ = c .before .before .before .fits in
-    rw (enum-told4′ .given .1) (within4′ .ensures ∙ ap (λ z. fitOf (arithmeticRange z)) (read-difference (fits′ .a) (fits′ .b)))
+    let fits′ = c .before .before .before .before .before .fits in
+    rw (enum-told4′ .given .1, enum-told5′ .given .1)
+    (within4′ .ensures ∙ ap (λ z. fitOf (arithmeticRange z)) (read-difference (fits′ .a) (fits′ .b)))
+
+returns-5 : tie.Need-returns-5
+returns-5 c =
+    let enum-told4′ = c .before .before .before .enum-told4 in
+    let enum-told6′ = c .before .enum-told6 in
+    let within5′ = c .within5 in
+    let fits′ = c .before .before .before .before .before .fits in
+    rw (enum-told4′ .given .1, enum-told6′ .given .1)
+    (within5′ .ensures ∙ ap (λ z. fitOf (arithmeticRange z)) (read-sum (fits′ .a) (fits′ .b)))
 
 pub scaled-spec : {M : Type 1} → statement M
 scaled-spec =
@@ -107,9 +132,14 @@ scaled-spec =
     add-within
     within-requires-3
     enum-told-4
+    enum-told-5
     sub-within
     within-requires-4
+    enum-told-6
+    add-within-2
+    within-requires-5
     returns
     returns-2
     returns-3
-    returns-4)
+    returns-4
+    returns-5)

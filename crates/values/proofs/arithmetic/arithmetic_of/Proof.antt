@@ -61,7 +61,7 @@ returns-4 c =
     let args′ = c .before .before .before .before .before .args in
     let paired′ = c .before .before .before .before .paired in
     let k′ = c .before .before .k in
-    λ m. rw (missing-number′ .ensures .operand m (args′ .o) (args′ .place), arithmeticOf, ← paired′ .ensures m, k′ .given .1)
+    λ m. rw (missing-number′ .ensures .operand m (args′ .v) (args′ .o) (args′ .place), arithmeticOf, ← paired′ .ensures m, k′ .given .1)
 
 returns-5 : tie.Need-returns-5
 unfolding arithmeticOf

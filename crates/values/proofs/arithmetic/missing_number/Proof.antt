@@ -17,19 +17,19 @@ returns : tie.Need-returns
 unfolding negateOf
 returns c =
     let enum-told′ = c .enum-told in
-    record { operand = λ m o p. rw (enum-told′ .given .1); negated = λ m p. rw (enum-told′ .given .1) }
+    record { operand = λ m v o p. rw (enum-told′ .given .1); negated = λ m p. rw (enum-told′ .given .1) }
 
 returns-2 : tie.Need-returns-2
 unfolding negateOf
 returns-2 c =
     let enum-told2′ = c .enum-told2 in
-    record { operand = λ m o p. rw (enum-told2′ .given .1); negated = λ m p. rw (enum-told2′ .given .1) }
+    record { operand = λ m v o p. rw (enum-told2′ .given .1); negated = λ m p. rw (enum-told2′ .given .1) }
 
 returns-3 : tie.Need-returns-3
 unfolding negateOf
 returns-3 c =
     let enum-told3′ = c .enum-told3 in
-    record { operand = λ m o p. rw (enum-told3′ .given .1); negated = λ m p. rw (enum-told3′ .given .1) }
+    record { operand = λ m v o p. rw (enum-told3′ .given .1); negated = λ m p. rw (enum-told3′ .given .1) }
 
 pub missing-number-spec : {M : Type 1} → statement M
 missing-number-spec =

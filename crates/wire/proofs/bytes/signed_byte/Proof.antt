@@ -10,6 +10,9 @@ use Rattle.wire.proofs.bytes.signed_byte.Tie as tie
 wide-requires : tie.Need-wide-requires
 wide-requires c κs = search needs
 
+cast-signed-of : tie.Need-cast-signed-of
+cast-signed-of c = search needs
+
 signed-of-requires : tie.Need-signed-of-requires
 signed-of-requires c κs = search needs
 
@@ -24,4 +27,4 @@ returns c =
     toZ-ofZ (cast-result c) ∙ toZ-ofZ (record { sfits = c .signed-of .ok }) ∙ c .signed-of .ensures ∙ ap (twos 128) (c .before .wide .ensures .0)
 
 pub signed-byte-spec : {M : Type 1} → statement M
-signed-byte-spec = tie.close (tie.spec wide-requires signed-of-requires cast-result returns)
+signed-byte-spec = tie.close (tie.spec wide-requires cast-signed-of signed-of-requires cast-result returns)

@@ -11,18 +11,18 @@ use Rattle.wire.proofs.bytes.signed_long_at.Lts as lts
 use Rattle.wire.proofs.bytes.long_at.Reads as long-at-reads
 use Rattle.wire.proofs.bytes.signed_of.Reads as signed-of-reads
 
--- src/bytes.rt:85:15
 long-at-requires : tie.Need-long-at-requires
 long-at-requires c κs = search needs
 
--- src/bytes.rt:85:5
+cast-signed-of : tie.Need-cast-signed-of
+cast-signed-of c = search needs
+
 signed-of-requires : tie.Need-signed-of-requires
 signed-of-requires c κs = search needs
 
--- src/bytes.rt:82:1
 returns : tie.Need-returns
 unfolding signed
 returns c = toZ-ofZ (record { sfits = c .signed-of .ok }) ∙ c .signed-of .ensures ∙ ap (twos 2147483648) (c .before .long-at .ensures)
 
 pub signed-long-at-spec : {M : Type 1} → statement M
-signed-long-at-spec = tie.close (tie.spec long-at-requires signed-of-requires returns)
+signed-long-at-spec = tie.close (tie.spec long-at-requires cast-signed-of signed-of-requires returns)

@@ -2,49 +2,37 @@ use mir.Facts.{toZ-pos, toZ-neg}
 use mir.Val.{toZ}
 use mir.Syntax.{w64}
 use Prim.Native.Nat.{suc, _-_, _*_}
-use mathlib.Core.Path.{_≡_, sym, ap, _∙_}
+use mathlib.Core.Path.{_≡_, ap, _∙_}
 use native.Mathlib.Omega.{arith}
 use borrow.Author.Tests.{lt-ltb, le-ltb}
-use lib.ListN.{length-set}
 use borrow.Author.Needs.{needs}
 use Rattle.wire.proofs.bytes.signed_of.Statement.{statement}
 use Rattle.wire.proofs.bytes.signed_of.Tie as tie
 use Rattle.wire.proofs.bytes.signed_of.Reads as reads
 use Rattle.wire.proofs.bytes.signed_of.Lts as lts
 
--- src/bytes.rt:68:9
 cast-result : tie.Need-cast-result
 cast-result c = search needs
 
--- src/bytes.rt:70:12
-mul-result : tie.Need-mul-result
-mul-result c = search needs
-
--- src/bytes.rt:70:12
 sub-result : tie.Need-sub-result
 sub-result c = search needs
 
--- src/bytes.rt:70:12
 sub-result-2 : tie.Need-sub-result-2
 sub-result-2 c = search needs
 
--- src/bytes.rt:70:11
 cast-result-2 : tie.Need-cast-result-2
 cast-result-2 c = search needs
 
--- src/bytes.rt:62:1
 returns : tie.Need-returns
 returns c = rw (lt-ltb _ _ (c .if1 .taken)) (toZ-pos w64 (omega arith))
 
--- src/bytes.rt:62:1
 returns-2 : tie.Need-returns-2
 returns-2 c =
     let n = c .before .args .n in
     let half = c .before .args .half in
-    let e : 18446744073709551615 - (2 * half - 1 - n) ≡ 18446744073709551616 - suc (2 * half - suc n) = omega arith in
+    let e : 18446744073709551615 - (half - 1 - (n - half)) ≡ 18446744073709551616 - suc (2 * half - suc n) = omega arith in
     rw (le-ltb _ _ (c .if1 .left), lt-ltb n (2 * half) (c .before .pre .0)) (ap (toZ w64) e ∙ toZ-neg w64 (2 * half - suc n) (omega arith))
 
 pub signed-of-spec : {M : Type 1} → statement M
 signed-of-spec =
-    tie.close
-    (tie.spec cast-result mul-result sub-result sub-result-2 cast-result-2 returns returns-2)
+    tie.close (tie.spec cast-result sub-result sub-result-2 cast-result-2 returns returns-2)
