@@ -37,7 +37,7 @@ use Rattle.reader.specs.declared.request.Whole.{Whole}
 use Rattle.openings.specs.Streams.{relations}
 use Rattle.tables.specs.Tables.{tables}
 use Rattle.reader.specs.Readers.{places}
-use Rattle.reader.specs.Request.{Requested, AnsweredNoting, conditionTable, Beside, Cleared, besideAnswer, beforeOf}
+use Rattle.reader.specs.Request.{Requested, AnsweredNoting, conditionTable, Beside, Zeros, Cleared, besideAnswer, beforeOf}
 
 -- ---- the dictionary's answer
 
@@ -149,17 +149,17 @@ module _ (s d st pa ct nd : List ℕ) where
               dictionary-octets = h .dictionary-octets;
               answered = rw (a, counts, v .counted, v .declared);
               statements-filled =
-                  rw a (ap (λ t. t .statements) filled ∙ ap (λ l. sets l 0 (requestStatementRows r)) (h .no-statements) ∙
+                  rw a (ap (λ t. t .statements) filled ∙ ap (λ l. sets l 0 (requestStatementRows r)) (h .zeros .no-statements) ∙
                   statements-laid (relations d) r (v .allowed) (length st) (was .statements-room));
               parameters-filled =
-                  rw a ((rw i at (g .parameters-filled)) ∙ ap (λ l. sets l 0 (parameterRows (r .messages))) (h .no-parameters) ∙
+                  rw a ((rw i at (g .parameters-filled)) ∙ ap (λ l. sets l 0 (parameterRows (r .messages))) (h .zeros .no-parameters) ∙
                   parameters-laid (relations d) r (v .allowed) (length pa) (was .parameters-room));
               contexts-filled =
-                  rw a (ap (λ t. t .contexts) filled ∙ ap (λ l. sets l 0 (requestContextRows (relations d) r)) (h .no-contexts) ∙
+                  rw a (ap (λ t. t .contexts) filled ∙ ap (λ l. sets l 0 (requestContextRows (relations d) r)) (h .zeros .no-contexts) ∙
                   contexts-laid (relations d) r (v .allowed) (length ct) (was .contexts-room));
             };
             conditions-filled =
-                rw a (ap (λ t. t .conditions) filled ∙ ap (λ l. sets l 0 (places (requestConditions (relations d) r))) (h .no-conditions));
+                rw a (ap (λ t. t .conditions) filled ∙ ap (λ l. sets l 0 (places (requestConditions (relations d) r))) (h .zeros .no-conditions));
           }
 
       pub accepts : (f : Fit) (c : Cursor) → w .step ≡ Step.Next f c →
@@ -168,6 +168,13 @@ module _ (s d st pa ct nd : List ℕ) where
           let u = step-read noKind (request (relations d) s start) (sym e ∙ g .answer-is) in
           accepted-as (u .0) c (u .1)
 
+-- what was judged stops the reading, and the tables keep their zeros
+pub stops : (s d st pa ct nd : List ℕ) → Zeros st pa ct nd → Octets s → Octets d → (x : Refusal) (p : ℕ) →
+    beforeOf s d (length st) (length pa) (length ct) ≡ Before.Stop x p → AnsweredNoting s d st pa ct nd st pa ct nd (Refused x p)
+stops s d st pa ct nd z o o′ x p h =
+    refuses s d st pa ct nd o o′ st pa ct nd x p (by-judged s d (length st) (length pa) (length ct) h)
+    (z .no-statements) (z .no-parameters) (z .no-contexts) (z .no-conditions)
+
 -- ---- tables that were cleared first
 
 cleared-length : (t e : List ℕ) → t ≡ replicate (length e) 0 → length t ≡ length e
@@ -175,6 +182,10 @@ cleared-length t e h = ap length h ∙ length-replicate (length e) 0
 
 pub zeros-own : (t e : List ℕ) → t ≡ replicate (length e) 0 → t ≡ replicate (length t) 0
 zeros-own t e h = h ∙ ap (λ n. replicate n 0) (sym (cleared-length t e h))
+
+-- an array of zeros
+pub zeros-all : (n : ℕ) → replicate {A = ℕ} n 0 ≡ replicate (length (replicate {A = ℕ} n 0)) 0
+zeros-all n = ap (λ k. replicate {A = ℕ} k 0) (sym (length-replicate n 0))
 
 module _ (s d st pa ct nd st₀ pa₀ ct₀ nd₀ : List ℕ) (a : st ≡ replicate (length st₀) 0) (b : pa ≡ replicate (length pa₀) 0)
     (c : ct ≡ replicate (length ct₀) 0) (f : nd ≡ replicate (length nd₀) 0) where
@@ -197,12 +208,3 @@ module _ (s d st pa ct nd st₀ pa₀ ct₀ nd₀ : List ℕ) (a : st ≡ replic
         };
         conditions-filled = rw (i, j, k, l) at (h .conditions-filled);
       }
-
-  pub stops : Octets s → Octets d → (x : Refusal) (p : ℕ) → beforeOf s d (length st) (length pa) (length ct) ≡ Before.Stop x p →
-      AnsweredNoting s d st₀ pa₀ ct₀ nd₀ st pa ct nd (Refused x p)
-  stops o o′ x p h =
-      let i = cleared-length st st₀ a in
-      let j = cleared-length pa pa₀ b in
-      let k = cleared-length ct ct₀ c in
-      let e = by-judged s d (length st) (length pa) (length ct) h in
-      refuses s d st₀ pa₀ ct₀ nd₀ o o′ st pa ct nd x p (rw (i, j, k) at e) a b c f

@@ -124,12 +124,16 @@ beforeOf s d n m k =
     cond (room n m k) (cond (leb (length s) maxRequestBytes) (besideAnswer (dictionary d)) (Before.Stop RequestTooLong 0))
     (Before.Stop TablesTooShort 0)
 
--- what a reading after that is given: tables of zeros
-pub record Cleared (s d st pa ct nd : List ℕ) : Type 0 where
-  pub before-goes : beforeOf s d (length st) (length pa) (length ct) ≡ Before.Go
-  pub request-octets : Octets s
-  pub dictionary-octets : Octets d
+-- tables of zeros
+pub record Zeros (st pa ct nd : List ℕ) : Type 0 where
   pub no-statements : st ≡ replicate (length st) 0
   pub no-parameters : pa ≡ replicate (length pa) 0
   pub no-contexts : ct ≡ replicate (length ct) 0
   pub no-conditions : nd ≡ replicate (length nd) 0
+
+-- what a reading after that is given
+pub record Cleared (s d st pa ct nd : List ℕ) : Type 0 where
+  pub before-goes : beforeOf s d (length st) (length pa) (length ct) ≡ Before.Go
+  pub request-octets : Octets s
+  pub dictionary-octets : Octets d
+  pub zeros : Zeros st pa ct nd

@@ -6,7 +6,7 @@ mod statements;
 
 ghost use mathlib.Core.Path.{_≡_};
 ghost use Rattle.grammar.specs.Answered.{Answered};
-ghost use Rattle.reader.specs.Request.{AnsweredNoting, Cleared};
+ghost use Rattle.reader.specs.Request.{AnsweredNoting, Zeros, Cleared};
 use before::Before;
 use before::judge;
 use grammar::ReadAnswer;
@@ -50,8 +50,8 @@ fn read_beside(
     }
 }
 
-// Reads a request, fills the tables with its rows, and a fourth with the places of its conditions, which evaluation needs.
-pub fn read_noting(
+// What is judged before the request's first byte, and then the request; the tables hold zeros.
+fn read_judged(
     request: &[u8],
     dictionary: &[u8],
     statements: &mut [u32],
@@ -59,14 +59,11 @@ pub fn read_noting(
     contexts: &mut [u32],
     conditions: &mut [u32],
 ) -> ReadAnswer
+    requires { ⌜ Zeros (now statements) (now parameters) (now contexts) (now conditions) ⌝ }
     ensures { λ r. ⌜ AnsweredNoting (now (request .entry)) (now (dictionary .entry)) (now (statements .entry)) (now (parameters .entry))
         (now (contexts .entry)) (now (conditions .entry)) (now (statements .exit)) (now (parameters .exit)) (now (contexts .exit))
         (now (conditions .exit)) r ⌝ }
 {
-    clear(statements);
-    clear(parameters);
-    clear(contexts);
-    clear(conditions);
     match judge(
         request,
         dictionary,
@@ -86,6 +83,33 @@ pub fn read_noting(
     }
 }
 
+// Reads a request, fills the tables with its rows, and a fourth with the places of its conditions, which evaluation needs.
+pub fn read_noting(
+    request: &[u8],
+    dictionary: &[u8],
+    statements: &mut [u32],
+    parameters: &mut [u32],
+    contexts: &mut [u32],
+    conditions: &mut [u32],
+) -> ReadAnswer
+    ensures { λ r. ⌜ AnsweredNoting (now (request .entry)) (now (dictionary .entry)) (now (statements .entry)) (now (parameters .entry))
+        (now (contexts .entry)) (now (conditions .entry)) (now (statements .exit)) (now (parameters .exit)) (now (contexts .exit))
+        (now (conditions .exit)) r ⌝ }
+{
+    clear(statements);
+    clear(parameters);
+    clear(contexts);
+    clear(conditions);
+    read_judged(
+        request,
+        dictionary,
+        statements,
+        parameters,
+        contexts,
+        conditions,
+    )
+}
+
 // Reads a request, and fills the tables with its rows; a refusal leaves zeros in them.
 pub fn read(
     request: &[u8],
@@ -97,8 +121,11 @@ pub fn read(
     ensures { λ r. ⌜ Answered (now (request .entry)) (now (dictionary .entry)) (now (statements .entry)) (now (parameters .entry))
         (now (contexts .entry)) (now (statements .exit)) (now (parameters .exit)) (now (contexts .exit)) r ⌝ }
 {
+    clear(statements);
+    clear(parameters);
+    clear(contexts);
     let mut places = [0u32; MAX_STATEMENTS];
-    read_noting(
+    read_judged(
         request,
         dictionary,
         statements,
