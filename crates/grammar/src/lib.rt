@@ -61,12 +61,12 @@ pub fn number_of(refusal: Refusal) -> u32
     }
 }
 
-// How far a reading has come: the place of the next byte, and the statements, contexts and conditions met.
+// How far a reading has come: the place of the next byte, and the statements, contexts and conditions met, of which there are 512 at most.
 pub struct Cursor {
     pub at: usize,
-    pub statements: usize,
-    pub contexts: usize,
-    pub conditions: usize,
+    pub statements: u16,
+    pub contexts: u16,
+    pub conditions: u16,
 }
 
 // What a reference is read as: a value, or the target of the assignment at a place.

@@ -43,7 +43,7 @@ pub(crate) fn enter(c: Cursor, at: usize, levels: usize) -> Step
     if levels == 0 {
         return Step::Refused(Refusal::TooGreat, at);
     }
-    if MAX_STATEMENTS <= c.statements {
+    if MAX_STATEMENTS <= c.statements as usize {
         return Step::Refused(Refusal::TooGreat, at);
     }
     let mut next = c;

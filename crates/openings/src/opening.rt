@@ -104,7 +104,7 @@ fn read_streams(
     while 0 < left {
         match read_stream(request, dictionary, below, FOR, at) {
             StreamStep::Is(x, next) => {
-                declare(dictionary, contexts, below, x, at.contexts, at.at);
+                declare(dictionary, contexts, below, x, at.contexts as usize, at.at);
                 at = next;
                 left -= 1;
             }
@@ -308,12 +308,26 @@ pub fn read_opened(
         StatementCode::For => read_head(request, dictionary, contexts, below, c),
         StatementCode::Modify => {
             let declared = modify_context(request, below, x.at, c);
-            update(dictionary, contexts, below, declared, c.contexts, x.at)
+            update(
+                dictionary,
+                contexts,
+                below,
+                declared,
+                c.contexts as usize,
+                x.at,
+            )
         }
         StatementCode::Send => read_send(request, around, below, x.at, c),
         StatementCode::Store => {
             let declared = read_stream(request, dictionary, below, STORE, c);
-            update(dictionary, contexts, below, declared, c.contexts, c.at)
+            update(
+                dictionary,
+                contexts,
+                below,
+                declared,
+                c.contexts as usize,
+                c.at,
+            )
         }
         StatementCode::Label => read_label(request, below, c),
         _ => Step::Refused(Refusal::TooGreat, x.at),

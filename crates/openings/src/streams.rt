@@ -67,7 +67,7 @@ fn stream_code(request: &[u8], c: Cursor) -> CodeStep
 pub(crate) fn open_context(c: Cursor, at: usize) -> Step
     ensures { λ r. ⌜ Counted at c r ⌝ }
 {
-    if c.contexts < MAX_CONTEXTS {
+    if (c.contexts as usize) < MAX_CONTEXTS {
         let mut next = c;
         next.contexts = c.contexts + 1;
         Step::Next(Fit::NoKind, next)

@@ -123,7 +123,7 @@ pub noted-part : {A : Type 0} {x : Read A} {bytes contexts places : A → List �
 noted-part {places} {c} {q} {q₁} {st} {ct} {nd} {ct₁} {nd₁} many p went counted listing w e rows few short i j m = on-next w e (λ a h k o.
     let g = went a h in
     let same : q .conditions ≡ c .conditions = omega (arith, g .noted) in
-    let small : q .conditions ≤ maxRequestBytes = omega (arith, same) in
+    let small : q .conditions ≤ maxStatements = omega (arith, same) in
     let number : q₁ ≡ withConditions q (length (places a)) = i ∙ numbered-is q small p ∙ rw (listing a h) in
     let noted : nd₁ ≡ sets nd (c .conditions) (places a) = j ∙ place-noted q small nd p short ∙ rw (same, listing a h) in
     record {
@@ -133,7 +133,7 @@ noted-part {places} {c} {q} {q₁} {st} {ct} {nd} {ct₁} {nd₁} many p went co
       number = number;
       place = ap (λ (z : Cursor). z .at) number ∙ g .place;
       counted = ap (λ (z : Cursor). z .statements) number ∙ omega (arith, g .counted);
-      own = m ∙ number-noted q small st (c .statements - 1) p (omega arith) (omega (arith, same)) ∙ rw (same, listing a h);
+      own = m ∙ number-noted q small st (c .statements - 1) p (omega arith) ∙ rw (same, listing a h);
       reached = record {
         filled = rw (noted, ap (λ (t : Tables). t .contexts) o);
         follows = record {

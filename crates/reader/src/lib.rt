@@ -39,7 +39,11 @@ fn read_beside(
     );
     let step = whole.step;
     match step {
-        Step::Next(_, c) => ReadAnswer::Accepted(c.statements, whole.parameters, c.contexts),
+        Step::Next(_, c) => ReadAnswer::Accepted(
+            c.statements as usize,
+            whole.parameters,
+            c.contexts as usize,
+        ),
         Step::Refused(r, p) => {
             clear(statements);
             clear(parameters);

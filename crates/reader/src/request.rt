@@ -42,7 +42,7 @@ pub(crate) struct Whole {
 fn count_statement(at: usize, c: Cursor) -> Step
     ensures { λ r. ⌜ r ≡ stepOf noKind (countStatementAt at [] c) ⌝ }
 {
-    if c.statements < MAX_STATEMENTS {
+    if (c.statements as usize) < MAX_STATEMENTS {
         let mut next = c;
         next.statements = c.statements + 1;
         return Step::Next(Fit::NoKind, next);

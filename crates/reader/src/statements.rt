@@ -52,7 +52,7 @@ fn below(c: Cursor, level: Level) -> Level
 {
     Level {
         left: level.left - 1,
-        parent: c.statements,
+        parent: c.statements as usize,
     }
 }
 
@@ -128,7 +128,7 @@ fn read_statement(
 {
     match statement_at(request, c, level.left) {
         StatementHead::Is(x) => {
-            put_boolean(statements, c.statements, 0);
+            put_boolean(statements, c.statements as usize, 0);
             let r = read_coded(
                 request,
                 dictionary,
@@ -380,7 +380,13 @@ fn read_heading(
         };
     };
     let c = x.after;
-    let at = note(statements, conditions, c.statements - 1, second, cs.such);
+    let at = note(
+        statements,
+        conditions,
+        c.statements as usize - 1,
+        second,
+        cs.such,
+    );
     Headed {
         opened: opened,
         ready: Step::Next(Fit::NoKind, at),
@@ -437,7 +443,7 @@ fn read_opening(
         at,
         level,
     );
-    close(contexts, c.contexts, first, r);
+    close(contexts, c.contexts as usize, first, r);
     r
 }
 
@@ -463,7 +469,13 @@ fn read_if(
     let Step::Next(_, first) = b else {
         return b;
     };
-    let noted = note(statements, conditions, c.statements - 1, first, c.at);
+    let noted = note(
+        statements,
+        conditions,
+        c.statements as usize - 1,
+        first,
+        c.at,
+    );
     let one = read_statement(
         request,
         dictionary,
@@ -520,7 +532,7 @@ fn read_select(
         left -= 1;
         match receive_at(request, around, scope, &seen, at, level.left) {
             MessageStep::Is(m, first) => {
-                put_boolean(statements, at.statements, 0);
+                put_boolean(statements, at.statements as usize, 0);
                 let one = read_statement(
                     request,
                     dictionary,

@@ -55,32 +55,32 @@ there-is zero h = absurd (omega arith)
 there-is (suc p) h = refl
 
 -- the number and the place of a condition
-module _ (c : Cursor) (few : c .conditions ≤ maxRequestBytes) where
+module _ (c : Cursor) (few : c .conditions ≤ maxStatements) where
   pub numbered-is : (place : ℕ) → numbered c place ≡ withConditions c (length (listed place))
   numbered-is zero = rw (add-zero (c .conditions))
-  numbered-is (suc p) = rw (le-leb (c .conditions) maxRequestBytes few)
+  numbered-is (suc p) = rw (le-leb (c .conditions) maxStatements few)
 
   pub place-noted : (nd : List ℕ) (place : ℕ) → place ≤ maxRequestBytes → withPlace nd c place ≡ sets nd (c .conditions) (listed place)
   place-noted nd zero h = refl
-  place-noted nd (suc p) h = rw (le-leb (c .conditions) maxRequestBytes few, in-table (suc p) h)
+  place-noted nd (suc p) h = rw (le-leb (c .conditions) maxStatements few, in-table (suc p) h)
 
   -- the row of its statement
-  pub number-noted : (st : List ℕ) (row place : ℕ) → row ≤ maxStatements → c .conditions < maxRequestBytes →
+  pub number-noted : (st : List ℕ) (row place : ℕ) → row ≤ maxStatements →
       withNumber st row c place ≡
       sets st (row * statementRowNumbers + statementBoolean) (listed (booleanNumber (length (listed place)) (c .conditions)))
-  number-noted st row zero r h = refl
-  number-noted st row (suc p) r h =
-      rw (le-leb (c .conditions) maxRequestBytes few, boolean-row st row (c .conditions + 1) r (omega arith), there-is (c .conditions + 1) (omega arith))
+  number-noted st row zero r = refl
+  number-noted st row (suc p) r =
+      rw (le-leb (c .conditions) maxStatements few, boolean-row st row (c .conditions + 1) r (omega arith), there-is (c .conditions + 1) (omega arith))
 
 -- by the tests of the code: a condition that gets a number, and one past the last number
 module _ (c : Cursor) (nd st : List ℕ) (row : ℕ) where
-  pub note-within : (place : ℕ) → c .conditions ≤ maxRequestBytes → (place ≡ 0 → ⊥) →
+  pub note-within : (place : ℕ) → c .conditions ≤ maxStatements → (place ≡ 0 → ⊥) →
       (withConditions c 1 ≡ numbered c place) × ((set nd (c .conditions) (inTable place) ≡ withPlace nd c place) ×
       (withBoolean st row (c .conditions + 1) ≡ withNumber st row c place))
   note-within zero few z = absurd (z refl)
-  note-within (suc p) few z = let b = le-leb (c .conditions) maxRequestBytes few in (rw b, (rw b, rw b))
+  note-within (suc p) few z = let b = le-leb (c .conditions) maxStatements few in (rw b, (rw b, rw b))
 
-  pub note-past : (place : ℕ) → maxRequestBytes < c .conditions →
+  pub note-past : (place : ℕ) → maxStatements < c .conditions →
       (c ≡ numbered c place) × ((nd ≡ withPlace nd c place) × (st ≡ withNumber st row c place))
   note-past zero many = (refl, (refl, refl))
-  note-past (suc p) many = let b = lt-leb (c .conditions) maxRequestBytes many in (rw b, (rw b, rw b))
+  note-past (suc p) many = let b = lt-leb (c .conditions) maxStatements many in (rw b, (rw b, rw b))

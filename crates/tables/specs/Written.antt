@@ -5,7 +5,7 @@ use mathlib.Core.List.{List, [], _∷_}
 use lib.Dec.{leb}
 use lib.ListN.{set}
 use lib.Seq.{sets}
-use Rattle.wire.specs.Limits.{maxRequestBytes, maxStatements, maxContexts, statementRowNumbers, contextRowNumbers}
+use Rattle.wire.specs.Limits.{maxStatements, maxContexts, statementRowNumbers, contextRowNumbers}
 use Rattle.wire.specs.Internal.Columns.{statementBoolean, contextStart, contextEnd}
 use Rattle.wire.specs.Words.{byteAt}
 use Rattle.grammar.specs.declared.Cursor.{Cursor}
@@ -59,14 +59,14 @@ listed (suc p) = suc p ∷ []
 -- the condition at a place has the next number; a number that no request reaches is not given
 abbrev pub numbered : Cursor → ℕ → Cursor
 numbered c zero = c
-numbered c (suc p) = cond (leb (c .conditions) maxRequestBytes) (withConditions c 1) c
+numbered c (suc p) = cond (leb (c .conditions) maxStatements) (withConditions c 1) c
 
 -- the number plus one of a condition, written into the row of its statement
 abbrev pub withNumber : List ℕ → ℕ → Cursor → ℕ → List ℕ
 withNumber st row c zero = st
-withNumber st row c (suc p) = cond (leb (c .conditions) maxRequestBytes) (withBoolean st row (c .conditions + 1)) st
+withNumber st row c (suc p) = cond (leb (c .conditions) maxStatements) (withBoolean st row (c .conditions + 1)) st
 
 -- the place of a condition, written at its number
 abbrev pub withPlace : List ℕ → Cursor → ℕ → List ℕ
 withPlace nd c zero = nd
-withPlace nd c (suc p) = cond (leb (c .conditions) maxRequestBytes) (set nd (c .conditions) (inTable (suc p))) nd
+withPlace nd c (suc p) = cond (leb (c .conditions) maxStatements) (set nd (c .conditions) (inTable (suc p))) nd

@@ -4,7 +4,7 @@ ghost use Rattle.tables.specs.Written.{withPlace, withNumber, numbered};
 use crate::NUMBERS;
 use crate::statements::put_boolean;
 use grammar::Cursor;
-use wire::limits::MAX_REQUEST_BYTES;
+use wire::limits::MAX_STATEMENTS;
 use wire::table::put;
 
 // A condition that was read, from a place on, gets a number, which the row of its statement tells; 0 is no place.
@@ -21,11 +21,12 @@ pub fn note(
     if place == 0 {
         return c;
     }
-    if MAX_REQUEST_BYTES < c.conditions {
+    let number = c.conditions as usize;
+    if MAX_STATEMENTS < number {
         return c;
     }
-    put(conditions, c.conditions, (place % NUMBERS) as u32);
-    put_boolean(statements, row, c.conditions + 1);
+    put(conditions, number, (place % NUMBERS) as u32);
+    put_boolean(statements, row, number + 1);
     let mut next = c;
     next.conditions = c.conditions + 1;
     next

@@ -58,8 +58,9 @@ pub fn close(contexts: &mut [u32], row: usize, from: Cursor, to: Step)
     ensures { λ _. ⌜ now (contexts .exit) ≡ closedAfter (now (contexts .entry)) row from to ⌝ }
 {
     if let Step::Next(_, end) = to {
-        if row <= from.contexts && from.contexts <= MAX_CONTEXTS {
-            close_rows(contexts, row, from.contexts - row, from.at, end.at);
+        let opened = from.contexts as usize;
+        if row <= opened && opened <= MAX_CONTEXTS {
+            close_rows(contexts, row, opened - row, from.at, end.at);
         }
     }
 }

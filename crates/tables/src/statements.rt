@@ -55,7 +55,7 @@ pub fn finish(request: &[u8], statements: &mut [u32], c: Cursor, parent: usize, 
     if let Step::Next(_, end) = to {
         put_statement(
             statements,
-            c.statements,
+            c.statements as usize,
             c.at,
             byte_at(request, c.at),
             parent,

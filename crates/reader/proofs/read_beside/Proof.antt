@@ -58,9 +58,9 @@ same-length-4 c = search needs
 -- src/lib.rt:19:1
 returns : tie.Need-returns
 returns c =
-    let pre′ = c .before .before .before .before .before .before .before .before .before .before .before .before .before .before .before .before .before .before .before .before .before .before .pre in
-    let read-whole′ = c .before .before .before .before .before .before .before .before .before .before .before .read-whole in
-    let step′ = c .before .step in
+    let pre′ = c .before .before .before .before .before .before .before .before .before .before .before .before .before .before .before .before .before .before .before .before .before .before .before .before .pre in
+    let read-whole′ = c .before .before .before .before .before .before .before .before .before .before .before .before .before .read-whole in
+    let step′ = c .before .before .before .step in
     accepts _ _ _ _ _ _ (pre′) _ _ _ _ (read-whole′ .result) (read-whole′ .ensures) _ _ (step′ .given .1)
 
 -- src/lib.rt:19:1
@@ -96,12 +96,20 @@ returns-2 c =
     (clear3′ .ensures ∙ ap (λ n. replicate n 0) (read-whole′ .kept .1 .1 .1 .1 .0))
     (clear4′ .ensures ∙ ap (λ n. replicate n 0) (read-whole′ .kept .1 .1 .1 .1 .1 .0))
 
+cast-t21 : tie.Need-cast-t21
+cast-t21 c = search needs
+
+cast-t22 : tie.Need-cast-t22
+cast-t22 c = search needs
+
 pub read-beside-spec : {M : Type 1} → statement M
 read-beside-spec =
     tie.close
     (tie.spec
     read-whole-requires
     enum-known-step
+    cast-t21
+    cast-t22
     enum-known-step-2
     clear-requires
     clear-requires-2

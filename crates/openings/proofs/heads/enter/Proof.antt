@@ -35,4 +35,4 @@ returns-3 c =
     λ s. rw (entered, lt-ltb 0 (args′ .levels) some, countStatement, lt-ltb (args′ .c .statements) maxStatements few)
 
 pub enter-spec : {M : Type 1} → statement M
-enter-spec = tie.close (tie.spec returns returns-2 (λ c. search needs) returns-3)
+enter-spec = tie.close (tie.spec returns (λ c. search needs) returns-2 (λ c. search needs) returns-3)

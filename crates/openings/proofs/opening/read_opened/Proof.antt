@@ -26,8 +26,8 @@ returns c =
 
 returns-2 : tie.Need-returns-2
 returns-2 c =
-    let enum-told2′ = c .before .before .before .before .before .before .before .enum-told2 in
-    let modify-context′ = c .before .before .before .before .before .modify-context in
+    let enum-told2′ = c .before .before .before .before .before .before .before .before .enum-told2 in
+    let modify-context′ = c .before .before .before .before .before .before .modify-context in
     let update′ = c .before .before .update in
     λ e ready. rw (enum-told2′ .given .1) (heading-coded (λ k. absurd-eq (cc))
     (opens-modify ready (modify-context′ .result) (modify-context′ .ensures) (update′ .ensures) (omega (arith, e))))
@@ -41,11 +41,10 @@ returns-3 c =
 returns-4 : tie.Need-returns-4
 unfolding environmentOf
 returns-4 c =
-    let args′ = c .before .before .before .before .before .before .before .before .before .before .before .before .before .args in
-    let shared-slice-known′ = c .before .before .before .before .before .before .before .before .before .before .before .before
-    .shared-slice-known in
-    let enum-told4′ = c .before .before .before .before .before .before .before .enum-told4 in
-    let read-stream′ = c .before .before .before .before .before .read-stream in
+    let args′ = c .before .before .before .before .before .before .before .before .before .before .before .before .before .before .args in
+    let shared-slice-known′ = c .before .before .before .before .before .before .before .before .before .before .before .before .before .shared-slice-known in
+    let enum-told4′ = c .before .before .before .before .before .before .before .before .enum-told4 in
+    let read-stream′ = c .before .before .before .before .before .before .read-stream in
     let update2′ = c .before .before .update2 in
     let octets : Octets (args′ .request .now) = λ p. omega (arith, shared-slice-known′ .given p) in
     λ e ready. rw (enum-told4′ .given .1) (heading-coded (λ k. absurd-eq (cc))
@@ -71,7 +70,7 @@ returns-6 c =
 
 pub read-opened-spec : {M : Type 1} → statement M
 read-opened-spec =
-    tie.close (tie.spec (λ c. search needs) (λ c κs. search needs) (λ c. search needs) (λ c κs. search needs) (λ c κs. search needs)
-    (λ c. search needs) (λ c κs. search needs) (λ c. search needs) (λ c κs. search needs) (λ c κs. search needs) (λ c. search needs)
-    (λ c κs. search needs) (λ c. search needs) returns (λ c. search needs) returns-2 returns-3 (λ c. search needs) returns-4 returns-5
-    returns-6)
+    tie.close (tie.spec (λ c. search needs) (λ c κs. search needs) (λ c. search needs) (λ c κs. search needs) (λ c. search needs)
+    (λ c κs. search needs) (λ c. search needs) (λ c κs. search needs) (λ c. search needs) (λ c κs. search needs) (λ c. search needs)
+    (λ c κs. search needs) (λ c. search needs) (λ c κs. search needs) (λ c. search needs) returns (λ c. search needs) returns-2 returns-3
+    (λ c. search needs) returns-4 returns-5 returns-6)

@@ -23,10 +23,10 @@ loop-holds c =
 
 loop-again : tie.Need-loop-again Inv-loop μ-loop
 loop-again c =
-    let loop′ = c .before .before .before .before .before .before .before .before .before .before .before .loop in
-    let loop-test′ = c .before .before .before .before .before .before .before .before .before .before .loop-test in
-    let x′ = c .before .before .before .before .before .before .x in
-    let read-stream′ = c .before .before .before .before .before .before .before .before .read-stream in
+    let loop′ = c .before .before .before .before .before .before .before .before .before .before .before .before .loop in
+    let loop-test′ = c .before .before .before .before .before .before .before .before .before .before .before .loop-test in
+    let x′ = c .before .before .before .before .before .before .before .x in
+    let read-stream′ = c .before .before .before .before .before .before .before .before .before .read-stream in
     let declare′ = c .before .before .declare in (
       search needs,
       loop′ .inv .1,
@@ -52,5 +52,5 @@ returns-2 c =
 
 pub read-streams-spec : {M : Type 1} → statement M
 read-streams-spec =
-    tie.close (tie.spec Inv-loop μ-loop loop-holds (λ c κs. search needs) (λ c. search needs) (λ c κs. search needs) (λ c. search needs)
-    (λ c. search needs) loop-again (λ c. search needs) (λ c. search needs) returns (λ c. search needs) returns-2)
+    tie.close (tie.spec Inv-loop μ-loop loop-holds (λ c κs. search needs) (λ c. search needs) (λ c. search needs) (λ c κs. search needs)
+    (λ c. search needs) (λ c. search needs) loop-again (λ c. search needs) (λ c. search needs) returns (λ c. search needs) returns-2)

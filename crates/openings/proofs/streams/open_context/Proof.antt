@@ -20,4 +20,4 @@ returns-2 c =
     λ s. rw (opened, le-ltb (args′ .c .contexts) maxContexts (if1′ .left))
 
 pub open-context-spec : {M : Type 1} → statement M
-open-context-spec = tie.close (tie.spec (λ c. search needs) returns returns-2)
+open-context-spec = tie.close (tie.spec (λ c. search needs) (λ c. search needs) returns returns-2)

@@ -26,5 +26,12 @@ returns-2 c =
     let if1′ = c .if1 in
     rw (countStatement, le-ltb (args′ .c .statements) 512 (if1′ .left))
 
+cast-if1 : tie.Need-cast-if1
+cast-if1 c = search needs
+
 pub count-statement-spec : {M : Type 1} → statement M
-count-statement-spec = tie.close (tie.spec add-next returns returns-2)
+count-statement-spec = tie.close (tie.spec
+    cast-if1
+    add-next
+    returns
+    returns-2)

@@ -126,6 +126,9 @@ returns-4 c =
     (pre′ .0) (enum-told′ .given .1) (read-opened′ .ensures (pre′ .0 .here) (prepared (pre′ .0 .given)) .for-opens (enum-told′ .given .1))
     (opened′ .given .1) (read-clauses′ .ensures) (clauses′ .given .1) (note′ .ensures .0) (note′ .ensures .1 .0) (note′ .ensures .1 .1)
 
+cast-note : tie.Need-cast-note
+cast-note c = search needs
+
 pub read-heading-spec : {M : Type 1} → statement M
 read-heading-spec =
     tie.close
@@ -143,6 +146,7 @@ read-heading-spec =
     enum-told-3
     same-length-3
     returns-3
+    cast-note
     sub-note
     note-requires
     same-length-4

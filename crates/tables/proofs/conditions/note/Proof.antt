@@ -35,13 +35,27 @@ same-length-2 c = search needs
 
 returns-3 : tie.Need-returns-3
 returns-3 c =
-    let put′ = c .before .before .before .before .before .before .before .before .put in
+    let put′ = c .before .before .before .before .before .before .before .put in
     let put-boolean′ = c .before .before .before .put-boolean in
-    let args′ = c .before .before .before .before .before .before .before .before .before .before .before .before .before .before .before .args in
-    let if2′ = c .before .before .before .before .before .before .before .before .before .before .if2 in
-    let if1′ = c .before .before .before .before .before .before .before .before .before .before .before .before .if1 in
+    let args′ = c .before .before .before .before .before .before .before .before .before .before .before .before .before .before .args in
+    let if2′ = c .before .before .before .before .before .before .before .before .before .if2 in
+    let if1′ = c .before .before .before .before .before .before .before .before .before .before .before .if1 in
     rw (put′ .ensures, put-boolean′ .ensures) (note-within (args′ .c) (args′ .conditions .now) (args′ .statements .now) (args′ .row) (args′ .place) (if2′ .left) (if1′ .left))
+
+cast-number : tie.Need-cast-number
+cast-number c = search needs
 
 pub note-spec : {M : Type 1} → statement M
 note-spec =
-    tie.close (tie.spec returns returns-2 cast-put put-requires add-put-boolean put-boolean-requires add-next same-length same-length-2 returns-3)
+    tie.close (tie.spec
+    returns
+    cast-number
+    returns-2
+    cast-put
+    put-requires
+    add-put-boolean
+    put-boolean-requires
+    add-next
+    same-length
+    same-length-2
+    returns-3)

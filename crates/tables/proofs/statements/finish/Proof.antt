@@ -21,17 +21,21 @@ returns : tie.Need-returns
 returns c =
     let put-statement′ = c .before .before .put-statement in
     let byte-at′ = c .before .before .before .byte-at in
-    let to′ = c .before .before .before .before .before .before .to in
+    let to′ = c .before .before .before .before .before .before .before .to in
     rw (put-statement′ .ensures, byte-at′ .ensures, to′ .given .1)
 
 returns-2 : tie.Need-returns-2
 returns-2 c = search needs
+
+cast-put-statement : tie.Need-cast-put-statement
+cast-put-statement c = search needs
 
 pub finish-spec : {M : Type 1} → statement M
 finish-spec =
     tie.close
     (tie.spec
     enum-known-to
+    cast-put-statement
     byte-at-requires
     put-statement-requires
     enum-told

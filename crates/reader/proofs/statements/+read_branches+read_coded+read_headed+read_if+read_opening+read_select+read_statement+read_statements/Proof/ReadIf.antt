@@ -34,6 +34,9 @@ returns t c =
     let enum-told′ = c .enum-told in
     λ p h. if-stopped _ _ _ (args′ .level) p _ (read-boolean′ .ensures) (enum-told′ .given .1)
 
+pub cast-note : (t : ℕ) → read-if-lts.Need-cast-note (calls t) (read-if-at t) read-if.Post
+cast-note t c = search needs
+
 pub sub-note : (t : ℕ) → read-if-lts.Need-sub-note (calls t) (read-if-at t) read-if.Post
 sub-note t c =
     let pre′ = c .before .before .before .before .before .before .before .before .before .before .before .before .before .before .before .pre in

@@ -72,29 +72,36 @@ read-statement-requires t c κs =
     let ready′ = c .before .before .before .before .before .before .before .before .ready in
     (omega (arith, pre′ .0), opened-given (args′ .level) (pre′ .1 .0) (read-heading′ .ensures) (ready′ .given .1))
 
+pub cast-close : (t : ℕ) → read-opening-lts.Need-cast-close (calls t) (read-opening-at t) read-opening.Post
+cast-close t c = search needs
+
 pub close-requires : (t : ℕ) → read-opening-lts.Need-close-requires (calls t) (read-opening-at t) read-opening.Post
 close-requires t c κs = search needs
 
 pub same-length-7 : (t : ℕ) → read-opening-lts.Need-same-length-7 (calls t) (read-opening-at t) read-opening.Post
 same-length-7 t c =
-    let read-statement′ = c .before .before .before .before .before .before .before .before .before .before .read-statement in
-    let read-heading′ = c .before .before .before .before .before .before .before .before .before .before .before .before .before .before .before .before .before .before .before .before .before .before .before .before .before .before .before .read-heading in
+    let read-statement′ = c .before .before .before .before .before .before .before .before .before .before .before .read-statement in
+    let read-heading′ = c .before .before .before .before .before .before .before .before .before .before .before .before .before .before .before .before .before .before .before .before .before .before .before .before .before .before .before .before .read-heading in
     omega (arith, read-statement′ .kept .1 .1 .1 .1 .0, read-heading′ .kept .1 .1 .1 .0)
 
 pub same-length-8 : (t : ℕ) → read-opening-lts.Need-same-length-8 (calls t) (read-opening-at t) read-opening.Post
-same-length-8 t c = search needs
+same-length-8 t c =
+    let close′ = c .before .before .close in
+    let read-statement′ = c .before .before .before .before .before .before .before .before .before .before .before .read-statement in
+    let read-heading′ = c .before .before .before .before .before .before .before .before .before .before .before .before .before .before .before .before .before .before .before .before .before .before .before .before .before .before .before .before .read-heading in
+    omega (arith, close′ .kept .0, read-statement′ .kept .1 .1 .1 .1 .1 .0, read-heading′ .kept .1 .1 .1 .1 .0)
 
 pub same-length-9 : (t : ℕ) → read-opening-lts.Need-same-length-9 (calls t) (read-opening-at t) read-opening.Post
 same-length-9 t c = search needs
 
 pub returns-3 : (t : ℕ) → read-opening-lts.Need-returns-3 (calls t) (read-opening-at t) read-opening.Post
 returns-3 t c =
-    let args′ = c .before .before .before .before .before .before .before .before .before .before .before .before .before .before .before .before .before .before .before .before .before .before .before .before .before .before .before .before .before .before .before .before .before .before .before .before .before .before .before .args in
-    let pre′ = c .before .before .before .before .before .before .before .before .before .before .before .before .before .before .before .before .before .before .before .before .before .before .before .before .before .before .before .before .before .before .before .before .before .before .before .before .before .before .before .pre in
-    let read-heading′ = c .before .before .before .before .before .before .before .before .before .before .before .before .before .before .before .before .before .before .before .before .before .before .before .before .before .before .before .read-heading in
-    let ready′ = c .before .before .before .before .before .before .before .before .before .before .before .before .before .before .before .before .before .before .before .ready in
-    let opened′ = c .before .before .before .before .before .before .before .before .before .before .before .before .before .before .before .before .opened in
-    let read-statement′ = c .before .before .before .before .before .before .before .before .before .before .read-statement in
+    let args′ = c .before .before .before .before .before .before .before .before .before .before .before .before .before .before .before .before .before .before .before .before .before .before .before .before .before .before .before .before .before .before .before .before .before .before .before .before .before .before .before .before .args in
+    let pre′ = c .before .before .before .before .before .before .before .before .before .before .before .before .before .before .before .before .before .before .before .before .before .before .before .before .before .before .before .before .before .before .before .before .before .before .before .before .before .before .before .before .pre in
+    let read-heading′ = c .before .before .before .before .before .before .before .before .before .before .before .before .before .before .before .before .before .before .before .before .before .before .before .before .before .before .before .before .read-heading in
+    let ready′ = c .before .before .before .before .before .before .before .before .before .before .before .before .before .before .before .before .before .before .before .before .ready in
+    let opened′ = c .before .before .before .before .before .before .before .before .before .before .before .before .before .before .before .before .before .opened in
+    let read-statement′ = c .before .before .before .before .before .before .before .before .before .before .before .read-statement in
     let close′ = c .before .before .close in
     opened-wrote (args′ .level) (pre′ .1 .0) (read-heading′ .ensures) (ready′ .given .1) (opened′ .given .1)
     (read-statement′ .ensures) (close′ .ensures)

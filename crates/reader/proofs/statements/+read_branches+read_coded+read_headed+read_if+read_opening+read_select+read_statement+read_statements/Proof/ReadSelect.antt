@@ -42,25 +42,28 @@ receive-at-requires t c κs = search needs
 pub enum-known-m : (t : ℕ) → read-select-lts.Need-enum-known-m (calls t) (read-select-at t) read-select.Post Inv-loop μ-loop
 enum-known-m t c = search needs
 
+pub cast-put-boolean : (t : ℕ) → read-select-lts.Need-cast-put-boolean (calls t) (read-select-at t) read-select.Post Inv-loop μ-loop
+cast-put-boolean t c = search needs
+
 pub put-boolean-requires : (t : ℕ) → read-select-lts.Need-put-boolean-requires (calls t) (read-select-at t) read-select.Post Inv-loop μ-loop
 put-boolean-requires t c κs = search needs
 
 pub below-requires : (t : ℕ) → read-select-lts.Need-below-requires (calls t) (read-select-at t) read-select.Post Inv-loop μ-loop
 below-requires t c κs =
-    let loop′ = c .before .before .before .before .before .before .before .before .before .before .before .before .before .loop in
-    let receive-at′ = c .before .before .before .before .before .before .before .before .before .before .receive-at in
-    let args′ = c .before .before .before .before .before .before .before .before .before .before .before .before .before .before .before .before .before .before .before .args in
-    let m′ = c .before .before .before .before .before .before .before .before .m in
+    let loop′ = c .before .before .before .before .before .before .before .before .before .before .before .before .before .before .loop in
+    let receive-at′ = c .before .before .before .before .before .before .before .before .before .before .before .receive-at in
+    let args′ = c .before .before .before .before .before .before .before .before .before .before .before .before .before .before .before .before .before .before .before .before .args in
+    let m′ = c .before .before .before .before .before .before .before .before .before .m in
     turn-way (loop′ .inv) (receive-at′ .ensures (args′ .dictionary .now)) (m′ .given .1) .deep
 
 pub read-statement-requires : (t : ℕ) → read-select-lts.Need-read-statement-requires (calls t) (read-select-at t) read-select.Post Inv-loop μ-loop
 read-statement-requires t c κs =
     let below′ = c .below in
-    let pre′ = c .before .before .before .before .before .before .before .before .before .before .before .before .before .before .before .before .before .before .before .before .pre in
-    let loop′ = c .before .before .before .before .before .before .before .before .before .before .before .before .before .before .loop in
-    let receive-at′ = c .before .before .before .before .before .before .before .before .before .before .before .receive-at in
-    let args′ = c .before .before .before .before .before .before .before .before .before .before .before .before .before .before .before .before .before .before .before .before .args in
-    let m′ = c .before .before .before .before .before .before .before .before .before .m in
+    let pre′ = c .before .before .before .before .before .before .before .before .before .before .before .before .before .before .before .before .before .before .before .before .before .pre in
+    let loop′ = c .before .before .before .before .before .before .before .before .before .before .before .before .before .before .before .loop in
+    let receive-at′ = c .before .before .before .before .before .before .before .before .before .before .before .before .receive-at in
+    let args′ = c .before .before .before .before .before .before .before .before .before .before .before .before .before .before .before .before .before .before .before .before .before .args in
+    let m′ = c .before .before .before .before .before .before .before .before .before .before .m in
     rw (below′ .ensures) (
       omega (arith, pre′ .0),
       (
@@ -80,7 +83,7 @@ enum-told t c = search needs
 
 pub same-length : (t : ℕ) → read-select-lts.Need-same-length (calls t) (read-select-at t) read-select.Post Inv-loop μ-loop
 same-length t c =
-    let loop′ = c .before .before .before .before .before .before .before .before .before .before .before .before .before .before .before .before .before .before .before .before .before .before .before .before .before .before .before .loop in
+    let loop′ = c .before .before .before .before .before .before .before .before .before .before .before .before .before .before .before .before .before .before .before .before .before .before .before .before .before .before .before .before .loop in
     let put-boolean′ = c .before .before .before .before .before .before .before .before .before .before .before .before .before .before .before .before .before .before .before .put-boolean in
     let read-statement′ = c .before .before .before .before .before .before .before .before .before .before .before .before .read-statement in
     let finish′ = c .before .before .before .before .finish in
@@ -88,23 +91,23 @@ same-length t c =
 
 pub same-length-2 : (t : ℕ) → read-select-lts.Need-same-length-2 (calls t) (read-select-at t) read-select.Post Inv-loop μ-loop
 same-length-2 t c =
-    let loop′ = c .before .before .before .before .before .before .before .before .before .before .before .before .before .before .before .before .before .before .before .before .before .before .before .before .before .before .before .loop in
+    let loop′ = c .before .before .before .before .before .before .before .before .before .before .before .before .before .before .before .before .before .before .before .before .before .before .before .before .before .before .before .before .loop in
     let read-statement′ = c .before .before .before .before .before .before .before .before .before .before .before .before .read-statement in
     omega (arith, loop′ .inv .same .contexts, read-statement′ .kept .1 .1 .1 .1 .1 .0)
 
 pub same-length-3 : (t : ℕ) → read-select-lts.Need-same-length-3 (calls t) (read-select-at t) read-select.Post Inv-loop μ-loop
 same-length-3 t c =
-    let loop′ = c .before .before .before .before .before .before .before .before .before .before .before .before .before .before .before .before .before .before .before .before .before .before .before .before .before .before .before .loop in
+    let loop′ = c .before .before .before .before .before .before .before .before .before .before .before .before .before .before .before .before .before .before .before .before .before .before .before .before .before .before .before .before .loop in
     let read-statement′ = c .before .before .before .before .before .before .before .before .before .before .before .before .read-statement in
     omega (arith, loop′ .inv .same .conditions, read-statement′ .kept .1 .1 .1 .1 .1 .1 .0)
 
 pub returns : (t : ℕ) → read-select-lts.Need-returns (calls t) (read-select-at t) read-select.Post Inv-loop μ-loop
 returns t c =
-    let loop′ = c .before .before .before .before .before .before .before .before .before .before .before .before .before .before .before .before .before .before .before .before .before .before .before .before .before .before .before .loop in
-    let receive-at′ = c .before .before .before .before .before .before .before .before .before .before .before .before .before .before .before .before .before .before .before .before .before .before .before .before .receive-at in
-    let args′ = c .before .before .before .before .before .before .before .before .before .before .before .before .before .before .before .before .before .before .before .before .before .before .before .before .before .before .before .before .before .before .before .before .before .args in
-    let m′ = c .before .before .before .before .before .before .before .before .before .before .before .before .before .before .before .before .before .before .before .before .before .before .m in
-    let loop-test′ = c .before .before .before .before .before .before .before .before .before .before .before .before .before .before .before .before .before .before .before .before .before .before .before .before .before .before .loop-test in
+    let loop′ = c .before .before .before .before .before .before .before .before .before .before .before .before .before .before .before .before .before .before .before .before .before .before .before .before .before .before .before .before .loop in
+    let receive-at′ = c .before .before .before .before .before .before .before .before .before .before .before .before .before .before .before .before .before .before .before .before .before .before .before .before .before .receive-at in
+    let args′ = c .before .before .before .before .before .before .before .before .before .before .before .before .before .before .before .before .before .before .before .before .before .before .before .before .before .before .before .before .before .before .before .before .before .before .args in
+    let m′ = c .before .before .before .before .before .before .before .before .before .before .before .before .before .before .before .before .before .before .before .before .before .before .before .m in
+    let loop-test′ = c .before .before .before .before .before .before .before .before .before .before .before .before .before .before .before .before .before .before .before .before .before .before .before .before .before .before .before .loop-test in
     let below′ = c .before .before .before .before .before .before .before .before .before .before .before .before .before .below in
     let put-boolean′ = c .before .before .before .before .before .before .before .before .before .before .before .before .before .before .before .before .before .before .before .put-boolean in
     let read-statement′ = c .before .before .before .before .before .before .before .before .before .before .before .before .read-statement in
@@ -147,7 +150,7 @@ enum-known-after t c = search needs
 
 pub same-length-7 : (t : ℕ) → read-select-lts.Need-same-length-7 (calls t) (read-select-at t) read-select.Post Inv-loop μ-loop
 same-length-7 t c =
-    let loop′ = c .before .before .before .before .before .before .before .before .before .before .before .before .before .before .before .before .before .before .before .before .before .before .before .before .before .before .before .before .before .before .before .before .before .loop in
+    let loop′ = c .before .before .before .before .before .before .before .before .before .before .before .before .before .before .before .before .before .before .before .before .before .before .before .before .before .before .before .before .before .before .before .before .before .before .loop in
     let put-boolean′ = c .before .before .before .before .before .before .before .before .before .before .before .before .before .before .before .before .before .before .before .before .before .before .before .before .before .put-boolean in
     let read-statement′ = c .before .before .before .before .before .before .before .before .before .before .before .before .before .before .before .before .before .before .read-statement in
     let finish′ = c .before .before .before .before .before .before .before .before .before .before .finish in
@@ -155,27 +158,27 @@ same-length-7 t c =
 
 pub same-length-8 : (t : ℕ) → read-select-lts.Need-same-length-8 (calls t) (read-select-at t) read-select.Post Inv-loop μ-loop
 same-length-8 t c =
-    let loop′ = c .before .before .before .before .before .before .before .before .before .before .before .before .before .before .before .before .before .before .before .before .before .before .before .before .before .before .before .before .before .before .before .before .before .loop in
+    let loop′ = c .before .before .before .before .before .before .before .before .before .before .before .before .before .before .before .before .before .before .before .before .before .before .before .before .before .before .before .before .before .before .before .before .before .before .loop in
     let read-statement′ = c .before .before .before .before .before .before .before .before .before .before .before .before .before .before .before .before .before .before .read-statement in
     omega (arith, loop′ .inv .same .contexts, read-statement′ .kept .1 .1 .1 .1 .1 .0)
 
 pub same-length-9 : (t : ℕ) → read-select-lts.Need-same-length-9 (calls t) (read-select-at t) read-select.Post Inv-loop μ-loop
 same-length-9 t c =
-    let loop′ = c .before .before .before .before .before .before .before .before .before .before .before .before .before .before .before .before .before .before .before .before .before .before .before .before .before .before .before .before .before .before .before .before .before .loop in
+    let loop′ = c .before .before .before .before .before .before .before .before .before .before .before .before .before .before .before .before .before .before .before .before .before .before .before .before .before .before .before .before .before .before .before .before .before .before .loop in
     let read-statement′ = c .before .before .before .before .before .before .before .before .before .before .before .before .before .before .before .before .before .before .read-statement in
     omega (arith, loop′ .inv .same .conditions, read-statement′ .kept .1 .1 .1 .1 .1 .1 .0)
 
 pub returns-3 : (t : ℕ) → read-select-lts.Need-returns-3 (calls t) (read-select-at t) read-select.Post Inv-loop μ-loop
 returns-3 t c =
-    let loop′ = c .before .before .before .before .before .before .before .before .before .before .before .before .before .before .before .before .before .before .before .before .before .before .before .before .before .before .before .before .before .before .before .before .before .loop in
-    let receive-at′ = c .before .before .before .before .before .before .before .before .before .before .before .before .before .before .before .before .before .before .before .before .before .before .before .before .before .before .before .before .before .before .receive-at in
-    let args′ = c .before .before .before .before .before .before .before .before .before .before .before .before .before .before .before .before .before .before .before .before .before .before .before .before .before .before .before .before .before .before .before .before .before .before .before .before .before .before .before .args in
-    let m′ = c .before .before .before .before .before .before .before .before .before .before .before .before .before .before .before .before .before .before .before .before .before .before .before .before .before .before .before .before .m in
-    let loop-test′ = c .before .before .before .before .before .before .before .before .before .before .before .before .before .before .before .before .before .before .before .before .before .before .before .before .before .before .before .before .before .before .before .before .loop-test in
+    let loop′ = c .before .before .before .before .before .before .before .before .before .before .before .before .before .before .before .before .before .before .before .before .before .before .before .before .before .before .before .before .before .before .before .before .before .before .loop in
+    let receive-at′ = c .before .before .before .before .before .before .before .before .before .before .before .before .before .before .before .before .before .before .before .before .before .before .before .before .before .before .before .before .before .before .before .receive-at in
+    let args′ = c .before .before .before .before .before .before .before .before .before .before .before .before .before .before .before .before .before .before .before .before .before .before .before .before .before .before .before .before .before .before .before .before .before .before .before .before .before .before .before .before .args in
+    let m′ = c .before .before .before .before .before .before .before .before .before .before .before .before .before .before .before .before .before .before .before .before .before .before .before .before .before .before .before .before .before .m in
+    let loop-test′ = c .before .before .before .before .before .before .before .before .before .before .before .before .before .before .before .before .before .before .before .before .before .before .before .before .before .before .before .before .before .before .before .before .before .loop-test in
     let below′ = c .before .before .before .before .before .before .before .before .before .before .before .before .before .before .before .before .before .before .before .below in
     let put-boolean′ = c .before .before .before .before .before .before .before .before .before .before .before .before .before .before .before .before .before .before .before .before .before .before .before .before .before .put-boolean in
     let read-statement′ = c .before .before .before .before .before .before .before .before .before .before .before .before .before .before .before .before .before .before .read-statement in
-    let pre′ = c .before .before .before .before .before .before .before .before .before .before .before .before .before .before .before .before .before .before .before .before .before .before .before .before .before .before .before .before .before .before .before .before .before .before .before .before .before .before .before .pre in
+    let pre′ = c .before .before .before .before .before .before .before .before .before .before .before .before .before .before .before .before .before .before .before .before .before .before .before .before .before .before .before .before .before .before .before .before .before .before .before .before .before .before .before .before .pre in
     let finish′ = c .before .before .before .before .before .before .before .before .before .before .finish in
     let one′ = c .before .before .before .before .before .before .one in
     let ending-at′ = c .before .before .before .ending-at in
@@ -188,24 +191,24 @@ enum-told-2 t c = search needs
 
 pub loop-less : (t : ℕ) → read-select-lts.Need-loop-less (calls t) (read-select-at t) read-select.Post Inv-loop μ-loop
 loop-less t c =
-    let loop-test′ = c .before .before .before .before .before .before .before .before .before .before .before .before .before .before .before .before .before .before .before .before .before .before .before .before .before .before .before .before .before .before .before .loop-test in
+    let loop-test′ = c .before .before .before .before .before .before .before .before .before .before .before .before .before .before .before .before .before .before .before .before .before .before .before .before .before .before .before .before .before .before .before .before .loop-test in
     omega (arith, loop-test′ .taken)
 
 pub loop-again : (t : ℕ) → read-select-lts.Need-loop-again (calls t) (read-select-at t) read-select.Post Inv-loop μ-loop
 loop-again t c =
-    let loop′ = c .before .before .before .before .before .before .before .before .before .before .before .before .before .before .before .before .before .before .before .before .before .before .before .before .before .before .before .before .before .before .before .before .loop in
-    let receive-at′ = c .before .before .before .before .before .before .before .before .before .before .before .before .before .before .before .before .before .before .before .before .before .before .before .before .before .before .before .before .before .receive-at in
-    let args′ = c .before .before .before .before .before .before .before .before .before .before .before .before .before .before .before .before .before .before .before .before .before .before .before .before .before .before .before .before .before .before .before .before .before .before .before .before .before .before .args in
-    let m′ = c .before .before .before .before .before .before .before .before .before .before .before .before .before .before .before .before .before .before .before .before .before .before .before .before .before .before .before .m in
-    let loop-test′ = c .before .before .before .before .before .before .before .before .before .before .before .before .before .before .before .before .before .before .before .before .before .before .before .before .before .before .before .before .before .before .before .loop-test in
+    let struct-known2′ = c .before .before .before .struct-known2 in
+    let loop′ = c .before .before .before .before .before .before .before .before .before .before .before .before .before .before .before .before .before .before .before .before .before .before .before .before .before .before .before .before .before .before .before .before .before .loop in
+    let receive-at′ = c .before .before .before .before .before .before .before .before .before .before .before .before .before .before .before .before .before .before .before .before .before .before .before .before .before .before .before .before .before .before .receive-at in
+    let args′ = c .before .before .before .before .before .before .before .before .before .before .before .before .before .before .before .before .before .before .before .before .before .before .before .before .before .before .before .before .before .before .before .before .before .before .before .before .before .before .before .args in
+    let m′ = c .before .before .before .before .before .before .before .before .before .before .before .before .before .before .before .before .before .before .before .before .before .before .before .before .before .before .before .before .m in
+    let loop-test′ = c .before .before .before .before .before .before .before .before .before .before .before .before .before .before .before .before .before .before .before .before .before .before .before .before .before .before .before .before .before .before .before .before .loop-test in
     let below′ = c .before .before .before .before .before .before .before .before .before .before .before .before .before .before .before .before .before .before .below in
     let put-boolean′ = c .before .before .before .before .before .before .before .before .before .before .before .before .before .before .before .before .before .before .before .before .before .before .before .before .put-boolean in
     let read-statement′ = c .before .before .before .before .before .before .before .before .before .before .before .before .before .before .before .before .before .read-statement in
-    let pre′ = c .before .before .before .before .before .before .before .before .before .before .before .before .before .before .before .before .before .before .before .before .before .before .before .before .before .before .before .before .before .before .before .before .before .before .before .before .before .before .pre in
+    let pre′ = c .before .before .before .before .before .before .before .before .before .before .before .before .before .before .before .before .before .before .before .before .before .before .before .before .before .before .before .before .before .before .before .before .before .before .before .before .before .before .before .pre in
     let finish′ = c .before .before .before .before .before .before .before .before .before .finish in
     let one′ = c .before .before .before .before .before .one in
     let ending-at′ = c .before .before .ending-at in
-    let struct-known′ = c .before .before .before .struct-known in
     let enum-told2′ = c .enum-told2 in
     turn-goes (loop′ .inv) (receive-at′ .ensures (args′ .dictionary .now)) (m′ .given .1) (loop-test′ .taken) (below′ .ensures)
     (put-boolean′ .ensures) (read-statement′ .ensures) (pre′ .1 .1) (finish′ .ensures) (one′ .given .1) (ending-at′ .ensures)
@@ -213,14 +216,14 @@ loop-again t c =
       statements = omega (arith, loop′ .inv .same .statements, put-boolean′ .kept .0, read-statement′ .kept .1 .1 .1 .1 .0, finish′ .kept .1 .0);
       contexts = omega (arith, loop′ .inv .same .contexts, read-statement′ .kept .1 .1 .1 .1 .1 .0);
       conditions = omega (arith, loop′ .inv .same .conditions, read-statement′ .kept .1 .1 .1 .1 .1 .1 .0);
-    }) (omega (arith, struct-known′ .given)) (enum-told2′ .given .1)
+    }) (omega (arith, struct-known2′ .given)) (enum-told2′ .given .1)
 
 pub enum-known-r-2 : (t : ℕ) → read-select-lts.Need-enum-known-r-2 (calls t) (read-select-at t) read-select.Post Inv-loop μ-loop
 enum-known-r-2 t c = search needs
 
 pub same-length-10 : (t : ℕ) → read-select-lts.Need-same-length-10 (calls t) (read-select-at t) read-select.Post Inv-loop μ-loop
 same-length-10 t c =
-    let loop′ = c .before .before .before .before .before .before .before .before .before .before .before .before .before .before .before .before .before .before .before .before .before .before .before .before .before .before .before .before .before .before .before .before .before .loop in
+    let loop′ = c .before .before .before .before .before .before .before .before .before .before .before .before .before .before .before .before .before .before .before .before .before .before .before .before .before .before .before .before .before .before .before .before .before .before .loop in
     let put-boolean′ = c .before .before .before .before .before .before .before .before .before .before .before .before .before .before .before .before .before .before .before .before .before .before .before .before .before .put-boolean in
     let read-statement′ = c .before .before .before .before .before .before .before .before .before .before .before .before .before .before .before .before .before .before .read-statement in
     let finish′ = c .before .before .before .before .before .before .before .before .before .before .finish in
@@ -228,27 +231,27 @@ same-length-10 t c =
 
 pub same-length-11 : (t : ℕ) → read-select-lts.Need-same-length-11 (calls t) (read-select-at t) read-select.Post Inv-loop μ-loop
 same-length-11 t c =
-    let loop′ = c .before .before .before .before .before .before .before .before .before .before .before .before .before .before .before .before .before .before .before .before .before .before .before .before .before .before .before .before .before .before .before .before .before .loop in
+    let loop′ = c .before .before .before .before .before .before .before .before .before .before .before .before .before .before .before .before .before .before .before .before .before .before .before .before .before .before .before .before .before .before .before .before .before .before .loop in
     let read-statement′ = c .before .before .before .before .before .before .before .before .before .before .before .before .before .before .before .before .before .before .read-statement in
     omega (arith, loop′ .inv .same .contexts, read-statement′ .kept .1 .1 .1 .1 .1 .0)
 
 pub same-length-12 : (t : ℕ) → read-select-lts.Need-same-length-12 (calls t) (read-select-at t) read-select.Post Inv-loop μ-loop
 same-length-12 t c =
-    let loop′ = c .before .before .before .before .before .before .before .before .before .before .before .before .before .before .before .before .before .before .before .before .before .before .before .before .before .before .before .before .before .before .before .before .before .loop in
+    let loop′ = c .before .before .before .before .before .before .before .before .before .before .before .before .before .before .before .before .before .before .before .before .before .before .before .before .before .before .before .before .before .before .before .before .before .before .loop in
     let read-statement′ = c .before .before .before .before .before .before .before .before .before .before .before .before .before .before .before .before .before .before .read-statement in
     omega (arith, loop′ .inv .same .conditions, read-statement′ .kept .1 .1 .1 .1 .1 .1 .0)
 
 pub returns-4 : (t : ℕ) → read-select-lts.Need-returns-4 (calls t) (read-select-at t) read-select.Post Inv-loop μ-loop
 returns-4 t c =
-    let loop′ = c .before .before .before .before .before .before .before .before .before .before .before .before .before .before .before .before .before .before .before .before .before .before .before .before .before .before .before .before .before .before .before .before .before .loop in
-    let receive-at′ = c .before .before .before .before .before .before .before .before .before .before .before .before .before .before .before .before .before .before .before .before .before .before .before .before .before .before .before .before .before .before .receive-at in
-    let args′ = c .before .before .before .before .before .before .before .before .before .before .before .before .before .before .before .before .before .before .before .before .before .before .before .before .before .before .before .before .before .before .before .before .before .before .before .before .before .before .before .args in
-    let m′ = c .before .before .before .before .before .before .before .before .before .before .before .before .before .before .before .before .before .before .before .before .before .before .before .before .before .before .before .before .m in
-    let loop-test′ = c .before .before .before .before .before .before .before .before .before .before .before .before .before .before .before .before .before .before .before .before .before .before .before .before .before .before .before .before .before .before .before .before .loop-test in
+    let loop′ = c .before .before .before .before .before .before .before .before .before .before .before .before .before .before .before .before .before .before .before .before .before .before .before .before .before .before .before .before .before .before .before .before .before .before .loop in
+    let receive-at′ = c .before .before .before .before .before .before .before .before .before .before .before .before .before .before .before .before .before .before .before .before .before .before .before .before .before .before .before .before .before .before .before .receive-at in
+    let args′ = c .before .before .before .before .before .before .before .before .before .before .before .before .before .before .before .before .before .before .before .before .before .before .before .before .before .before .before .before .before .before .before .before .before .before .before .before .before .before .before .before .args in
+    let m′ = c .before .before .before .before .before .before .before .before .before .before .before .before .before .before .before .before .before .before .before .before .before .before .before .before .before .before .before .before .before .m in
+    let loop-test′ = c .before .before .before .before .before .before .before .before .before .before .before .before .before .before .before .before .before .before .before .before .before .before .before .before .before .before .before .before .before .before .before .before .before .loop-test in
     let below′ = c .before .before .before .before .before .before .before .before .before .before .before .before .before .before .before .before .before .before .before .below in
     let put-boolean′ = c .before .before .before .before .before .before .before .before .before .before .before .before .before .before .before .before .before .before .before .before .before .before .before .before .before .put-boolean in
     let read-statement′ = c .before .before .before .before .before .before .before .before .before .before .before .before .before .before .before .before .before .before .read-statement in
-    let pre′ = c .before .before .before .before .before .before .before .before .before .before .before .before .before .before .before .before .before .before .before .before .before .before .before .before .before .before .before .before .before .before .before .before .before .before .before .before .before .before .before .pre in
+    let pre′ = c .before .before .before .before .before .before .before .before .before .before .before .before .before .before .before .before .before .before .before .before .before .before .before .before .before .before .before .before .before .before .before .before .before .before .before .before .before .before .before .before .pre in
     let finish′ = c .before .before .before .before .before .before .before .before .before .before .finish in
     let one′ = c .before .before .before .before .before .before .one in
     let ending-at′ = c .before .before .before .ending-at in

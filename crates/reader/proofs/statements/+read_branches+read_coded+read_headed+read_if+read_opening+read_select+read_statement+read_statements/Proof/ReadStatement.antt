@@ -20,14 +20,17 @@ statement-at-requires t c κs = search needs
 pub enum-known-x : (t : ℕ) → read-statement-lts.Need-enum-known-x (calls t) (read-statement-at t) read-statement.Post
 enum-known-x t c = search needs
 
+pub cast-put-boolean : (t : ℕ) → read-statement-lts.Need-cast-put-boolean (calls t) (read-statement-at t) read-statement.Post
+cast-put-boolean t c = search needs
+
 pub put-boolean-requires : (t : ℕ) → read-statement-lts.Need-put-boolean-requires (calls t) (read-statement-at t) read-statement.Post
 put-boolean-requires t c κs = search needs
 
 pub read-coded-requires : (t : ℕ) → read-statement-lts.Need-read-coded-requires (calls t) (read-statement-at t) read-statement.Post
 read-coded-requires t c κs =
-    let pre′ = c .before .before .before .before .before .before .before .before .before .before .before .before .before .before .before .before .pre in
-    let statement-at′ = c .before .before .before .before .before .before .before .before .before .before .statement-at in
-    let x′ = c .before .before .before .before .before .before .before .before .x in
+    let pre′ = c .before .before .before .before .before .before .before .before .before .before .before .before .before .before .before .before .before .pre in
+    let statement-at′ = c .before .before .before .before .before .before .before .before .before .before .before .statement-at in
+    let x′ = c .before .before .before .before .before .before .before .before .before .x in
     (omega (arith, pre′ .0), coded-inside (pre′ .1 .0) (statement-at′ .ensures) (x′ .given .1))
 
 pub finish-requires : (t : ℕ) → read-statement-lts.Need-finish-requires (calls t) (read-statement-at t) read-statement.Post
@@ -47,10 +50,10 @@ same-length-3 t c = search needs
 
 pub returns : (t : ℕ) → read-statement-lts.Need-returns (calls t) (read-statement-at t) read-statement.Post
 returns t c =
-    let args′ = c .before .before .before .before .before .before .before .before .before .before .before .before .before .before .before .before .before .before .before .before .before .before .before .before .before .before .before .args in
-    let statement-at′ = c .before .before .before .before .before .before .before .before .before .before .before .before .before .before .before .before .before .before .before .before .before .statement-at in
-    let pre′ = c .before .before .before .before .before .before .before .before .before .before .before .before .before .before .before .before .before .before .before .before .before .before .before .before .before .before .before .pre in
-    let x′ = c .before .before .before .before .before .before .before .before .before .before .before .before .before .before .before .before .before .before .before .x in
+    let args′ = c .before .before .before .before .before .before .before .before .before .before .before .before .before .before .before .before .before .before .before .before .before .before .before .before .before .before .before .before .args in
+    let statement-at′ = c .before .before .before .before .before .before .before .before .before .before .before .before .before .before .before .before .before .before .before .before .before .before .statement-at in
+    let pre′ = c .before .before .before .before .before .before .before .before .before .before .before .before .before .before .before .before .before .before .before .before .before .before .before .before .before .before .before .before .pre in
+    let x′ = c .before .before .before .before .before .before .before .before .before .before .before .before .before .before .before .before .before .before .before .before .x in
     let put-boolean′ = c .before .before .before .before .before .before .before .before .before .before .before .before .before .before .before .before .put-boolean in
     let read-coded′ = c .before .before .before .before .before .before .before .before .before .before .read-coded in
     let finish′ = c .before .before .finish in
