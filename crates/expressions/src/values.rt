@@ -33,17 +33,21 @@ pub fn read_value(
 {
     match value_at(request, c, levels) {
         ValueHead::Is(k, first) => match k {
-            ValueCode::Literal => read_literal(request, version(around), first),
-            ValueCode::Reference(code) => read_reference(
-                request,
-                dictionary,
-                around,
-                scope,
-                Role::AsValue,
-                c.at,
-                code,
-                first,
-            ),
+            ValueCode::Literal => {
+                return read_literal(request, version(around), first);
+            }
+            ValueCode::Reference(code) => {
+                return read_reference(
+                    request,
+                    dictionary,
+                    around,
+                    scope,
+                    Role::AsValue,
+                    c.at,
+                    code,
+                    first,
+                );
+            }
             ValueCode::Arithmetic(o) => {
                 let below = levels - 1;
                 let a = read_value(request, dictionary, around, scope, contexts, first, below);
@@ -54,7 +58,7 @@ pub fn read_value(
                 let Step::Next(y, after) = b else {
                     return b;
                 };
-                arithmetic(version(around), o, x, y, c.at, after)
+                return arithmetic(version(around), o, x, y, c.at, after);
             }
             ValueCode::Negate => {
                 let below = levels - 1;
@@ -62,7 +66,7 @@ pub fn read_value(
                 let Step::Next(x, after) = a else {
                     return a;
                 };
-                negation(x, c.at, after)
+                return negation(x, c.at, after);
             }
         },
         ValueHead::Refused(r, p) => Step::Refused(r, p),

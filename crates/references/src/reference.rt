@@ -36,14 +36,18 @@ pub fn read_reference(
     match code {
         ReferenceCode::Field => {
             let v = version(around);
-            read_field(request, dictionary, scope, role, true, v, at, c)
+            return read_field(request, dictionary, scope, role, true, v, at, c);
         }
         ReferenceCode::Fid => {
             let v = version(around);
-            read_field(request, dictionary, scope, role, false, v, at, c)
+            return read_field(request, dictionary, scope, role, false, v, at, c);
         }
-        ReferenceCode::Parameter => { read_parameter(request, around, scope, role, false, at, c) }
-        ReferenceCode::Parameter2 => { read_parameter(request, around, scope, role, true, at, c) }
+        ReferenceCode::Parameter => {
+            return read_parameter(request, around, scope, role, false, at, c);
+        }
+        ReferenceCode::Parameter2 => {
+            return read_parameter(request, around, scope, role, true, at, c);
+        }
     }
 }
 

@@ -46,17 +46,17 @@ calls t = (
   negation-reads.Learnt,
 )
 
-returns-2 : (t : ℕ) → read-value-lts.Need-returns-2 (calls t) (at t) read-value.Post
-returns-2 t c =
+returns-4 : (t : ℕ) → read-value-lts.Need-returns-4 (calls t) (at t) read-value.Post
+returns-4 t c =
     let value-at′ = c .before .before .before .before .before .before .before .before .before .before .before .before .before .before .before .before .before .before .before .value-at in
     let k′ = c .before .before .before .before .before .before .before .before .before .before .before .before .before .before .before .before .before .k in
     let k3′ = c .before .before .before .before .before .before .before .before .before .before .before .before .before .before .k3 in
     let shared-slice-known′ = c .before .before .before .before .before .before .before .before .before .before .before .before .before .before .before .before .before .before .before .before .before .before .shared-slice-known in
     search (second-stopped, value-at′ .ensures, k′ .given .1, k3′ .given .1, shared-slice-known′ .given)
 
-returns-6 : (t : ℕ) → read-value-lts.Need-returns-6 (calls t) (at t) read-value.Post
+returns-5 : (t : ℕ) → read-value-lts.Need-returns-5 (calls t) (at t) read-value.Post
 unfolding environmentOf
-returns-6 t c =
+returns-5 t c =
     let version2′ = c .before .version2 in
     let value-at′ = c .before .before .before .before .before .before .before .before .before .before .before .before .before .before .before .before .before .before .before .before .before .before .value-at in
     let k′ = c .before .before .before .before .before .before .before .before .before .before .before .before .before .before .before .before .before .before .before .before .k in
@@ -64,9 +64,9 @@ returns-6 t c =
     let shared-slice-known′ = c .before .before .before .before .before .before .before .before .before .before .before .before .before .before .before .before .before .before .before .before .before .before .before .before .before .shared-slice-known in
     search (arithmetic-wrote, version2′ .ensures, value-at′ .ensures, k′ .given .1, k3′ .given .1, shared-slice-known′ .given)
 
-returns-4 : (t : ℕ) → read-value-lts.Need-returns-4 (calls t) (at t) read-value.Post
+returns : (t : ℕ) → read-value-lts.Need-returns (calls t) (at t) read-value.Post
 unfolding environmentOf
-returns-4 t c = search (literal-wrote, c .before .version .ensures)
+returns t c = search (literal-wrote, c .before .version .ensures)
 
 pub +read-value-spec : {M : Type 1} → statement M
 +read-value-spec = close μ-read-value λ t. read-value-lts.spec
@@ -78,8 +78,10 @@ pub +read-value-spec : {M : Type 1} → statement M
     (λ c. search needs)
     (λ c κs. search needs)
     (λ c κs. search needs)
+    (returns t)
     (λ c. search needs)
     (λ c κs. search needs)
+    (λ c. search reference-wrote)
     (λ c. search needs)
     (λ c. search value-level)
     (λ c κs. search (needs, value-falls))
@@ -91,9 +93,11 @@ pub +read-value-spec : {M : Type 1} → statement M
     (λ c. search needs)
     (λ c. search needs)
     (λ c. search needs)
-    (returns-2 t)
+    (returns-4 t)
     (λ c κs. search needs)
     (λ c κs. search needs)
+    (λ c. search needs)
+    (returns-5 t)
     (λ c. search needs)
     (λ c. search value-level)
     (λ c κs. search (needs, value-falls))
@@ -103,10 +107,6 @@ pub +read-value-spec : {M : Type 1} → statement M
     (λ c. search negate-stopped)
     (λ c κs. search needs)
     (λ c. search needs)
-    (returns-4 t)
-    (λ c. search reference-wrote)
-    (λ c. search needs)
-    (returns-6 t)
-    (λ c. search needs)
     (λ c. search negate-wrote)
+    (λ c. search needs)
     (λ c. search value-refused)

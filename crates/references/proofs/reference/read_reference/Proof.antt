@@ -70,14 +70,14 @@ read-reference-spec =
     enum-told
     version-requires
     read-field-requires
+    returns
     enum-told-2
     version-requires-2
     read-field-requires-2
+    returns-2
     enum-told-3
     read-parameter-requires
+    returns-3
     enum-told-4
     read-parameter-requires-2
-    returns
-    returns-2
-    returns-3
     returns-4)
