@@ -345,8 +345,8 @@ fn large_dictionary() -> Dictionary {
 
 /// A record of the house relation: every field is there.
 fn house_record() -> Vec<u8> {
-    let head = [34, 0, 3, 0, 1, 0, 0, 100, 0, 1, 0, 0, 0, 45, 1];
-    [&head[..], b"TOP", &[3, 0], b"TOP", &[b'A', 0, 0], &[0; 8]].concat()
+    let head = [42, 0, 3, 0, 1, 0, 0, 100, 0, 1, 0, 0, 0, 45, 1];
+    [&head[..], b"TOP", &[3, 0], b"TOP", &[b'A', 0, 0], &[0; 16]].concat()
 }
 
 /// Conditions of several lengths beside a small and a large dictionary; and how much of the time reading and the dictionary's check take.

@@ -7,6 +7,7 @@ use lib.Dec.{eqb, ltb}
 use lib.IntN.{ℤ, pos, negsuc}
 use Rattle.wire.specs.declared.order.Order.{Order}
 use Rattle.wire.specs.declared.order.Order.the-variants.{Less, Equal, Greater}
+use Rattle.wire.specs.declared.codes.Version.{Version}
 use Rattle.wire.specs.declared.codes.Version.the-variants.{Version4, Version5}
 use Rattle.wire.specs.declared.codes.Operator.{Operator}
 use Rattle.wire.specs.declared.codes.Operator.the-variants.{Add, Subtract, Multiply, Divide}
@@ -49,6 +50,9 @@ negate = 4
 unfoldable pub operatorOf : ℕ → Operator
 operatorOf n = cond (eqb n add) Add (cond (eqb n subtract) Subtract (cond (eqb n multiply) Multiply Divide))
 
+abbrev pub rescale : ℕ
+rescale = 5
+
 -- the divide of version 5
 abbrev pub divide5 : ℕ
 divide5 = 6
@@ -71,10 +75,14 @@ matching = 1
 unfoldable pub searchOf : ℕ → TextSearch
 searchOf n = cond (eqb n containing) Containing (cond (eqb n matching) Matching Starting)
 
+-- version 5 for its divide, version 4 for every other operation
+unfoldable pub operationVersion : ℕ → Version
+operationVersion n = cond (eqb n divide5) Version5 Version4
+
 unfoldable pub operation : ℕ → Number → Number → Computed
 operation n a b =
-    cond (ltb n negate) (computed Version4 (operatorOf n) a b)
-    (cond (eqb n negate) (negated a) (cond (eqb n divide5) (computed Version5 Divide a b) (rescaled (places (b .scale)) a)))
+    cond (eqb n negate) (negated a) (cond (eqb n rescale) (rescaled (places (b .scale)) a)
+    (cond (ltb divide5 n) (rescaled (places (b .scale)) a) (computed (operationVersion n) (operatorOf n) a b)))
 
 -- ---- the numbers that a case gives
 

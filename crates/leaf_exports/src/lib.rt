@@ -1,7 +1,7 @@
 // Test exports of the leaves, for the comparison with the second program. They are no part of the product's interface.
 ghost use mathlib.Core.Path.{_≡_};
 ghost use Rattle.wire.specs.Words.{wordAt, longAt, signed};
-ghost use Rattle.leaf_exports.specs.Exports.{operatorOf, textTypeOf, searchOf, operation, ComputedInto, signOf, isMalformed, startOf, endOf};
+ghost use Rattle.leaf_exports.specs.Exports.{operatorOf, textTypeOf, searchOf, operationVersion, operation, ComputedInto, signOf, isMalformed, startOf, endOf};
 ghost use Rattle.decimal.specs.Number.{compared};
 ghost use Rattle.text.specs.Value.{textPart, bytesOf};
 ghost use Rattle.text.specs.Tests.{textOrder, search};
@@ -26,6 +26,8 @@ const SUBTRACT: u8 = 1;
 const MULTIPLY: u8 = 2;
 
 const NEGATE: u8 = 4;
+
+const RESCALE: u8 = 5;
 
 // The divide of version 5.
 const DIVIDE5: u8 = 6;
@@ -56,7 +58,18 @@ fn operator_of(o: u8) -> Operator
     }
 }
 
-// Any other number above negate's brings the first to the scale of the second.
+// Version 5 for its divide, version 4 for every other operation.
+fn version_of(o: u8) -> Version
+    ensures { λ r. ⌜ r ≡ operationVersion o ⌝ }
+{
+    if o == DIVIDE5 {
+        Version::Version5
+    } else {
+        Version::Version4
+    }
+}
+
+// Any other number above negate's brings the first to the scale of the second. There is one call of `compute`, so that it is laid in here.
 // The numbers come by their parts, as the exports have them: a struct would go through memory.
 fn operate(o: u8, a: i64, a_scale: i8, b: i64, b_scale: i8) -> Computed
     ensures { λ r. ⌜ r ≡ operation o (record { value = a; scale = «a_scale» }) (record { value = b; scale = «b_scale» }) ⌝ }
@@ -69,16 +82,16 @@ fn operate(o: u8, a: i64, a_scale: i8, b: i64, b_scale: i8) -> Computed
         value: b,
         scale: b_scale,
     };
-    if o < NEGATE {
-        return decimal::compute(Version::Version4, operator_of(o), first, second);
-    }
     if o == NEGATE {
         return decimal::negate(first);
     }
-    if o == DIVIDE5 {
-        return decimal::compute(Version::Version5, Operator::Divide, first, second);
+    if o == RESCALE {
+        return decimal::rescale(first, b_scale);
     }
-    decimal::rescale(first, b_scale)
+    if DIVIDE5 < o {
+        return decimal::rescale(first, b_scale);
+    }
+    decimal::compute(version_of(o), operator_of(o), first, second)
 }
 
 // 0, or refusal 24 or 25; value and scale of the result are left in the answer, zeros where there is none.
