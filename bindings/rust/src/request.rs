@@ -86,7 +86,7 @@ pub struct Request<'a> {
 impl<'a> Request<'a> {
     /// Reads a request beside a dictionary: the rows of its statements, parameters and contexts, or a refusal, 2 or 4 to 16.
     ///
-    /// Any bytes may be given. The library uses up to 52 kilobytes of stack for the requests that were tried; that is measured
+    /// Any bytes may be given. The library uses up to 41 kilobytes of stack for the requests that were tried; that is measured
     /// and not proved.
     pub fn read(dictionary: &Dictionary<'a>, bytes: &'a [u8]) -> Result<Request<'a>, Refusal> {
         let mut statements = vec![0; STATEMENT_TABLE];
