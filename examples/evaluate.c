@@ -36,7 +36,7 @@ static void put_bed(uint8_t bed[BED_BYTES], unsigned missing_bits, unsigned heat
 
 static void print_answer(uint64_t evaluation)
 {
-    static const char *const inputs[] = {"request", "dictionary", "message bytes", "records"};
+    static const char *const inputs[] = {"request", "dictionary", "message bytes", "records", "runs"};
     uint32_t refusal = greenblr_number(evaluation);
     switch (greenblr_answer(evaluation)) {
     case GREENBLR_FALSE: printf("false\n"); break;
@@ -50,7 +50,7 @@ static void print_answer(uint64_t evaluation)
 
 static void evaluate(const uint8_t *records, size_t length)
 {
-    print_answer(greenblr_evaluate(request, sizeof request, dictionary, sizeof dictionary, 0, images, sizeof images, records, length));
+    print_answer(greenblr_evaluate(request, sizeof request, dictionary, sizeof dictionary, 0, images, sizeof images, records, length, NULL, 0));
 }
 
 int main(void)

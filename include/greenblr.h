@@ -1,8 +1,8 @@
 /* greenblr: reads BLR requests and evaluates their conditions, for greenhouse controllers.
  *
  * BLR is the binary request language of the InterBase and Rdb family. The library checks a request beside a house dictionary
- * and lists what it holds (greenblr_read), evaluates a condition of it over records (greenblr_evaluate), and keeps the records
- * of one relation in a buffer of the caller's (greenblr_store_make and five more). A node that can't measure sends 65535: that is
+ * and lists what it holds (greenblr_read), evaluates a condition of it over records and runs of them (greenblr_evaluate), and keeps
+ * the records of one relation in a buffer of the caller's (greenblr_store_make and five more). A node that can't measure sends 65535: that is
  * no reading, and a comparison with it is missing, neither true nor false.
  *
  * All calls
@@ -16,7 +16,7 @@
  * - What a call writes (tables, answer, the buffer of a store) may not overlap anything else that it is given.
  *
  * Machines: the archive is for x86-64 Linux with 64-bit pointers, and needs memcpy and memset of the C library, nothing else.
- * C99 and later, and C++, can include this header. Stack: the requests that were tried use up to 41 kilobytes, which is measured
+ * C99 and later, and C++, can include this header. Stack: the requests that were tried use up to 68 kilobytes, which is measured
  * and not proved.
  *
  * Names: all start with greenblr_ or GREENBLR_, so this header can stand in one file with InterBase's ibase.h and blr.h, in
@@ -107,7 +107,8 @@ enum greenblr_refusal {
     GREENBLR_REFUSAL_BAD_VERSION = 5,        /* the first byte is no version that is read, neither 4 nor 5: 0 */
     GREENBLR_REFUSAL_NOT_DUE = 6,            /* a code that is not due here, as type 16 in version 4: the code */
     GREENBLR_REFUSAL_LEFT_OUT = 7,           /* a code of BLR that this library leaves out: the code */
-    GREENBLR_REFUSAL_TOO_GREAT = 8,          /* a greatest size passed: the code; parameters: count word; message bytes: descriptor */
+    GREENBLR_REFUSAL_TOO_GREAT = 8,          /* a greatest size passed: the code; parameters: count word; message bytes: descriptor;
+                                                2 to 8 streams of an any or unique: their count */
     GREENBLR_REFUSAL_BAD_MESSAGE = 9,        /* a message declared or selected twice, or undeclared: the message byte */
     GREENBLR_REFUSAL_NO_PARAMETER = 10,      /* no such parameter: its word */
     GREENBLR_REFUSAL_BAD_CONTEXT = 11,       /* a context in scope already, or not in scope: the context byte */
@@ -127,6 +128,7 @@ enum greenblr_refusal {
     GREENBLR_REFUSAL_OVERFLOW = 24,          /* a number that does not fit in 64 bits, in version 5 also the multiplied
                                                 dividend: in the request, the operator */
     GREENBLR_REFUSAL_ZERO_DIVISOR = 25,      /* a division by zero: in the request, the operator */
+    GREENBLR_REFUSAL_BAD_RUNS = 26,          /* runs not as due, after 22: in the runs, placed as 22 is, by entries of kind 7 */
     /* Of a store, after 3, and after 12 for its relation. The place is 0. */
     GREENBLR_REFUSAL_MALFORMED_STORE = 50,   /* the buffer holds no store, or has over 65,535 bytes */
     GREENBLR_REFUSAL_NO_POSITION = 51,       /* no record at this position */
@@ -161,6 +163,7 @@ static inline const char *greenblr_refusal_text(uint32_t refusal)
     case GREENBLR_REFUSAL_MALFORMED_TEXT: return "a varying is longer than its size, or a cstring has no zero";
     case GREENBLR_REFUSAL_OVERFLOW: return "a number does not fit";
     case GREENBLR_REFUSAL_ZERO_DIVISOR: return "a division by zero";
+    case GREENBLR_REFUSAL_BAD_RUNS: return "the runs are not as due";
     case GREENBLR_REFUSAL_MALFORMED_STORE: return "the buffer holds no store, or is too long";
     case GREENBLR_REFUSAL_NO_POSITION: return "the store has no record at this position";
     case GREENBLR_REFUSAL_WRONG_RECORD: return "not one proper record of the relation";
@@ -175,7 +178,8 @@ enum greenblr_input {
     GREENBLR_INPUT_REQUEST = 0,
     GREENBLR_INPUT_DICTIONARY = 1,
     GREENBLR_INPUT_IMAGES = 2,
-    GREENBLR_INPUT_RECORDS = 3
+    GREENBLR_INPUT_RECORDS = 3,
+    GREENBLR_INPUT_RUNS = 4
 };
 
 static inline enum greenblr_input greenblr_refusal_input(uint32_t refusal)
@@ -184,6 +188,7 @@ static inline enum greenblr_input greenblr_refusal_input(uint32_t refusal)
     case GREENBLR_REFUSAL_BAD_DICTIONARY: return GREENBLR_INPUT_DICTIONARY;
     case GREENBLR_REFUSAL_BAD_MESSAGE_BYTES: return GREENBLR_INPUT_IMAGES;
     case GREENBLR_REFUSAL_BAD_RECORDS: return GREENBLR_INPUT_RECORDS;
+    case GREENBLR_REFUSAL_BAD_RUNS: return GREENBLR_INPUT_RUNS;
     default: return GREENBLR_INPUT_REQUEST;
     }
 }
@@ -228,7 +233,13 @@ enum greenblr_why {
 /* Evaluates a condition of a request, by its number: from 0 in reading order, those inside another condition not counted.
  *
  * images: the bytes of all messages in declaration order, joined. records: one record's entry for each context in scope at the
- * condition, in declaration order, joined (greenblr(7)).
+ * condition, in declaration order, joined. runs: an entry of kind 7 for each any and unique of the condition, in the order of their
+ * codes, joined; it holds the records, none or more, that the code goes over (greenblr(7)). No run is due where there is no such
+ * code, and then the length is 0.
+ *
+ * Any is true if one record of its run makes its condition true, unique if exactly one does; a record that makes it missing counts
+ * for neither, and the answer is never missing. All records are tested. With one any or unique inside another the time grows with
+ * the product of the counts of records.
  *
  * Gives one number, which holds all of the answer; the four functions below take it apart. Nothing is written.
  */
@@ -236,7 +247,8 @@ uint64_t greenblr_evaluate(const uint8_t *request, size_t request_length,
                            const uint8_t *dictionary, size_t dictionary_length,
                            size_t number,
                            const uint8_t *images, size_t images_length,
-                           const uint8_t *records, size_t records_length);
+                           const uint8_t *records, size_t records_length,
+                           const uint8_t *runs, size_t runs_length);
 
 /* The greatest place that an evaluation holds: it stands for every greater one too. */
 #define GREENBLR_MAX_PLACE ((uint64_t)-1 >> 16)
@@ -253,7 +265,7 @@ static inline unsigned greenblr_cause(uint64_t evaluation)
     return greenblr_answer(evaluation) == GREENBLR_MISSING ? (unsigned)(evaluation >> 8 & 0xff) : (unsigned)GREENBLR_CAUSE_NONE;
 }
 
-/* The number of a refusal, 2 to 16 or 20 to 25, and of every other answer GREENBLR_REFUSAL_NONE. */
+/* The number of a refusal, 2 to 16 or 20 to 26, and of every other answer GREENBLR_REFUSAL_NONE. */
 static inline unsigned greenblr_number(uint64_t evaluation)
 {
     return greenblr_answer(evaluation) == GREENBLR_REFUSED ? (unsigned)(evaluation >> 8 & 0xff) : (unsigned)GREENBLR_REFUSAL_NONE;
@@ -372,7 +384,9 @@ uint32_t greenblr_store_find(const uint8_t *dictionary, size_t dictionary_length
 #define GREENBLR_CODE_OR 57
 #define GREENBLR_CODE_AND 58
 #define GREENBLR_CODE_NOT 59
+#define GREENBLR_CODE_ANY 60
 #define GREENBLR_CODE_MISSING 61
+#define GREENBLR_CODE_UNIQUE 62
 
 /* Streams and clauses. */
 #define GREENBLR_CODE_RSE 67
@@ -415,8 +429,6 @@ uint32_t greenblr_store_find(const uint8_t *dictionary, size_t dictionary_length
 #define GREENBLR_CODE_USER_NAME 44
 #define GREENBLR_CODE_NULL 45
 
-#define GREENBLR_CODE_ANY 60
-#define GREENBLR_CODE_UNIQUE 62
 #define GREENBLR_CODE_LIKE 63
 
 #define GREENBLR_CODE_FIRST 68

@@ -1,7 +1,7 @@
 # Turns cases of the second program, one a line, into equations of the definitions, each in the next of so many `crates`, in files of fifty. `dir` is the
 # path of the crates without their number.
 
-# a byte string of hex digits, with runs written (bb*count), as a list
+# a byte string of hex digits, with equal bytes written (bb*count), as a list
 function list(h,    s, close_, run, k) {
     if (h == "-") return "[]"
     s = ""; close_ = ""
@@ -61,7 +61,7 @@ function open_file(crate,    proofs, name) {
     k = index($0, " = ")
     right = substr($0, k + 3)
     if ($1 == "read") left = "readAnswer " list($3) " " list($2) " " $4 " " $5 " " $6
-    else left = "evaluateAnswer " list($3) " " list($2) " " $4 " " list($5) " " list($6)
+    else left = "evaluateAnswer " list($3) " " list($2) " " $4 " " list($5) " " list($6) " " ($7 == "=" ? "[]" : list($7))
     if (right == "missing") left = "anyCause (" left ")"
     print "" > file[crate]
     print "case" NR " : " left " ≡ " answer(right) > file[crate]

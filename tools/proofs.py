@@ -74,8 +74,9 @@ def generated(crate):
 
 
 def places_of(folder, function):
-    """The file with the places of a function, `name` or `module/name`; of a member of a cycle of calls too. None where there is none."""
-    ends = (f'/{function}/Lts.antt', f'/Lts-{function}.antt')
+    """The file with the places of a function, `name` or `module/name`; of a member of a cycle of calls too, `module·name` where the cycle
+    has members of two modules. None where there is none."""
+    ends = (f'/{function}/Lts.antt', f'/Lts-{function.replace("·", "-")}.antt')
     return next((f for f in sorted(glob.glob(f'{folder}/**/Lts*.antt', recursive=True)) if f.endswith(ends)), None)
 
 

@@ -2,16 +2,17 @@
 
 use crate::proved;
 use second::cases::answer_and_cause;
-use second::evaluator;
+use second::evaluator::{self, Lent};
 use second::generate::{self, Case, Size};
 use second::hex;
 
 const DICTIONARY: &str = include_str!("../../second/tests/real/dictionary.hex");
 const CONDITIONS: &str = include_str!("../../second/tests/real/conditions.jsonl");
-const AGREED: [&str; 4] = [
+const AGREED: [&str; 5] = [
     include_str!("../../second/tests/agreed/evaluations.txt"),
     include_str!("../../second/tests/agreed/no-01.txt"),
     include_str!("../../second/tests/agreed/no-03.txt"),
+    include_str!("../../second/tests/agreed/no-04.txt"),
     include_str!("../../second/tests/agreed/no-08.txt"),
 ];
 
@@ -22,14 +23,16 @@ struct Input {
     condition: usize,
     messages: Vec<u8>,
     records: Vec<u8>,
+    runs: Vec<u8>,
 }
 
 impl Input {
     /// The words that both programs give.
     fn outcomes(&self) -> (String, String) {
-        let Input { dictionary, request, condition, messages, records } = self;
-        let proved = proved::evaluate(request, dictionary, *condition, messages, records);
-        let plain = evaluator::evaluate(request, dictionary, *condition, messages, records)
+        let Input { dictionary, request, condition, messages, records, runs } = self;
+        let proved = proved::evaluate(request, dictionary, *condition, messages, records, runs);
+        let lent = Lent { messages, records, runs };
+        let plain = evaluator::evaluate_over(request, dictionary, *condition, lent)
             .map(|answer| answer_and_cause(answer).to_string())
             .unwrap_or_else(|refusal| format!("refused {} {}", refusal.number, refusal.place));
         (proved, plain)
@@ -37,21 +40,28 @@ impl Input {
 
     /// The input as a line of a case has it.
     fn text(&self) -> String {
-        let parts = [&self.dictionary, &self.request, &self.messages, &self.records];
-        let [dictionary, request, messages, records] = parts.map(|bytes| hex::write(bytes));
-        format!("evaluate {dictionary} {request} {} {messages} {records}", self.condition)
+        let parts = [&self.dictionary, &self.request, &self.messages, &self.records, &self.runs];
+        let [dictionary, request, messages, records, runs] = parts.map(|bytes| hex::write(bytes));
+        format!("evaluate {dictionary} {request} {} {messages} {records} {runs}", self.condition)
     }
 }
 
-/// A generated case; a reading is evaluated as well, with no messages and no records.
+/// A generated case; a reading is evaluated as well, with no messages, no records and no runs.
 fn input(case: Case, index: usize) -> Input {
     match case {
-        Case::Evaluate { dictionary, request, condition, messages, records } => {
-            Input { dictionary, request, condition, messages, records }
+        Case::Evaluate { dictionary, request, condition, messages, records, runs } => {
+            Input { dictionary, request, condition, messages, records, runs }
         }
         Case::Read { dictionary, request, .. } => {
             let condition = [0, 1, 511, 512, usize::MAX][index % 5];
-            Input { dictionary, request, condition, messages: vec![], records: vec![] }
+            Input {
+                dictionary,
+                request,
+                condition,
+                messages: vec![],
+                records: vec![],
+                runs: vec![],
+            }
         }
     }
 }
@@ -79,7 +89,8 @@ fn real() -> Vec<(Input, String)> {
             let [request, messages, records] =
                 ["request", "messages", "records"].map(|key| bytes(part(line, key)));
             let dictionary = dictionary.clone();
-            let input = Input { dictionary, request, condition: 0, messages, records };
+            let runs = Vec::new();
+            let input = Input { dictionary, request, condition: 0, messages, records, runs };
             (input, due(line))
         })
         .collect()
@@ -93,14 +104,18 @@ fn agreed() -> Vec<(Input, String)> {
         .flat_map(|text| text.lines())
         .filter_map(|line| {
             let (input, answer) = line.split_once(" = ")?;
-            let words: Vec<&str> = input.split(' ').collect();
-            let ["evaluate", dictionary, request, condition, messages, records] = words[..] else {
+            let mut words: Vec<&str> = input.split(' ').collect();
+            // A line without runs ends with the records.
+            words.resize(words.len().max(7), "-");
+            let ["evaluate", dictionary, request, condition, messages, records, runs] = words[..]
+            else {
                 return None;
             };
-            let [dictionary, request, messages, records] =
-                [dictionary, request, messages, records].map(bytes);
+            let [dictionary, request, messages, records, runs] =
+                [dictionary, request, messages, records, runs].map(bytes);
             let condition = condition.parse().ok()?;
-            Some((Input { dictionary, request, condition, messages, records }, answer.to_string()))
+            let input = Input { dictionary, request, condition, messages, records, runs };
+            Some((input, answer.to_string()))
         })
         .collect()
 }
@@ -111,15 +126,15 @@ fn is_due(outcome: &str, due: &str) -> bool {
 }
 
 /// What generated cases come out as: true, false, missing by each cause, and the refusals by their numbers.
-const OUTCOMES: usize = 29;
+const OUTCOMES: usize = 30;
 
 fn outcome(text: &str) -> usize {
     match text {
         "true" => 0,
         "false" => 1,
-        "missing bit" => 26,
-        "missing reading" => 27,
-        "missing flag" => 28,
+        "missing bit" => 27,
+        "missing reading" => 28,
+        "missing flag" => 29,
         _ => text.split(' ').nth(1).and_then(|word| word.parse().ok()).unwrap_or(17),
     }
 }

@@ -29,6 +29,8 @@ extern "C" {
         images_length: usize,
         records: *const u8,
         records_length: usize,
+        runs: *const u8,
+        runs_length: usize,
     ) -> u64;
     fn greenblr_store_make(
         dictionary: *const u8,
@@ -310,6 +312,7 @@ pub fn evaluation(
     condition: usize,
     messages: &[u8],
     records: &[u8],
+    runs: &[u8],
 ) -> u64 {
     // Each slice passes as a pointer and its length, and is borrowed for the call alone.
     unsafe {
@@ -323,6 +326,8 @@ pub fn evaluation(
             messages.len(),
             records.as_ptr(),
             records.len(),
+            runs.as_ptr(),
+            runs.len(),
         )
     }
 }
@@ -334,8 +339,9 @@ pub fn evaluate(
     condition: usize,
     messages: &[u8],
     records: &[u8],
+    runs: &[u8],
 ) -> String {
-    let given = evaluation(request, dictionary, condition, messages, records);
+    let given = evaluation(request, dictionary, condition, messages, records, runs);
     match given & 0xff {
         0 => "false".to_string(),
         1 => "true".to_string(),

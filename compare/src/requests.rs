@@ -9,7 +9,8 @@ use second::reader::{self, TABLE_LENGTHS};
 const DICTIONARY: &str = include_str!("../../second/tests/real/dictionary.hex");
 const REQUESTS: &str = include_str!("../../second/tests/real/requests.jsonl");
 const CONDITIONS: &str = include_str!("../../second/tests/real/conditions.jsonl");
-const AGREED: [&str; 2] = [
+const AGREED: [&str; 3] = [
+    include_str!("../../second/tests/agreed/no-04.txt"),
     include_str!("../../second/tests/agreed/no-07.txt"),
     include_str!("../../second/tests/agreed/no-08.txt"),
 ];

@@ -1,7 +1,8 @@
 //! The stack that the proved reader and evaluator use: each works on a stack of known bytes, and what is no longer known was used.
 
 use crate::proved;
-use second::generate::{assemble, dictionaries};
+use crate::times::house_record;
+use second::generate::{assemble, data, dictionaries};
 use second::reader::TABLE_LENGTHS;
 use second::wire;
 use std::ffi::{c_int, c_void};
@@ -30,7 +31,7 @@ extern "C" {
 enum Work {
     Nothing,
     Read(Vec<u8>),
-    Evaluate(Vec<u8>),
+    Evaluate(Vec<u8>, Vec<u8>),
 }
 
 struct Job {
@@ -39,7 +40,7 @@ struct Job {
     tables: [Vec<u32>; 3],
 }
 
-/// Reads the request, or evaluates its first condition with one long as message and no records.
+/// Reads the request, or evaluates its first condition with one long as message, no records, and runs.
 extern "C" fn work(job: *mut c_void) -> *mut c_void {
     let job = unsafe { &mut *job.cast::<Job>() };
     let [statements, parameters, contexts] = &mut job.tables;
@@ -49,8 +50,8 @@ extern "C" fn work(job: *mut c_void) -> *mut c_void {
             let answer = proved::read(request, &job.dictionary, statements, parameters, contexts);
             answer.expect("a request that the rules allow");
         }
-        Work::Evaluate(request) => {
-            let given = proved::evaluation(request, &job.dictionary, 0, &[0; 4], &[]);
+        Work::Evaluate(request, runs) => {
+            let given = proved::evaluation(request, &job.dictionary, 0, &[0; 4], &[], runs);
             assert!(given & 0xff < 3, "a condition that comes out");
         }
     }
@@ -160,13 +161,13 @@ pub fn run() {
     for (name, request) in cases {
         println!("{name:<32} {:>8} bytes of stack", used(Work::Read(request)) - own);
     }
-    for (name, request) in deepest_conditions() {
-        println!("{name:<32} {:>8} bytes of stack", used(Work::Evaluate(request)) - own);
+    for (name, request, runs) in deepest_conditions() {
+        println!("{name:<32} {:>8} bytes of stack", used(Work::Evaluate(request, runs)) - own);
     }
 }
 
-/// Conditions of the greatest depth: not, and negate under one test.
-fn deepest_conditions() -> Vec<(&'static str, Vec<u8>)> {
+/// Conditions of the greatest depth, with their runs: not, negate under one test, any in any with a record for each.
+fn deepest_conditions() -> Vec<(&'static str, Vec<u8>, Vec<u8>)> {
     let conditional = |boolean: Vec<u8>| {
         let body = [&[wire::IF], boolean.as_slice(), &[wire::BEGIN, wire::END], &[wire::END]];
         nested(0, body.concat(), |_, inner| inner)
@@ -176,9 +177,16 @@ fn deepest_conditions() -> Vec<(&'static str, Vec<u8>)> {
     let negates = [&[wire::MISSING][..], &[wire::NEGATE; 28], &value].concat();
     let sums =
         (0..28).fold(value.clone(), |rest, _| assemble::operator(wire::ADD, &[&rest, &value]));
+    let test = assemble::operator(wire::MISSING, &[&value]);
+    let anys = (0..28).fold(test, |inner, context| {
+        let clauses = [&[wire::BOOLEAN], inner.as_slice()].concat();
+        assemble::over(wire::ANY, &assemble::rid(1, context), &clauses)
+    });
+    let runs = data::run(&[house_record()]).repeat(28);
     vec![
-        ("evaluation: not", conditional(nots)),
-        ("evaluation: negate", conditional(negates)),
-        ("evaluation: add", conditional(assemble::operator(wire::MISSING, &[&sums]))),
+        ("evaluation: not", conditional(nots), vec![]),
+        ("evaluation: negate", conditional(negates), vec![]),
+        ("evaluation: add", conditional(assemble::operator(wire::MISSING, &[&sums])), vec![]),
+        ("evaluation: any", conditional(anys), runs),
     ]
 }

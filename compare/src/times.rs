@@ -4,9 +4,9 @@ use crate::plain;
 use crate::proved::{self, Computed, Number};
 use second::decimal::{self, Fault};
 use second::dictionary::{Dictionary, Relation};
-use second::evaluator;
+use second::evaluator::{self, Lent};
 use second::generate::rng::Rng;
-use second::generate::{assemble, dictionaries};
+use second::generate::{assemble, data, dictionaries};
 use second::reader::{self, TABLE_LENGTHS};
 use second::store::{self, Call};
 use second::{text, wire};
@@ -344,7 +344,7 @@ fn large_dictionary() -> Dictionary {
 }
 
 /// A record of the house relation: every field is there.
-fn house_record() -> Vec<u8> {
+pub fn house_record() -> Vec<u8> {
     let head = [42, 0, 3, 0, 1, 0, 0, 100, 0, 1, 0, 0, 0, 45, 1];
     [&head[..], b"TOP", &[3, 0], b"TOP", &[b'A', 0, 0], &[0; 16]].concat()
 }
@@ -360,7 +360,7 @@ fn evaluations() {
             let (one, other) = both(
                 calls,
                 |_| {
-                    let given = proved::evaluation(&request, &dictionary, 0, &[], &record);
+                    let given = proved::evaluation(&request, &dictionary, 0, &[], &record, &[]);
                     assert!(black_box(given) & 0xff < 3, "a condition that comes out");
                 },
                 |_| {
@@ -392,7 +392,45 @@ fn evaluations() {
     }
 }
 
-/// Prints a line for each leaf: its ratio, and the time of a proved call.
+/// A request with an if of a boolean.
+fn request_if(boolean: &[u8]) -> Vec<u8> {
+    let statement = [&[wire::IF], boolean, &assemble::NOTHING, &[wire::END]].concat();
+    assemble::request(&[&statement])
+}
+
+/// Any over a run of 1,000 records, and one in another over runs of 100 each, all records tested.
+fn runs() {
+    let dictionary = dictionaries::encode(&dictionaries::house());
+    let over = |context: u8, condition: &[u8]| {
+        let clauses = [&[wire::BOOLEAN], condition].concat();
+        assemble::over(wire::ANY, &assemble::rid(1, context), &clauses)
+    };
+    let heat = |context: u8| assemble::fid(context, 2);
+    let above = assemble::operator(wire::GTR, &[&heat(1), &assemble::short(0, 31)]);
+    let below = assemble::operator(wire::LSS, &[&heat(2), &heat(1)]);
+    let run = |count: usize| data::run(&vec![house_record(); count]);
+    let works = [
+        ("any over 1,000", over(1, &above), run(1_000)),
+        ("any in any, 100 by 100", over(1, &over(2, &below)), [run(100), run(100)].concat()),
+    ];
+    for (name, boolean, runs) in works {
+        let request = request_if(&boolean);
+        line(
+            name,
+            40,
+            |_| {
+                let given = proved::evaluation(&request, &dictionary, 0, &[], &[], &runs);
+                assert!(black_box(given) & 0xff < 3, "a condition that comes out");
+            },
+            |_| {
+                let lent = Lent { messages: &[], records: &[], runs: &runs };
+                let answer = evaluator::evaluate_over(&request, &dictionary, 0, lent);
+                black_box(answer).expect("a condition that comes out");
+            },
+        );
+    }
+}
+
 /// The records of BEDS of document 01 in a full buffer of 65,535 bytes, and one record.
 fn full_store() -> (Vec<u8>, Vec<u8>, Vec<u8>) {
     let dictionary = [
@@ -435,6 +473,7 @@ fn stores() {
     );
 }
 
+/// Prints a line for each leaf: its ratio, and the time of a proved call.
 pub fn run() {
     let mut rng = Rng::new(1);
     println!("{:<32} {:>8}", "leaf", "ratio");
@@ -445,5 +484,6 @@ pub fn run() {
     dictionary_check();
     readings();
     evaluations();
+    runs();
     stores();
 }

@@ -1,11 +1,12 @@
 //! Cases as lines: the input, `=`, and the outcome.
 //!
 //! `read DICTIONARY REQUEST LENGTHS.. = accepted S P C | rows ; .. | rows ; .. | rows ; ..`,
-//! `evaluate DICTIONARY REQUEST CONDITION MESSAGES RECORDS = true`, or `= refused NUMBER PLACE`.
-//! A table without rows has nothing between its bars. A missing answer stands with its cause:
-//! `= missing bit`, `= missing reading` or `= missing flag`.
+//! `evaluate DICTIONARY REQUEST CONDITION MESSAGES RECORDS RUNS = true`, or `= refused NUMBER
+//! PLACE`. Where no byte of a run is lent, RUNS is left out. A table without rows has nothing
+//! between its bars. A missing answer stands with its cause: `= missing bit`, `= missing reading`
+//! or `= missing flag`.
 
-use crate::evaluator::{evaluate, Answer};
+use crate::evaluator::{evaluate_over, Answer, Lent};
 use crate::generate::Case;
 use crate::hex;
 use crate::reader::{self, WIDTHS};
@@ -24,10 +25,12 @@ pub fn input(case: &Case) -> String {
             let lengths = lengths.map(|length| length.to_string()).join(" ");
             format!("read {} {} {lengths}", hex::write(dictionary), hex::write(request))
         }
-        Case::Evaluate { dictionary, request, condition, messages, records } => {
+        Case::Evaluate { dictionary, request, condition, messages, records, runs } => {
             let [dictionary, request, messages, records] =
                 [dictionary, request, messages, records].map(|bytes| hex::write(bytes));
-            format!("evaluate {dictionary} {request} {condition} {messages} {records}")
+            let runs =
+                if runs.is_empty() { String::new() } else { format!(" {}", hex::write(runs)) };
+            format!("evaluate {dictionary} {request} {condition} {messages} {records}{runs}")
         }
     }
 }
@@ -36,8 +39,9 @@ pub fn input(case: &Case) -> String {
 pub fn outcome(case: &Case) -> String {
     let result = match case {
         Case::Read { dictionary, request, lengths } => read(dictionary, request, *lengths),
-        Case::Evaluate { dictionary, request, condition, messages, records } => {
-            let result = evaluate(request, dictionary, *condition, messages, records);
+        Case::Evaluate { dictionary, request, condition, messages, records, runs } => {
+            let lent = Lent { messages, records, runs };
+            let result = evaluate_over(request, dictionary, *condition, lent);
             result.map(|answer| answer_and_cause(answer).to_string())
         }
     };

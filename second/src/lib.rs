@@ -1,9 +1,9 @@
 //! A second, plain reader and evaluator of BLR requests over a house dictionary.
 //!
-//! It is written from document 01 and requests No. 1, No. 3, No. 7, No. 8 and No. 10 of document 02
-//! alone, with vectors and 128-bit numbers where they make a rule short, so that its results can be
-//! compared with those of another implementation. Places count bytes from the start of the request
-//! or of the dictionary.
+//! It is written from document 01 and requests No. 1, No. 3, No. 4, No. 7, No. 8 and No. 10 of
+//! document 02 alone, with vectors and 128-bit numbers where they make a rule short, so that its
+//! results can be compared with those of another implementation. Places count bytes from the start
+//! of the request or of the dictionary.
 
 /// Printing of cases with their outcomes, one a line.
 pub mod cases;

@@ -2,7 +2,7 @@
 
 use second::cases;
 use second::count::Tally;
-use second::evaluator::evaluate;
+use second::evaluator::{evaluate_over, Lent};
 use second::generate::{self, conditions, inputs::inputs, readings, Case, Size};
 use second::hex;
 use second::listing::listing;
@@ -13,7 +13,7 @@ use std::process::ExitCode;
 
 const USAGE: &str = "usage:
   second listing < INPUT
-  second evaluate DICTIONARYHEX REQUESTHEX CONDITION MESSAGESHEX RECORDSHEX
+  second evaluate DICTIONARYHEX REQUESTHEX CONDITION MESSAGESHEX RECORDSHEX [RUNSHEX]
   second cases small|mixed|readings|conditions SEED COUNT
   second count small|mixed|readings|conditions SEED COUNT
   second inputs SEED COUNT FOLDER
@@ -25,7 +25,10 @@ fn main() -> ExitCode {
     let done = match words.as_slice() {
         ["listing"] => list(),
         ["evaluate", dictionary, request, condition, messages, records] => {
-            evaluate_hex([dictionary, request, messages, records], condition)
+            evaluate_hex([dictionary, request, messages, records, "-"], condition)
+        }
+        ["evaluate", dictionary, request, condition, messages, records, runs] => {
+            evaluate_hex([dictionary, request, messages, records, runs], condition)
         }
         ["cases", size, seed, count] => print_cases(size, seed, count),
         ["count", size, seed, count] => print_count(size, seed, count),
@@ -53,13 +56,14 @@ fn list() -> Option<io::Result<()>> {
 }
 
 /// The outcome of one evaluation; nothing if an argument cannot be read.
-fn evaluate_hex(strings: [&str; 4], condition: &str) -> Option<io::Result<()>> {
+fn evaluate_hex(strings: [&str; 5], condition: &str) -> Option<io::Result<()>> {
     let mut bytes = Vec::new();
     for string in strings {
         bytes.push(hex::read(string)?);
     }
     let condition: usize = condition.parse().ok()?;
-    let outcome = match evaluate(&bytes[1], &bytes[0], condition, &bytes[2], &bytes[3]) {
+    let lent = Lent { messages: &bytes[2], records: &bytes[3], runs: &bytes[4] };
+    let outcome = match evaluate_over(&bytes[1], &bytes[0], condition, lent) {
         Ok(answer) => cases::answer_name(answer).to_string(),
         Err(refusal) => format!("refused {} at {}", refusal.number, refusal.place),
     };

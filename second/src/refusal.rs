@@ -57,6 +57,8 @@ pub const MALFORMED_TEXT: u32 = 23;
 pub const OVERFLOW: u32 = 24;
 /// 25: a zero divisor.
 pub const ZERO_DIVISOR: u32 = 25;
+/// 26: the runs are not as due.
+pub const WRONG_RUNS: u32 = 26;
 /// 50: the store is malformed.
 pub const BAD_STORE: u32 = 50;
 /// 51: the store has no such position.

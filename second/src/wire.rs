@@ -87,7 +87,9 @@ pub const BETWEEN: u8 = 56;
 pub const OR: u8 = 57;
 pub const AND: u8 = 58;
 pub const NOT: u8 = 59;
+pub const ANY: u8 = 60;
 pub const MISSING: u8 = 61;
+pub const UNIQUE: u8 = 62;
 
 // Record selection expressions.
 pub const RSE: u8 = 67;
@@ -119,9 +121,11 @@ pub const VALUES: [u8; 10] =
     [LITERAL, FIELD, FID, PARAMETER, ADD, SUBTRACT, MULTIPLY, DIVIDE, NEGATE, PARAMETER2];
 /// The values that may be a target.
 pub const TARGETS: [u8; 4] = [FIELD, FID, PARAMETER, PARAMETER2];
-/// The booleans that document 01 takes.
-pub const BOOLEANS: [u8; 14] =
-    [EQL, NEQ, GTR, GEQ, LSS, LEQ, CONTAINING, MATCHING, STARTING, BETWEEN, OR, AND, NOT, MISSING];
+/// The booleans that document 01 takes, and any and unique by No. 4 of document 02.
+pub const BOOLEANS: [u8; 16] = [
+    EQL, NEQ, GTR, GEQ, LSS, LEQ, CONTAINING, MATCHING, STARTING, BETWEEN, OR, AND, NOT, MISSING,
+    ANY, UNIQUE,
+];
 /// The streams that document 01 takes.
 pub const STREAMS: [u8; 2] = [RELATION, RID];
 /// The types of a message's parameters in version 4.
@@ -154,8 +158,8 @@ pub fn literals(version: u8) -> &'static [u8] {
 pub const LEFT_OUT_STATEMENTS: [u8; 4] = [3, 6, 19, 20];
 /// dbkey, variable, the statistical ones, concatenate, substring, from, via, user_name, null.
 pub const LEFT_OUT_VALUES: [u8; 13] = [22, 26, 27, 28, 29, 30, 31, 39, 40, 42, 43, 44, 45];
-/// any, unique, like.
-pub const LEFT_OUT_BOOLEANS: [u8; 3] = [60, 62, 63];
+/// like.
+pub const LEFT_OUT_BOOLEANS: [u8; 1] = [63];
 /// union, aggregate.
 pub const LEFT_OUT_STREAMS: [u8; 2] = [76, 79];
 /// first, project.

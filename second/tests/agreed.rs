@@ -11,13 +11,14 @@ type File = (&'static str, usize);
 
 /// The files whose missing answers have no causes.
 const WITHOUT_CAUSES: [File; 2] =
-    [(include_str!("agreed/evaluations.txt"), 166), (include_str!("agreed/no-01.txt"), 28)];
+    [(include_str!("agreed/evaluations.txt"), 165), (include_str!("agreed/no-01.txt"), 28)];
 
 /// The files whose missing answers have causes.
-const WITH_CAUSES: [File; 3] = [
+const WITH_CAUSES: [File; 4] = [
     (include_str!("agreed/no-03.txt"), 42),
+    (include_str!("agreed/no-04.txt"), 169),
     (include_str!("agreed/no-07.txt"), 42),
-    (include_str!("agreed/no-08.txt"), 320),
+    (include_str!("agreed/no-08.txt"), 312),
 ];
 
 /// The case of an input.
@@ -29,13 +30,16 @@ fn case(input: &str) -> Option<Case> {
             request: hex::read(request)?,
             lengths: [statements.parse().ok()?, parameters.parse().ok()?, contexts.parse().ok()?],
         }),
-        ["evaluate", dictionary, request, condition, messages, records] => Some(Case::Evaluate {
-            dictionary: hex::read(dictionary)?,
-            request: hex::read(request)?,
-            condition: condition.parse().ok()?,
-            messages: hex::read(messages)?,
-            records: hex::read(records)?,
-        }),
+        ["evaluate", dictionary, request, condition, messages, records, ..] => {
+            Some(Case::Evaluate {
+                dictionary: hex::read(dictionary)?,
+                request: hex::read(request)?,
+                condition: condition.parse().ok()?,
+                messages: hex::read(messages)?,
+                records: hex::read(records)?,
+                runs: hex::read(words.get(6).unwrap_or(&"-"))?,
+            })
+        }
         _ => None,
     }
 }

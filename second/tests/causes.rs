@@ -239,6 +239,7 @@ impl Written {
     fn boolean(&mut self, boolean: &Boolean) -> Choice {
         let (code, causes) = match boolean {
             Boolean::Not(side) => return self.boolean(side),
+            Boolean::Over(..) => return None,
             Boolean::And(sides) => (AND, sides.each_ref().map(|side| self.boolean(side)).to_vec()),
             Boolean::Or(sides) => (OR, sides.each_ref().map(|side| self.boolean(side)).to_vec()),
             Boolean::Test(code, values) => {
@@ -289,6 +290,7 @@ fn start(boolean: &Boolean) -> Option<usize> {
         Boolean::And(sides) | Boolean::Or(sides) => Some(start(&sides[0])? - 1),
         Boolean::Not(side) => Some(start(side)? - 1),
         Boolean::Test(_, values) => Some(values.first()?.place - 1),
+        Boolean::Over(_, selection) => Some(selection.place),
     }
 }
 

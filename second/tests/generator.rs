@@ -11,7 +11,7 @@ use second::reader;
 
 /// All numbers given back.
 fn numbers() -> impl Iterator<Item = u32> {
-    (1..=16).chain(20..=25)
+    (1..=16).chain(20..=26)
 }
 
 /// Every refusal and answer at least so many times, and every code.
@@ -102,7 +102,7 @@ fn damaged_dictionaries_break_every_rule() {
 #[test]
 fn boundaries_have_both_sides() {
     let tally = Tally::of(boundaries::all().into_iter());
-    for number in [1, 2, 3, 8, 12, 13, 16, 22] {
+    for number in [1, 2, 3, 8, 12, 13, 16, 22, 26] {
         assert!(tally.refusals.contains_key(&number), "refusal {number}");
     }
     assert!(tally.answers["accepted"] > 40);
@@ -129,6 +129,33 @@ fn records_are_refused_at_all_three_places() {
             place if place == records.len() => at_end += 1,
             place if place == due => too_many += 1,
             _ => wrong += 1,
+        }
+    }
+    assert!(at_end >= 3 && too_many >= 3 && wrong >= 3, "{at_end} {too_many} {wrong}");
+}
+
+#[test]
+fn runs_are_refused_at_all_three_places() {
+    let (mut at_end, mut too_many, mut wrong) = (0, 0, 0);
+    for case in generate::cases(Size::Small, 9, 4000) {
+        let Case::Evaluate { runs, .. } = &case else {
+            continue;
+        };
+        let outcome = cases::outcome(&case);
+        let Some(place) = outcome.strip_prefix("refused 26 ") else {
+            continue;
+        };
+        let place: usize = place.parse().expect("a place");
+        // With what stands from the place on taken away, runs are as due, or one lacks.
+        let mut shorter = case.clone();
+        if let Case::Evaluate { runs, .. } = &mut shorter {
+            runs.truncate(place);
+        }
+        let lacks = cases::outcome(&shorter).starts_with("refused 26 ");
+        match place {
+            place if place == runs.len() => at_end += 1,
+            _ if lacks => wrong += 1,
+            _ => too_many += 1,
         }
     }
     assert!(at_end >= 3 && too_many >= 3 && wrong >= 3, "{at_end} {too_many} {wrong}");
@@ -193,6 +220,7 @@ fn any_bytes_have_an_outcome() {
                 condition: 0,
                 messages: messages.clone(),
                 records: records.clone(),
+                runs: messages.clone(),
             };
             assert!(!cases::outcome(&read).is_empty() && !cases::outcome(&evaluate).is_empty());
         }

@@ -70,7 +70,8 @@ fn listings_agree() {
     for line in REQUESTS.lines() {
         let case = members(line);
         let input = [entry(4, &dictionary), entry(5, &bytes(&case["request"]))].concat();
-        assert_eq!(without_no_7(&listing(&input)), case["listing"], "{}", case["name"]);
+        let due = case.get("no-04").unwrap_or(&case["listing"]);
+        assert_eq!(&without_no_7(&listing(&input)), due, "{}", case["name"]);
         count += 1;
     }
     assert_eq!(count, 56);

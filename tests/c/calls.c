@@ -134,7 +134,7 @@ static void versions(void)
     EXPECT(greenblr_read(five, REQUEST, dictionary, DICTIONARY, statements, GREENBLR_STATEMENT_TABLE, parameters, GREENBLR_PARAMETER_TABLE,
                          contexts, GREENBLR_CONTEXT_TABLE, answer) == GREENBLR_REFUSAL_NONE);
     EXPECT(answer[0] == 4 && answer[1] == 1 && answer[2] == 1);
-    EXPECT(greenblr_answer(greenblr_evaluate(five, REQUEST, dictionary, DICTIONARY, 0, image, IMAGE, bed, BED)) == GREENBLR_TRUE);
+    EXPECT(greenblr_answer(greenblr_evaluate(five, REQUEST, dictionary, DICTIONARY, 0, image, IMAGE, bed, BED, NULL, 0)) == GREENBLR_TRUE);
     five[0] = 6;
     EXPECT(greenblr_read(five, REQUEST, dictionary, DICTIONARY, statements, GREENBLR_STATEMENT_TABLE, parameters, GREENBLR_PARAMETER_TABLE,
                          contexts, GREENBLR_CONTEXT_TABLE, answer) == GREENBLR_REFUSAL_BAD_VERSION && answer[0] == 0);
@@ -154,7 +154,7 @@ static void versions(void)
 
 static uint64_t evaluate(const uint8_t *records, size_t length)
 {
-    return greenblr_evaluate(request, REQUEST, dictionary, DICTIONARY, 0, image, IMAGE, records, length);
+    return greenblr_evaluate(request, REQUEST, dictionary, DICTIONARY, 0, image, IMAGE, records, length, NULL, 0);
 }
 
 static void evaluations(void)
@@ -173,12 +173,44 @@ static void evaluations(void)
     given = evaluate(record, BED - 1);
     EXPECT(greenblr_answer(given) == GREENBLR_REFUSED && greenblr_number(given) == GREENBLR_REFUSAL_BAD_RECORDS);
     EXPECT(greenblr_cause(given) == GREENBLR_CAUSE_NONE && greenblr_refusal_input(greenblr_number(given)) == GREENBLR_INPUT_RECORDS);
-    given = greenblr_evaluate(request, REQUEST, dictionary, DICTIONARY, 0, image, IMAGE - 1, record, BED);
+    given = greenblr_evaluate(request, REQUEST, dictionary, DICTIONARY, 0, image, IMAGE - 1, record, BED, NULL, 0);
     EXPECT(greenblr_number(given) == GREENBLR_REFUSAL_BAD_MESSAGE_BYTES && greenblr_place(given) == IMAGE - 1);
     EXPECT(greenblr_refusal_input(greenblr_number(given)) == GREENBLR_INPUT_IMAGES);
-    given = greenblr_evaluate(request, REQUEST, dictionary, DICTIONARY, 1, image, IMAGE, record, BED);
+    given = greenblr_evaluate(request, REQUEST, dictionary, DICTIONARY, 1, image, IMAGE, record, BED, NULL, 0);
     EXPECT(greenblr_number(given) == GREENBLR_REFUSAL_NO_BOOLEAN && greenblr_place(given) == 0);
     free(record);
+}
+
+/* If any bed of a run, or exactly one, is above 30.0: the run is an entry of kind 7 around the beds. */
+static void runs(void)
+{
+    static const uint8_t over_bytes[] = {
+        0x04, 0x02, 0x08, GREENBLR_CODE_ANY, 0x43, 0x01, 0x4B, 0x01, 0x00, 0x03, 0x47, 0x31, 0x18, 0x03, 0x00, 0x00, 0x15, 0x07, 0xFF,
+        0x2C, 0x01, 0xFF, 0x02, 0xFF, 0xFF, 0xFF, 0x4C,
+    };
+    enum { OVER = sizeof over_bytes, RUN = 4 + 2 * BED };
+    uint8_t *over = copy(over_bytes, OVER), *run = (uint8_t *)block(RUN);
+    uint64_t given;
+    run[0] = RUN;
+    run[1] = 0;
+    run[2] = 7;
+    run[3] = 0;
+    memcpy(run + 4, bed_bytes, BED);
+    memcpy(run + 4 + BED, bed_bytes, BED);
+    EXPECT(greenblr_answer(greenblr_evaluate(over, OVER, dictionary, DICTIONARY, 0, NULL, 0, NULL, 0, run, RUN)) == GREENBLR_TRUE);
+    over[3] = GREENBLR_CODE_UNIQUE;
+    EXPECT(greenblr_answer(greenblr_evaluate(over, OVER, dictionary, DICTIONARY, 0, NULL, 0, NULL, 0, run, RUN)) == GREENBLR_FALSE);
+    run[11] = run[12] = 255;
+    EXPECT(greenblr_answer(greenblr_evaluate(over, OVER, dictionary, DICTIONARY, 0, NULL, 0, NULL, 0, run, RUN)) == GREENBLR_TRUE);
+    given = greenblr_evaluate(over, OVER, dictionary, DICTIONARY, 0, NULL, 0, NULL, 0, run, RUN - 1);
+    EXPECT(greenblr_number(given) == GREENBLR_REFUSAL_BAD_RUNS && greenblr_place(given) == 0);
+    EXPECT(greenblr_refusal_input(greenblr_number(given)) == GREENBLR_INPUT_RUNS);
+    given = greenblr_evaluate(request, REQUEST, dictionary, DICTIONARY, 0, image, IMAGE, bed, BED, run, RUN);
+    EXPECT(greenblr_number(given) == GREENBLR_REFUSAL_BAD_RUNS && greenblr_place(given) == 0);
+    given = greenblr_evaluate(over, OVER, dictionary, DICTIONARY, 0, NULL, 0, NULL, 0, NULL, 0);
+    EXPECT(greenblr_number(given) == GREENBLR_REFUSAL_BAD_RUNS && greenblr_place(given) == 0);
+    free(over);
+    free(run);
 }
 
 /* A pointer of length 0 may be NULL, of every slice of every function. */
@@ -189,10 +221,10 @@ static void nulls(void)
     EXPECT(greenblr_read(NULL, 0, NULL, 0, NULL, 0, NULL, 0, NULL, 0, answer) == GREENBLR_REFUSAL_TABLES_TOO_SHORT);
     EXPECT(greenblr_read(NULL, 0, NULL, 0, statements, GREENBLR_STATEMENT_TABLE, parameters, GREENBLR_PARAMETER_TABLE,
                          contexts, GREENBLR_CONTEXT_TABLE, answer) == GREENBLR_REFUSAL_ENDS_EARLY && answer[0] == 0);
-    EXPECT(greenblr_number(greenblr_evaluate(NULL, 0, NULL, 0, 0, NULL, 0, NULL, 0)) == GREENBLR_REFUSAL_ENDS_EARLY);
-    EXPECT(greenblr_number(greenblr_evaluate(request, REQUEST, NULL, 0, 0, NULL, 0, NULL, 0)) == GREENBLR_REFUSAL_UNKNOWN);
-    EXPECT(greenblr_number(greenblr_evaluate(request, REQUEST, dictionary, DICTIONARY, 0, NULL, 0, NULL, 0)) == GREENBLR_REFUSAL_BAD_MESSAGE_BYTES);
-    EXPECT(greenblr_number(greenblr_evaluate(request, REQUEST, dictionary, DICTIONARY, 0, image, IMAGE, NULL, 0)) == GREENBLR_REFUSAL_BAD_RECORDS);
+    EXPECT(greenblr_number(greenblr_evaluate(NULL, 0, NULL, 0, 0, NULL, 0, NULL, 0, NULL, 0)) == GREENBLR_REFUSAL_ENDS_EARLY);
+    EXPECT(greenblr_number(greenblr_evaluate(request, REQUEST, NULL, 0, 0, NULL, 0, NULL, 0, NULL, 0)) == GREENBLR_REFUSAL_UNKNOWN);
+    EXPECT(greenblr_number(greenblr_evaluate(request, REQUEST, dictionary, DICTIONARY, 0, NULL, 0, NULL, 0, NULL, 0)) == GREENBLR_REFUSAL_BAD_MESSAGE_BYTES);
+    EXPECT(greenblr_number(greenblr_evaluate(request, REQUEST, dictionary, DICTIONARY, 0, image, IMAGE, NULL, 0, NULL, 0)) == GREENBLR_REFUSAL_BAD_RECORDS);
     EXPECT(greenblr_store_make(NULL, 0, NULL, 0, 1, answer) == GREENBLR_REFUSAL_UNKNOWN);
     EXPECT(greenblr_store_make(dictionary, DICTIONARY, NULL, 0, 1, answer) == GREENBLR_REFUSAL_NO_ROOM);
     EXPECT(greenblr_store_add(dictionary, DICTIONARY, NULL, 0, NULL, 0, answer) == GREENBLR_REFUSAL_MALFORMED_STORE);
@@ -257,6 +289,7 @@ int main(void)
     refused();
     versions();
     evaluations();
+    runs();
     nulls();
     stores();
     words();

@@ -27,7 +27,7 @@ constants! {
     SEND = 14 STORE = 15 LABEL = 17 LEAVE = 18
     LITERAL = 21 FIELD = 23 FID = 24 PARAMETER = 25 ADD = 34 SUBTRACT = 35 MULTIPLY = 36 DIVIDE = 37 NEGATE = 38 PARAMETER2 = 41
     EQL = 47 NEQ = 48 GTR = 49 GEQ = 50 LSS = 51 LEQ = 52 CONTAINING = 53 MATCHING = 54 STARTING = 55 BETWEEN = 56 OR = 57
-    AND = 58 NOT = 59 MISSING = 61
+    AND = 58 NOT = 59 ANY = 60 MISSING = 61 UNIQUE = 62
     RSE = 67 SORT = 70 BOOLEAN = 71 ASCENDING = 72 DESCENDING = 73 RELATION = 74 RID = 75
     SHORT = 7 LONG = 8 TEXT = 14 INT64 = 16 DATE = 35 VARYING = 37 CSTRING = 40
 }
@@ -104,6 +104,22 @@ named! {
         Label = LABEL "label"
         /// 18: leaves a label.
         Leave = LEAVE "leave"
+    }
+}
+
+named! {
+    /// The code that opened a context.
+    Opener {
+        /// 7: a for.
+        For = FOR "for"
+        /// 10: a modify.
+        Modify = MODIFY "modify"
+        /// 15: a store.
+        Store = STORE "store"
+        /// 60: an any, which goes over a run.
+        Any = ANY "any"
+        /// 62: a unique, which goes over a run.
+        Unique = UNIQUE "unique"
     }
 }
 

@@ -27,6 +27,8 @@ mod c {
             images_length: usize,
             records: *const u8,
             records_length: usize,
+            runs: *const u8,
+            runs_length: usize,
         ) -> u64;
         pub fn greenblr_store_make(
             dictionary: *const u8,
@@ -133,6 +135,7 @@ pub fn evaluate(
     number: usize,
     images: &[u8],
     records: &[u8],
+    runs: &[u8],
 ) -> u64 {
     // SAFETY: as above.
     unsafe {
@@ -146,6 +149,8 @@ pub fn evaluate(
             images.len(),
             records.as_ptr(),
             records.len(),
+            runs.as_ptr(),
+            runs.len(),
         )
     }
 }

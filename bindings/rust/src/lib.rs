@@ -60,8 +60,8 @@ mod request;
 mod store;
 mod truth;
 
-pub use codes::{StatementCode, Type};
-pub use record::{record, Field};
+pub use codes::{Opener, StatementCode, Type};
+pub use record::{record, run, Field};
 pub use refusal::{Input, Reason, Refusal};
 pub use request::{
     Context, Contexts, Dictionary, Parameter, Parameters, Request, Statement, Statements,

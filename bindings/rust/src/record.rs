@@ -63,3 +63,29 @@ pub fn record(relation: u16, fields: &[Field<'_>]) -> Vec<u8> {
     entry[4..6].copy_from_slice(&relation.to_le_bytes());
     entry
 }
+
+/// A run: an entry of kind 7 that holds records of one relation, each made by [`record`](crate::record()).
+///
+/// Nothing is tested here: a run that is not as due is refused where it is used ([`Reason::BadRuns`]). So is one over 65,535 bytes,
+/// whose length no entry holds.
+///
+/// [`Reason::BadRuns`]: crate::Reason::BadRuns
+///
+/// ```
+/// use greenblr::{record, run, Field};
+///
+/// let beds = [301, 300].map(|heat| record(1, &[Field::Reading(heat)]));
+/// assert_eq!(run(&beds), *b"\x16\0\x07\0\x09\0\x03\0\x01\0\0\x2d\x01\x09\0\x03\0\x01\0\0\x2c\x01");
+/// assert_eq!(run::<Vec<u8>>(&[]), *b"\x04\0\x07\0");
+/// ```
+pub fn run<R: AsRef<[u8]>>(records: &[R]) -> Vec<u8> {
+    const KIND: u16 = 7;
+    let mut entry = vec![0; 4];
+    for record in records {
+        entry.extend_from_slice(record.as_ref());
+    }
+    let length = u16::try_from(entry.len()).unwrap_or(u16::MAX);
+    entry[0..2].copy_from_slice(&length.to_le_bytes());
+    entry[2..4].copy_from_slice(&KIND.to_le_bytes());
+    entry
+}

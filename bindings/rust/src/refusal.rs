@@ -60,7 +60,7 @@ reasons! {
     NotDue = 6, "the code is not due here";
     /// 7: a code of BLR that the library leaves out.
     LeftOut = 7, "the code is one that is left out";
-    /// 8: a greatest size of a request is passed.
+    /// 8: a greatest size of a request is passed, or an any or a unique has two streams or more.
     TooGreat = 8, "a greatest size is passed";
     /// 9: a message is declared or selected twice, or undeclared.
     BadMessage = 9, "the message is declared or selected twice, or undeclared";
@@ -91,6 +91,9 @@ reasons! {
     Overflow = 24, "a number does not fit";
     /// 25: a division by zero.
     ZeroDivisor = 25, "a division by zero";
+    /// 26: the runs are not as due; the place is the first wrong entry of kind 7, the length given if one lacks, or the first byte
+    /// too many.
+    BadRuns = 26, "the runs are not as due";
     /// 50: the buffer holds no store, or has over 65,535 bytes.
     MalformedStore = 50, "the buffer holds no store, or is too long";
     /// 51: the store has no record at this position.
@@ -119,6 +122,8 @@ pub enum Input {
     Messages,
     /// The records, joined.
     Records,
+    /// The runs, joined.
+    Runs,
     /// The buffer of a store.
     Store,
 }
@@ -130,6 +135,7 @@ impl fmt::Display for Input {
             Input::Dictionary => "the dictionary",
             Input::Messages => "the messages",
             Input::Records => "the records",
+            Input::Runs => "the runs",
             Input::Store => "the store",
         })
     }
@@ -165,6 +171,7 @@ impl Refusal {
             Reason::BadDictionary => Input::Dictionary,
             Reason::BadMessageBytes => Input::Messages,
             Reason::BadRecords => Input::Records,
+            Reason::BadRuns => Input::Runs,
             _ => Input::Request,
         };
         Refusal { reason, input, place }

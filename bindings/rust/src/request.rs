@@ -1,6 +1,6 @@
 //! Dictionaries, requests and their rows.
 
-use crate::codes::{StatementCode, Type};
+use crate::codes::{Opener, StatementCode, Type};
 use crate::ffi;
 use crate::layout::*;
 use crate::refusal::Refusal;
@@ -86,7 +86,7 @@ pub struct Request<'a> {
 impl<'a> Request<'a> {
     /// Reads a request beside a dictionary: the rows of its statements, parameters and contexts, or a refusal, 2 or 4 to 16.
     ///
-    /// Any bytes may be given. The library uses up to 41 kilobytes of stack for the requests that were tried; that is measured
+    /// Any bytes may be given. The library uses up to 68 kilobytes of stack for the requests that were tried; that is measured
     /// and not proved.
     pub fn read(dictionary: &Dictionary<'a>, bytes: &'a [u8]) -> Result<Request<'a>, Refusal> {
         let mut statements = vec![0; STATEMENT_TABLE];
@@ -129,7 +129,8 @@ impl<'a> Request<'a> {
     /// Evaluates a condition by its number: from 0 in reading order, those inside another condition not counted.
     ///
     /// `messages` are the bytes of all messages in declaration order, joined; `records` one record's entry for each context in
-    /// scope at the condition in declaration order, joined ([`record`](crate::record()) makes one). Refusals are 20 to 25.
+    /// scope at the condition in declaration order, joined ([`record`](crate::record()) makes one). Refusals are 20 to 25, and 26 where the
+    /// condition has an any or a unique: [`evaluate_over`](Request::evaluate_over) takes their runs.
     ///
     /// ```
     /// use greenblr::{record, Cause, Dictionary, Field, Request, Truth};
@@ -173,8 +174,49 @@ impl<'a> Request<'a> {
         messages: &[u8],
         records: &[u8],
     ) -> Result<Truth, Refusal> {
-        let given = ffi::evaluate(self.bytes, self.dictionary.bytes, condition, messages, records);
-        truth::taken_apart(given)
+        self.evaluate_over(condition, messages, records, &[])
+    }
+
+    /// Evaluates a condition with any and unique in it over runs: `runs` are an entry of kind 7 for each of them, in the order of
+    /// their codes, joined ([`run`](crate::run()) makes one). All else is as with [`evaluate`](Request::evaluate); 26 is refused too.
+    ///
+    /// Is any bed above thirty?
+    ///
+    /// ```
+    /// use greenblr::{codes, record, run, Dictionary, Field, Request, Truth};
+    ///
+    /// let dictionary = Dictionary::new(b"\x0b\0\x01\0\x01\0\x04BEDS\x0f\0\x02\0\0\0\xc8\xff\x02\0\x04HEAT")?;
+    /// // if any bed's heat is above 30.0, nothing
+    /// let bytes = [
+    ///     4, 2, 8, codes::ANY, 67, 1, 75, 1, 0, 0, 71, 49, 24, 0, 0, 0, 21, 7, 255, 44, 1, 255, 2, 255, 255,
+    ///     255, 76,
+    /// ];
+    /// let request = Request::read(&dictionary, &bytes)?;
+    /// let house = |heats: &[u16]| {
+    ///     let beds: Vec<_> = heats.iter().map(|heat| record(1, &[Field::Reading(*heat)])).collect();
+    ///     request.evaluate_over(0, &[], &[], &run(&beds))
+    /// };
+    /// assert_eq!(house(&[300, 301, 65535])?, Truth::True);
+    /// assert_eq!(house(&[300, 65535])?, Truth::False); // a bed that could not measure is not above thirty
+    /// assert_eq!(house(&[])?, Truth::False);
+    /// # Ok::<(), greenblr::Refusal>(())
+    /// ```
+    pub fn evaluate_over(
+        &self,
+        condition: usize,
+        messages: &[u8],
+        records: &[u8],
+        runs: &[u8],
+    ) -> Result<Truth, Refusal> {
+        let Request { bytes, dictionary, .. } = self;
+        truth::taken_apart(ffi::evaluate(
+            bytes,
+            dictionary.bytes,
+            condition,
+            messages,
+            records,
+            runs,
+        ))
     }
 }
 
@@ -224,8 +266,8 @@ pub struct Context {
     pub scope: Range<usize>,
     /// The id of its relation.
     pub relation: u16,
-    /// The code of the statement that opened it: a for, a store or a modify.
-    pub opener: StatementCode,
+    /// The code that opened it: a for, a store, a modify, an any or a unique.
+    pub opener: Opener,
 }
 
 // A row's numbers are what the library promises of them: bytes and words fit, and the casts below lose nothing.
@@ -257,7 +299,7 @@ fn context(row: &[u32]) -> Context {
         place: row[CONTEXT_PLACE] as usize,
         scope: row[CONTEXT_START] as usize..row[CONTEXT_END] as usize,
         relation: row[CONTEXT_RELATION] as u16,
-        opener: StatementCode::from_code(row[CONTEXT_OPENER] as u8),
+        opener: Opener::from_code(row[CONTEXT_OPENER] as u8),
     }
 }
 

@@ -34,14 +34,17 @@ fn refused(refusal: Refusal) -> String {
 
 /// The outcome of an evaluation in the words of the files.
 fn outcome(words: &[&str]) -> Result<String, Refusal> {
+    let (words, runs) = words.split_at(words.len().min(6));
     let ["evaluate", dictionary, request, condition, messages, records] = words else {
         panic!("no evaluation: {words:?}");
     };
+    // A line without runs ends with the records.
+    let runs = runs.first().map_or_else(Vec::new, |runs| bytes(runs));
     let (dictionary, request) = (bytes(dictionary), bytes(request));
     let dictionary = Dictionary::new(&dictionary)?;
     let request = Request::read(&dictionary, &request)?;
     let condition = condition.parse().expect("a number");
-    Ok(match request.evaluate(condition, &bytes(messages), &bytes(records))? {
+    Ok(match request.evaluate_over(condition, &bytes(messages), &bytes(records), &runs)? {
         Truth::True => "true".to_string(),
         Truth::False => "false".to_string(),
         Truth::Missing(Cause::Bit) => "missing bit".to_string(),
@@ -53,7 +56,7 @@ fn outcome(words: &[&str]) -> Result<String, Refusal> {
 
 #[test]
 fn evaluations_agree() {
-    for (name, count) in [("evaluations.txt", 166), ("no-01.txt", 28), ("no-03.txt", 42)] {
+    for (name, count) in [("evaluations.txt", 165), ("no-01.txt", 28), ("no-03.txt", 42)] {
         let lines = lines(name);
         assert_eq!(lines.len(), count);
         for line in lines {
@@ -103,11 +106,10 @@ fn rows(words: &[&str]) -> Result<String, Refusal> {
     Ok(format!("accepted {s} {p} {c} |{statements} |{parameters} |{contexts}"))
 }
 
-/// Requests of both versions: all but the inputs of the listing program, which are for the shell.
-#[test]
-fn versions_agree() {
-    let lines = lines("no-08.txt");
-    assert_eq!(lines.len(), 320);
+/// Runs a file of readings and evaluations, all but the inputs of the listing program, which are for the shell: how many there are of each.
+fn agree(name: &str, count: usize) -> [usize; 2] {
+    let lines = lines(name);
+    assert_eq!(lines.len(), count);
     let mut run = [0, 0];
     for line in lines.iter().filter(|line| !line.starts_with("listing ")) {
         let (input, due) = line.split_once(" = ").expect("an outcome");
@@ -117,7 +119,19 @@ fn versions_agree() {
         assert_eq!(given.unwrap_or_else(refused), due, "{line}");
         run[usize::from(is_reading)] += 1;
     }
-    assert_eq!(run, [123, 165]);
+    run
+}
+
+/// Requests of both versions.
+#[test]
+fn versions_agree() {
+    assert_eq!(agree("no-08.txt", 312), [123, 157]);
+}
+
+/// Any and unique over runs.
+#[test]
+fn runs_agree() {
+    assert_eq!(agree("no-04.txt", 169), [97, 58]);
 }
 
 /// What a call on a store leaves in the buffer, or what reading it tells, in the words of the files.

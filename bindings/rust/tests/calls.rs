@@ -1,8 +1,8 @@
 //! Requests, evaluations and stores through the crate: document 01's examples, every refusal, and that nothing traps.
 
 use greenblr::{
-    codes, record, Cause, Dictionary, Field, Input, Reason, Refusal, Request, StatementCode, Store,
-    Truth, Type,
+    codes, record, run, Cause, Dictionary, Field, Input, Opener, Reason, Refusal, Request,
+    StatementCode, Store, Truth, Type,
 };
 
 const BEDS: &[u8] = b"\x0b\0\x01\0\x01\0\x04BEDS\
@@ -63,7 +63,7 @@ fn rows_of_s() {
 
     let rows: Vec<_> =
         request.contexts().map(|c| (c.number, c.place, c.scope, c.relation, c.opener)).collect();
-    assert_eq!(rows, [(0, 11, 15..39, 1, StatementCode::For)]);
+    assert_eq!(rows, [(0, 11, 15..39, 1, Opener::For)]);
 }
 
 #[test]
@@ -265,6 +265,68 @@ fn refusals_of_evaluation() {
     assert_eq!(asked(0, &[0, 0], &twice), (Reason::BadRecords, Input::Records, 13));
     let long = record(1, &[Field::Bytes(&[0; 70000])]);
     assert_eq!(asked(0, &[0, 0], &long), (Reason::BadRecords, Input::Records, 0));
+}
+
+/// 02, No. 4: an if of any, or of unique, over beds above thirty.
+fn over(code: u8) -> Vec<u8> {
+    let mut bytes = vec![4, codes::BEGIN, codes::IF, code, codes::RSE, 1, codes::RID, 1, 0, 3];
+    bytes.extend([codes::BOOLEAN, codes::GTR, codes::FID, 3, 0, 0]);
+    bytes.extend([codes::LITERAL, codes::SHORT, 0xff, 44, 1, codes::END]);
+    bytes.extend([codes::BEGIN, codes::END, codes::END, codes::END, codes::EOC]);
+    bytes
+}
+
+#[test]
+fn any_and_unique_go_over_a_run() {
+    let dictionary = beds();
+    for (code, opener) in [(codes::ANY, Opener::Any), (codes::UNIQUE, Opener::Unique)] {
+        let bytes = over(code);
+        let request = Request::read(&dictionary, &bytes).unwrap();
+        let rows: Vec<_> = request.contexts().map(|c| (c.number, c.scope, c.opener)).collect();
+        assert_eq!(rows, [(3, 10..22, opener)]);
+        let kept = |heats: &[u16]| {
+            let run = run(&heats.iter().map(|h| bed(Field::Reading(*h))).collect::<Vec<_>>());
+            request.evaluate_over(0, &[], &[], &run).unwrap()
+        };
+        assert_eq!(kept(&[]), Truth::False);
+        assert_eq!(kept(&[300, 65535]), Truth::False);
+        assert_eq!(kept(&[300, 301, 65535]), Truth::True);
+        let both = if opener == Opener::Any { Truth::True } else { Truth::False };
+        assert_eq!(kept(&[301, 302]), both);
+    }
+}
+
+#[test]
+fn refusals_of_runs() {
+    let dictionary = beds();
+    let bytes = over(codes::ANY);
+    let request = Request::read(&dictionary, &bytes).unwrap();
+    let told = |runs: &[u8]| {
+        let refusal = request.evaluate_over(0, &[], &[], runs).unwrap_err();
+        (refusal.reason(), refusal.input(), refusal.place())
+    };
+    let one = run(&[bed(Field::Reading(301))]);
+    let length = one.len() as u64;
+    assert_eq!(told(&[]), (Reason::BadRuns, Input::Runs, 0));
+    assert_eq!(told(&one[..one.len() - 1]), (Reason::BadRuns, Input::Runs, 0));
+    assert_eq!(told(&[&one[..], &[0]].concat()), (Reason::BadRuns, Input::Runs, length));
+    assert_eq!(told(&run(&[record(1, &[])])), (Reason::BadRuns, Input::Runs, 0));
+    assert_eq!(told(&bed(Field::Reading(301))), (Reason::BadRuns, Input::Runs, 0));
+    assert_eq!(
+        told(&run(&vec![bed(Field::Reading(301)); 5042])),
+        (Reason::BadRuns, Input::Runs, 0)
+    );
+    assert_eq!(
+        request.evaluate(0, &[], &[]).unwrap_err().to_string(),
+        "refused 26 at 0 of the runs: the runs are not as due"
+    );
+    let s = Request::read(&dictionary, &S).unwrap();
+    let given = s.evaluate_over(0, &[0, 0], &bed(Field::Reading(301)), &one).unwrap_err();
+    assert_eq!((given.reason(), given.place()), (Reason::BadRuns, 0));
+    let mut two = bytes.clone();
+    two[5] = 2;
+    let refusal = Request::read(&dictionary, &two).unwrap_err();
+    assert_eq!((refusal.reason(), refusal.place()), (Reason::TooGreat, 5));
 }
 
 #[test]

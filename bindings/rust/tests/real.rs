@@ -50,7 +50,9 @@ fn requests_are_listed() {
         let given = listing(&dictionary, &request).unwrap_or_else(|refusal| {
             format!("refused {} at {}\\n", refusal.number(), refusal.place())
         });
-        assert_eq!(Some(&given[..]), value(line, "listing"), "{line}");
+        // Where request No. 4 of document 02 accepts what was refused with 7, its rows stand beside the refusal.
+        let due = value(line, "no-04").or(value(line, "listing"));
+        assert_eq!(Some(&given[..]), due, "{line}");
     }
 }
 

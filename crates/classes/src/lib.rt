@@ -13,6 +13,7 @@ use wire::codes::Direction;
 use wire::codes::FieldType;
 use wire::codes::LiteralType;
 use wire::codes::Operator;
+use wire::codes::Quantifier;
 use wire::codes::ReferenceCode;
 use wire::codes::StatementCode;
 use wire::codes::StreamCode;
@@ -166,8 +167,10 @@ pub fn boolean_class(code: u8) -> BooleanClass
         blr::OR => BooleanClass::Due(BooleanCode::Connect(Connective::Or)),
         blr::AND => BooleanClass::Due(BooleanCode::Connect(Connective::And)),
         blr::NOT => BooleanClass::Due(BooleanCode::Not),
+        blr::ANY => BooleanClass::Due(BooleanCode::Quantify(Quantifier::Any)),
         blr::MISSING => BooleanClass::Due(BooleanCode::Missing),
-        blr::ANY | blr::UNIQUE | blr::LIKE => BooleanClass::LeftOut,
+        blr::UNIQUE => BooleanClass::Due(BooleanCode::Quantify(Quantifier::Unique)),
+        blr::LIKE => BooleanClass::LeftOut,
         _ => BooleanClass::Foreign,
     }
 }

@@ -18,12 +18,13 @@ use Rattle.evaluate.specs.declared.ProgramAnswer.the-variants.{Is, BadIn
 abbrev pub part : List ℕ → ℕ → ℕ → List ℕ
 part s from to = take (to - from) (drop from s)
 
--- the condition of that number, with the bodies of the entries of kind 10, joined, as messages, and with the rest of the input as records
+-- the condition of that number, with the bodies of the entries of kind 10, joined, as messages, with the entries of kind 3, whole, as
+-- records, and with the rest of the input, the entries of kind 7, as runs
 abbrev pub outcome : List ℕ → EvaluationInput → Option Outcome
-outcome s (Entries request number records) =
+outcome s (Entries request number records runs) =
     some
     (evaluation (part s (request + entryBody) number) (part s entryBody request) (wordAt s (number + entryBody))
-    (joined s (number + numberEntryBytes) messageEntryKind) (drop records s))
+    (joined s (number + numberEntryBytes) messageEntryKind) (part s records runs) (drop runs s))
 outcome s Bad = none
 
 abbrev pub answerOf : ProgramAnswer → Option Outcome

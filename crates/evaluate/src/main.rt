@@ -1,6 +1,6 @@
 // The program `evaluate`: reads the entries of a dictionary (kind 4), a request (5), the number of a boolean (9), any number of message
-// bytes (10) and any number of records (3) from standard input. Prints `true`, `false`, `missing`, a refusal, or that the input is not these
-// entries.
+// bytes (10), any number of records (3) and any number of runs (7) from standard input. Prints `true`, `false`, `missing`, a refusal, or that
+// the input is not these entries.
 mod show;
 
 ghost use Prim.Native.Nat.{_≤_};
@@ -28,14 +28,15 @@ fn evaluate_input(s: &[u8], images: &mut [u8]) -> ProgramAnswer
     ensures { λ r. ⌜ Answered (now (s .entry)) r ⌝ }
 {
     match input::evaluation_entries(s) {
-        EvaluationInput::Entries(request, number, records) => {
+        EvaluationInput::Entries(request, number, records, runs) => {
             let n = input::join_bodies(s, number + NUMBER_ENTRY_BYTES, MESSAGE_ENTRY, images);
             ProgramAnswer::Is(evaluator::evaluate(
                 &s[request + ENTRY_BODY..number],
                 &s[ENTRY_BODY..request],
                 word_at(s, number + ENTRY_BODY) as usize,
                 &images[..n],
-                &s[records..],
+                &s[records..runs],
+                &s[runs..],
             ))
         }
         EvaluationInput::Bad => ProgramAnswer::BadInput,

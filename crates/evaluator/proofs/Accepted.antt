@@ -73,9 +73,9 @@ module _ {s d st pa ct nd st′ pa′ ct′ nd′ : List ℕ} {r : ReadAnswer} (
       }
 
   -- a refused reading is a refused evaluation
-  pub refuses : (x : Refusal) (p : ℕ) → r ≡ Refused x p → (n : ℕ) (images rows : List ℕ) → refusal x p ≡ evaluation s d n images rows
+  pub refuses : (x : Refusal) (p : ℕ) → r ≡ Refused x p → (n : ℕ) (images rows runs : List ℕ) → refusal x p ≡ evaluation s d n images rows runs
   unfolding evaluation
-  refuses x p e n images rows =
+  refuses x p e n images rows runs =
       let w = was-refused (answer s d (length st) (length pa) (length ct)) x p (sym (h .answered .answered) ∙ e) in
       let y : reading s d ≡ refused x p = sym with-room ∙ w in
       rw y

@@ -20,11 +20,12 @@ use Rattle.classes.specs.declared.BooleanClass.the-variants as BooleanClass
 use Rattle.classes.specs.Classes.{valueClassOf, booleanClassOf}
 use Rattle.meaning.specs.declared.Truth.{Truth}
 use Rattle.meaning.specs.Data.{Datum, arithmeticOf, negateOf, compareOf, searchOf, betweenOf, missingOf, connected, opposite}
-use Rattle.walking.specs.Walk.{Walked, at, astray, _▷_, ended, onClass, literalAt, referenceAt, valueUnder, booleanUnder}
+use Rattle.walking.specs.Walk.{Walked, at, astray, _▷_, ended, onClass, literalAt, referenceAt, valueUnder, valueAt, booleanUnder}
 use Rattle.walking.proofs.Laws.{second-after, third-after, no-further, value-level, value-by, value-past, value-inside, boolean-level, boolean-by, boolean-past}
 use Rattle.values.specs.declared.Valued.{Valued}
 use Rattle.values.specs.Values.{valued}
 use Rattle.inputs.proofs.LiteralLaws.{no-literal}
+use Rattle.surroundings.specs.Bindings.{boundSight}
 use Rattle.evaluator.specs.declared.forms.OperationCode.{OperationCode}
 use Rattle.evaluator.specs.declared.forms.OperationCode.the-variants as Operation
 use Rattle.evaluator.specs.declared.forms.ValueForm.{ValueForm}
@@ -37,7 +38,7 @@ use Rattle.evaluator.specs.declared.forms.LogicCode.{LogicCode}
 use Rattle.evaluator.specs.declared.forms.LogicCode.the-variants as Logic
 use Rattle.evaluator.specs.declared.forms.BooleanForm.{BooleanForm}
 use Rattle.evaluator.specs.Forms.{operationCode, valueCode, pairCode, testCode, logicCode, booleanCode, judged}
-use Rattle.evaluator.specs.Slices.{Slices, lentOf, fetchedBy, valuesOf, booleansOf}
+use Rattle.evaluator.specs.Slices.{Slices, lentOf, fetchedBy, sightOf, valuesOf, booleansOf, runsOf}
 
 module _ (g : Slices) where
   abbrev next : ℕ → ℕ
@@ -103,12 +104,20 @@ module _ (g : Slices) where
 
   -- ---- a boolean at a place
 
+  -- what is seen at a reference
+  sees-fetched : sightOf g .fetch (g .bindings) ≡ fetchedBy g
+  unfolding sightOf fetchedBy boundSight
+  sees-fetched = refl
+
   pub no-boolean-level : (l p : ℕ) → l ≡ 0 → astray ≡ booleansOf g l p
-  no-boolean-level l p e = sym (ap (λ z. booleansOf g z p) e ∙ boolean-level (fetchedBy g) (g .request) p)
+  no-boolean-level l p e = sym (ap (λ z. booleansOf g z p) e ∙ boolean-level (sightOf g) (g .bindings) (g .request) p)
 
   module _ (l p : ℕ) {b : ℕ} (x : BooleanClass) (level : l ≡ 0 → ⊥) (is : b ≡ byteAt (g .request) p) (class : booleanClassOf x ≡ booleanClass b) where
-    by-boolean : booleansOf g l p ≡ onClass (booleanClassOf x) (λ k. booleanUnder (valuesOf g (l - 1)) (booleansOf g (l - 1)) p k)
-    by-boolean = boolean-by (fetchedBy g) (g .request) l p (booleanClassOf x) level (class ∙ ap booleanClass is)
+    by-boolean : booleansOf g l p ≡ onClass (booleanClassOf x) (λ k. booleanUnder (valuesOf g (l - 1)) (booleansOf g (l - 1)) (runsOf g (l - 1) p) p k)
+    by-boolean =
+        boolean-by (sightOf g) (g .bindings) (g .request) l p (booleanClassOf x) level (class ∙ ap booleanClass is)
+        ∙ ap (λ f. onClass (booleanClassOf x) (λ k. booleanUnder (λ q. valueAt f (l - 1) (g .request) q) (booleansOf g (l - 1))
+        (runsOf g (l - 1) p) p k)) sees-fetched
 
     pub no-boolean : x ≡ BooleanClass.LeftOut → astray ≡ booleansOf g l p
     no-boolean e = sym (by-boolean ∙ rw e)
@@ -117,20 +126,20 @@ module _ (g : Slices) where
     no-boolean-code e = sym (by-boolean ∙ rw e)
 
     pub due-boolean : {r : Walked Truth} {k : BooleanCode} → x ≡ BooleanClass.Due k →
-        r ≡ booleanUnder (valuesOf g (l - 1)) (booleansOf g (l - 1)) p k → r ≡ booleansOf g l p
+        r ≡ booleanUnder (valuesOf g (l - 1)) (booleansOf g (l - 1)) (runsOf g (l - 1) p) p k → r ≡ booleansOf g l p
     due-boolean e h = h ∙ sym (by-boolean ∙ rw e)
 
   -- the boolean after a byte
   next-boolean : (l p : ℕ) {q : ℕ} {a : Walked Truth} → q ≡ next p → a ≡ booleansOf g l q → a ≡ booleansOf g l (p + 1)
-  next-boolean l p n i = i ∙ ap (booleansOf g l) n ∙ no-further (g .request) (booleansOf g l) (boolean-past (fetchedBy g) (g .request) l) (p + 1)
+  next-boolean l p n i = i ∙ ap (booleansOf g l) n ∙ no-further (g .request) (booleansOf g l) (boolean-past (sightOf g) (g .bindings) (g .request) l) (p + 1)
 
   -- ---- a boolean under its code
 
   module _ (l p : ℕ) where
     abbrev boolean-under : BooleanCode → Walked Truth
-    boolean-under k = booleanUnder (valuesOf g l) (booleansOf g l) p k
+    boolean-under k = booleanUnder (valuesOf g l) (booleansOf g l) (runsOf g l p) p k
 
-    -- a test, and an operator on booleans
+    -- a test, an operator on booleans, and an any or a unique
     pub boolean-formed : {k : BooleanCode} (x : BooleanForm) → booleanCode x ≡ k → {y : BooleanForm} {r : Walked Truth} → x ≡ y →
         r ≡ boolean-under (booleanCode y) → r ≡ boolean-under k
     boolean-formed x form e h = h ∙ ap boolean-under (sym (ap booleanCode e) ∙ form)

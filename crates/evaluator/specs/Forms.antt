@@ -45,6 +45,7 @@ logicCode Logic.Not = Boolean.Not
 abbrev pub booleanCode : BooleanForm → BooleanCode
 booleanCode (BooleanForm.Test k) = testCode k
 booleanCode (BooleanForm.Logic k) = logicCode k
+booleanCode (BooleanForm.Run q) = Boolean.Quantify q
 
 -- what a test gives on two values, the second of which ends at p; `values` gives the third
 abbrev pub judged : (ℕ → Walked Datum) → PairCode → Datum → Datum → ℕ → Walked Truth

@@ -2,3 +2,4 @@
 pub mod Forms
 pub mod Slices
 pub mod AfterReading
+pub mod Bound

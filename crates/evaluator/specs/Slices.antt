@@ -1,61 +1,90 @@
 -- What the code of the walk is handed, and what it answers.
-use Prim.Native.Nat.{ℕ, _/_, _<_}
+use Prim.Native.Nat.{ℕ, _/_, _≤_, _<_, min}
 use mathlib.Core.Path.{_≡_}
 use mathlib.Core.List.{List}
+use mathlib.Core.Option.{Option, some}
 use lib.ListN.{length}
-use Rattle.wire.specs.Limits.{parameterRowNumbers}
+use Rattle.wire.specs.Limits.{maxParameters, parameterRowNumbers}
 use Rattle.wire.specs.declared.codes.ValueCode.{ValueCode}
 use Rattle.wire.specs.declared.codes.BooleanCode.{BooleanCode}
+use Rattle.wire.specs.declared.codes.Quantifier.{Quantifier}
 use Rattle.grammar.specs.Tree.{Reference}
 use Rattle.meaning.specs.declared.Truth.{Truth}
 use Rattle.meaning.specs.Data.{Datum, betweenOf}
 use Rattle.meaning.specs.Inputs.{Fetched}
-use Rattle.walking.specs.Walk.{Walked, _▷_, ended, valueUnder, valueAt, booleanUnder, booleanAt}
+use Rattle.walking.specs.Walk.{Walked, _▷_, ended, valueUnder, valueAt, Over, Sight, overAt, booleanUnder, booleanAt}
 use Rattle.values.specs.declared.Valued.{Valued}
 use Rattle.values.specs.declared.Tested.{Tested}
 use Rattle.values.specs.Values.{Lent, lent, valued, tested}
-use Rattle.inputs.specs.Answers.{lentAround}
+use Rattle.surroundings.specs.Bindings.{boundAround, boundSight, runOf}
 use Rattle.evaluator.specs.declared.forms.PairCode.{PairCode}
 use Rattle.evaluator.specs.Forms.{judged}
 
--- the request, the dictionary, the contexts in scope (their numbers and their relations), the rows of the parameters, the images
--- and the records
+-- the request, the dictionary, the rows of the bindings, the rows of the parameters, the images, the records and the runs
 pub record Slices : Type 0 where
   pub request : List ℕ
   pub dictionary : List ℕ
-  pub numbers : List ℕ
-  pub relations : List ℕ
+  pub bindings : List ℕ
   pub parameters : List ℕ
   pub images : List ℕ
   pub records : List ℕ
+  pub runs : List ℕ
 
 abbrev pub slices : List ℕ → List ℕ → List ℕ → List ℕ → List ℕ → List ℕ → List ℕ → Slices
-slices s d numbers relations parameters images records =
+slices s d bindings parameters images records runs =
     record {
       request = s;
       dictionary = d;
-      numbers = numbers;
-      relations = relations;
+      bindings = bindings;
       parameters = parameters;
       images = images;
       records = records;
+      runs = runs;
     }
 
 abbrev pub lentOf : Slices → Lent
-lentOf g = lent (g .request) (g .images) (g .records)
+lentOf g = lent (g .request) (g .images) (g .records) (g .runs)
+
+-- how many parameters are looked at
+abbrev pub parametersOf : Slices → ℕ
+parametersOf g = min (length (g .parameters) / parameterRowNumbers) maxParameters
 
 -- what references give
 unfoldable pub fetchedBy : Slices → Reference → Fetched
-fetchedBy g =
-    lentAround (g .dictionary) (g .numbers) (g .relations) (length (g .numbers)) (g .parameters)
-    (length (g .parameters) / parameterRowNumbers) (g .images) (g .records)
+fetchedBy g = boundAround (g .dictionary) (g .parameters) (parametersOf g) (g .images) (g .records) (g .runs) (g .bindings)
 
--- the values and the booleans at a place, with so many levels left
+-- what is seen by a table of bindings
+unfoldable pub sightOf : Slices → Sight (List ℕ)
+sightOf g = boundSight (g .dictionary) (g .parameters) (parametersOf g) (g .images) (g .records) (g .runs)
+
+-- the greatest table of bindings: 8 numbers for each of 32 contexts
+abbrev pub bindingNumbers : ℕ
+bindingNumbers = 256
+
+-- the bytes of 32 runs of 65,535 bytes
+abbrev pub runBytes : ℕ
+runBytes = 2097120
+
+-- the bindings have room in a table, and a place in the runs is a number of one
+abbrev pub Fits : List ℕ → List ℕ → Type 0
+Fits bindings runs = (length bindings ≤ bindingNumbers) × (length runs ≤ runBytes)
+
+-- the values and the booleans at a place, with so many levels left; the booleans also as they are seen from another table of bindings
 abbrev pub valuesOf : Slices → ℕ → ℕ → Walked Datum
 valuesOf g levels q = valueAt (fetchedBy g) levels (g .request) q
 
 abbrev pub booleansOf : Slices → ℕ → ℕ → Walked Truth
-booleansOf g levels q = booleanAt (fetchedBy g) levels (g .request) q
+booleansOf g levels q = booleanAt (sightOf g) (g .bindings) levels (g .request) q
+
+abbrev pub booleansFrom : Slices → ℕ → List ℕ → ℕ → Walked Truth
+booleansFrom g levels t q = booleanAt (sightOf g) t levels (g .request) q
+
+-- an any or a unique: over a run, and over that of the code at a place
+abbrev pub overOf : Slices → ℕ → Quantifier → Option (Over (List ℕ)) → Walked Truth
+overOf g levels q o = overAt q o (booleansFrom g levels)
+
+abbrev pub runsOf : Slices → ℕ → ℕ → Quantifier → Walked Truth
+runsOf g levels p q = overOf g levels q (sightOf g .over (g .bindings) p)
 
 -- a value at a place, and the value after another
 abbrev pub ValueAt : Slices → ℕ → ℕ → Valued → Type 0
@@ -79,7 +108,11 @@ abbrev pub BooleanAfter : Slices → ℕ → Tested → Tested → Type 0
 BooleanAfter g levels a r = tested r ≡ (tested a ▷ λ x q. booleansOf g levels q)
 
 abbrev pub BooleanUnder : Slices → ℕ → ℕ → BooleanCode → Tested → Type 0
-BooleanUnder g levels p code r = tested r ≡ booleanUnder (valuesOf g levels) (booleansOf g levels) p code
+BooleanUnder g levels p code r = tested r ≡ booleanUnder (valuesOf g levels) (booleansOf g levels) (runsOf g levels p) p code
+
+-- an any or a unique over the run of a row
+abbrev pub OverRun : Slices → ℕ → ℕ → Quantifier → Tested → Type 0
+OverRun g levels row q r = tested r ≡ overOf g levels q (some (runOf (g .runs) (g .bindings) row))
 
 -- a test on two values or three, after its first value, and between after its second
 abbrev pub PairAfter : Slices → ℕ → Valued → PairCode → Tested → Type 0

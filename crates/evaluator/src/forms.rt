@@ -5,6 +5,7 @@ use wire::codes::BooleanCode;
 use wire::codes::Comparison;
 use wire::codes::Connective;
 use wire::codes::Operator;
+use wire::codes::Quantifier;
 use wire::codes::ReferenceCode;
 use wire::codes::TextSearch;
 use wire::codes::ValueCode;
@@ -45,6 +46,7 @@ pub(crate) enum LogicCode {
 pub(crate) enum BooleanForm {
     Test(TestCode),
     Logic(LogicCode),
+    Run(Quantifier),
 }
 
 // The form of a value's code.
@@ -70,5 +72,6 @@ pub(crate) fn boolean_form(code: BooleanCode) -> BooleanForm
         BooleanCode::Connect(c) => BooleanForm::Logic(LogicCode::Connect(c)),
         BooleanCode::Not => BooleanForm::Logic(LogicCode::Not),
         BooleanCode::Missing => BooleanForm::Test(TestCode::Missing),
+        BooleanCode::Quantify(q) => BooleanForm::Run(q),
     }
 }

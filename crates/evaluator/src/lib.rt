@@ -1,4 +1,4 @@
-// Evaluation: a condition of a request, by its number, with messages and records.
+// Evaluation: a condition of a request, by its number, with messages, records and runs.
 ghost use Rattle.meaning.specs.Evaluated.{Evaluated};
 use grammar::ReadAnswer;
 use meaning::Evaluation;
@@ -14,17 +14,20 @@ mod conditions;
 mod forms;
 mod operands;
 mod places;
+mod quantifiers;
 mod tests;
 
-// The condition of a number, from 0 in reading order: what it comes out as with these message images and records, or the refusal and its place.
+// The condition of a number, from 0 in reading order: what it comes out as with these message images, records and runs, or the refusal and its place.
 pub fn evaluate<'a>(
     request: &'a [u8],
     dictionary: &[u8],
     number: usize,
     images: &'a [u8],
     records: &'a [u8],
+    runs: &'a [u8],
 ) -> Evaluation
-    ensures { λ r. ⌜ Evaluated (now (request .entry)) (now (dictionary .entry)) number (now (images .entry)) (now (records .entry)) r ⌝ }
+    ensures { λ r. ⌜ Evaluated (now (request .entry)) (now (dictionary .entry)) number (now (images .entry)) (now (records .entry))
+        (now (runs .entry)) r ⌝ }
 {
     let mut statements = [0u32; STATEMENT_TABLE];
     let mut parameters = [0u32; PARAMETER_TABLE];
@@ -50,6 +53,7 @@ pub fn evaluate<'a>(
             number,
             images,
             records,
+            runs,
         ),
         ReadAnswer::Refused(r, p) => Evaluation::Refused(r, p),
     }

@@ -23,17 +23,17 @@ use wire::limits::PARAMETER_ROW;
 pub(crate) fn value_at<'a>(
     request: &'a [u8],
     dictionary: &[u8],
-    numbers: &[u32],
-    relations: &[u32],
+    bindings: &[u32],
     parameters: &[u32],
     images: &'a [u8],
     records: &'a [u8],
+    runs: &'a [u8],
     levels: usize,
     at: usize,
 ) -> Valued
     ensures { λ r. ⌜ ValueAt
-        (slices (now (request .entry)) (now (dictionary .entry)) (now (numbers .entry)) (now (relations .entry))
-        (now (parameters .entry)) (now (images .entry)) (now (records .entry)))
+        (slices (now (request .entry)) (now (dictionary .entry)) (now (bindings .entry)) (now (parameters .entry))
+        (now (images .entry)) (now (records .entry)) (now (runs .entry)))
         levels at r ⌝ }
 {
     if levels == 0 {
@@ -44,11 +44,11 @@ pub(crate) fn value_at<'a>(
         ValueClass::Due(code) => value_under(
             request,
             dictionary,
-            numbers,
-            relations,
+            bindings,
             parameters,
             images,
             records,
+            runs,
             levels - 1,
             at,
             code,
@@ -62,18 +62,18 @@ pub(crate) fn value_at<'a>(
 fn value_under<'a>(
     request: &'a [u8],
     dictionary: &[u8],
-    numbers: &[u32],
-    relations: &[u32],
+    bindings: &[u32],
     parameters: &[u32],
     images: &'a [u8],
     records: &'a [u8],
+    runs: &'a [u8],
     levels: usize,
     at: usize,
     code: ValueCode,
 ) -> Valued
     ensures { λ r. ⌜ ValueInside
-        (slices (now (request .entry)) (now (dictionary .entry)) (now (numbers .entry)) (now (relations .entry))
-        (now (parameters .entry)) (now (images .entry)) (now (records .entry)))
+        (slices (now (request .entry)) (now (dictionary .entry)) (now (bindings .entry)) (now (parameters .entry))
+        (now (images .entry)) (now (records .entry)) (now (runs .entry)))
         levels at code r ⌝ }
 {
     let form = value_form(code);
@@ -82,24 +82,23 @@ fn value_under<'a>(
         ValueForm::Reference(c) => reference(
             request,
             dictionary,
-            numbers,
-            relations,
-            numbers.len(),
+            bindings,
             parameters,
             parameters.len() / PARAMETER_ROW,
             images,
             records,
+            runs,
             at,
             c,
         ),
         ValueForm::Operation(o) => operation(
             request,
             dictionary,
-            numbers,
-            relations,
+            bindings,
             parameters,
             images,
             records,
+            runs,
             levels,
             at,
             o,
@@ -111,28 +110,28 @@ fn value_under<'a>(
 fn operation<'a>(
     request: &'a [u8],
     dictionary: &[u8],
-    numbers: &[u32],
-    relations: &[u32],
+    bindings: &[u32],
     parameters: &[u32],
     images: &'a [u8],
     records: &'a [u8],
+    runs: &'a [u8],
     levels: usize,
     at: usize,
     code: OperationCode,
 ) -> Valued
     ensures { λ r. ⌜ ValueUnder
-        (slices (now (request .entry)) (now (dictionary .entry)) (now (numbers .entry)) (now (relations .entry))
-        (now (parameters .entry)) (now (images .entry)) (now (records .entry)))
+        (slices (now (request .entry)) (now (dictionary .entry)) (now (bindings .entry)) (now (parameters .entry))
+        (now (images .entry)) (now (records .entry)) (now (runs .entry)))
         levels at (operationCode code) r ⌝ }
 {
     let a = value_at(
         request,
         dictionary,
-        numbers,
-        relations,
+        bindings,
         parameters,
         images,
         records,
+        runs,
         levels,
         place_after(request, at),
     );
@@ -141,11 +140,11 @@ fn operation<'a>(
             let b = value_after(
                 request,
                 dictionary,
-                numbers,
-                relations,
+                bindings,
                 parameters,
                 images,
                 records,
+                runs,
                 levels,
                 a,
             );
@@ -159,28 +158,28 @@ fn operation<'a>(
 pub(crate) fn value_after<'a>(
     request: &'a [u8],
     dictionary: &[u8],
-    numbers: &[u32],
-    relations: &[u32],
+    bindings: &[u32],
     parameters: &[u32],
     images: &'a [u8],
     records: &'a [u8],
+    runs: &'a [u8],
     levels: usize,
     from: Valued,
 ) -> Valued
     ensures { λ r. ⌜ ValueAfter
-        (slices (now (request .entry)) (now (dictionary .entry)) (now (numbers .entry)) (now (relations .entry))
-        (now (parameters .entry)) (now (images .entry)) (now (records .entry)))
+        (slices (now (request .entry)) (now (dictionary .entry)) (now (bindings .entry)) (now (parameters .entry))
+        (now (images .entry)) (now (records .entry)) (now (runs .entry)))
         levels from r ⌝ }
 {
     match from {
         Valued::Is(_, p) => value_at(
             request,
             dictionary,
-            numbers,
-            relations,
+            bindings,
             parameters,
             images,
             records,
+            runs,
             levels,
             p.at,
         ),

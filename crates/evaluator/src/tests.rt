@@ -19,28 +19,28 @@ use values::search::text_search;
 pub(crate) fn test<'a>(
     request: &'a [u8],
     dictionary: &[u8],
-    numbers: &[u32],
-    relations: &[u32],
+    bindings: &[u32],
     parameters: &[u32],
     images: &'a [u8],
     records: &'a [u8],
+    runs: &'a [u8],
     levels: usize,
     at: usize,
     code: TestCode,
 ) -> Tested
     ensures { λ r. ⌜ BooleanUnder
-        (slices (now (request .entry)) (now (dictionary .entry)) (now (numbers .entry)) (now (relations .entry))
-        (now (parameters .entry)) (now (images .entry)) (now (records .entry)))
+        (slices (now (request .entry)) (now (dictionary .entry)) (now (bindings .entry)) (now (parameters .entry))
+        (now (images .entry)) (now (records .entry)) (now (runs .entry)))
         levels at (testCode code) r ⌝ }
 {
     let a = value_at(
         request,
         dictionary,
-        numbers,
-        relations,
+        bindings,
         parameters,
         images,
         records,
+        runs,
         levels,
         place_after(request, at),
     );
@@ -48,11 +48,11 @@ pub(crate) fn test<'a>(
         TestCode::Pair(k) => pair_after(
             request,
             dictionary,
-            numbers,
-            relations,
+            bindings,
             parameters,
             images,
             records,
+            runs,
             levels,
             a,
             k,
@@ -65,42 +65,42 @@ pub(crate) fn test<'a>(
 fn pair_after<'a>(
     request: &'a [u8],
     dictionary: &[u8],
-    numbers: &[u32],
-    relations: &[u32],
+    bindings: &[u32],
     parameters: &[u32],
     images: &'a [u8],
     records: &'a [u8],
+    runs: &'a [u8],
     levels: usize,
     a: Valued,
     code: PairCode,
 ) -> Tested
     ensures { λ r. ⌜ PairAfter
-        (slices (now (request .entry)) (now (dictionary .entry)) (now (numbers .entry)) (now (relations .entry))
-        (now (parameters .entry)) (now (images .entry)) (now (records .entry)))
+        (slices (now (request .entry)) (now (dictionary .entry)) (now (bindings .entry)) (now (parameters .entry))
+        (now (images .entry)) (now (records .entry)) (now (runs .entry)))
         levels a code r ⌝ }
 {
     let b = value_after(
         request,
         dictionary,
-        numbers,
-        relations,
+        bindings,
         parameters,
         images,
         records,
+        runs,
         levels,
         a,
     );
     match code {
-        PairCode::Compare(c) => comparison(request, images, records, c, a, b),
-        PairCode::Search(t) => text_search(request, images, records, t, a, b),
+        PairCode::Compare(c) => comparison(request, images, records, runs, c, a, b),
+        PairCode::Search(t) => text_search(request, images, records, runs, t, a, b),
         PairCode::Between => between_after(
             request,
             dictionary,
-            numbers,
-            relations,
+            bindings,
             parameters,
             images,
             records,
+            runs,
             levels,
             a,
             b,
@@ -112,30 +112,30 @@ fn pair_after<'a>(
 fn between_after<'a>(
     request: &'a [u8],
     dictionary: &[u8],
-    numbers: &[u32],
-    relations: &[u32],
+    bindings: &[u32],
     parameters: &[u32],
     images: &'a [u8],
     records: &'a [u8],
+    runs: &'a [u8],
     levels: usize,
     a: Valued,
     b: Valued,
 ) -> Tested
     ensures { λ r. ⌜ BetweenAfter
-        (slices (now (request .entry)) (now (dictionary .entry)) (now (numbers .entry)) (now (relations .entry))
-        (now (parameters .entry)) (now (images .entry)) (now (records .entry)))
+        (slices (now (request .entry)) (now (dictionary .entry)) (now (bindings .entry)) (now (parameters .entry))
+        (now (images .entry)) (now (records .entry)) (now (runs .entry)))
         levels a b r ⌝ }
 {
     let c = value_after(
         request,
         dictionary,
-        numbers,
-        relations,
+        bindings,
         parameters,
         images,
         records,
+        runs,
         levels,
         b,
     );
-    between(request, images, records, a, b, c)
+    between(request, images, records, runs, a, b, c)
 }

@@ -12,6 +12,7 @@ use Rattle.dictionary.specs.Dictionary
 use Rattle.dictionary.specs.Format
 use Rattle.dictionary.specs.Naming as DictionaryNames
 use Rattle.records.specs.Record
+use Rattle.records.specs.Runs as RunEntries
 use Rattle.grammar.specs.Bytes
 use Rattle.grammar.specs.Conditions
 use Rattle.grammar.specs.Kinds
@@ -33,6 +34,7 @@ use Rattle.meaning.specs.Evaluation
 use Rattle.meaning.specs.House
 use Rattle.meaning.specs.Inputs
 use Rattle.meaning.specs.Meaning
+use Rattle.meaning.specs.Runs
 use Rattle.text.specs.Tests
 use Rattle.text.specs.Value
 use Rattle.wire.specs.Classes
@@ -101,6 +103,10 @@ openRecord = tt
 unfoldable pub openRecord2 : Unit {0}
 unfolding Record.fieldPresence
 openRecord2 = tt
+
+unfoldable pub openRunEntries : Unit {0}
+unfolding RunEntries.properRecords RunEntries.recordsHeld RunEntries.properRun RunEntries.runs
+openRunEntries = tt
 
 unfoldable pub openBytes : Unit {0}
 unfolding Bytes.descriptorBytes Bytes.descriptorsBytes Bytes.messageBytes Bytes.messagesBytes Bytes.streamBytes Bytes.streamsBytes
@@ -179,7 +185,7 @@ unfolding Rows.rseRows Rows.headingRows Rows.contextRows Rows.contextsRows Rows.
 openRows2 = tt
 
 unfoldable pub openRows3 : Unit {0}
-unfolding Rows.requestContextRows
+unfolding Rows.requestContextRows Rows.valueRows Rows.booleanRows Rows.keysRows Rows.clausesRows
 openRows3 = tt
 
 unfoldable pub openScope : Unit {0}
@@ -206,6 +212,10 @@ unfoldable pub openSizes5 : Unit {0}
 unfolding Sizes.rseBooleans Sizes.ownConditions Sizes.conditionCount Sizes.conditionsCount Sizes.receivesConditionCount
 openSizes5 = tt
 
+unfoldable pub openSizes6 : Unit {0}
+unfolding Sizes.valueContexts Sizes.booleanContexts Sizes.keysContexts Sizes.clausesContexts
+openSizes6 = tt
+
 unfoldable pub openStatements : Unit {0}
 unfolding Statements.stream Statements.streams Statements.countByte Statements.rseHead Statements.keys Statements.sort
 openStatements = tt
@@ -227,7 +237,7 @@ unfolding Statements.leaveUnder Statements.ifUnder Statements.selectUnder Statem
 openStatements5 = tt
 
 unfoldable pub openStatements6 : Unit {0}
-unfolding Statements.receiveUnder Statements.readStatement Statements.readReceive
+unfolding Statements.receiveUnder Statements.readStatement Statements.readReceive Statements.streamCount
 openStatements6 = tt
 
 unfoldable pub openValues : Unit {0}
@@ -239,7 +249,7 @@ unfolding Values.readField Values.readReference Values.readTarget Values.valueUn
 openValues2 = tt
 
 unfoldable pub openValues3 : Unit {0}
-unfolding Values.readBoolean
+unfolding Values.readBoolean Values.quantifierUnder
 openValues3 = tt
 
 unfoldable pub openData : Unit {0}
@@ -287,8 +297,12 @@ unfolding Inputs.parameterValue Inputs.fetch
 openInputs2 = tt
 
 unfoldable pub openMeaning : Unit {0}
-unfolding Meaning.valueOf Meaning.truthOf Meaning.meaning
+unfolding Meaning.valueOf Meaning.keptOf Meaning.answerOf Meaning.truthOf Meaning.rseTruth Meaning.clausesTruth Meaning.around Meaning.meaning
 openMeaning = tt
+
+unfoldable pub openRuns : Unit {0}
+unfolding Runs.dueRuns Runs.rseRuns Runs.clausesRuns Runs.runRelations Runs.parts Runs.lentRuns Runs.fetchAround Runs.within Runs.withinEach
+openRuns = tt
 
 unfoldable pub openTests : Unit {0}
 unfolding Tests.orderFrom Tests.textOrder Tests.lowerCase Tests.startsBy Tests.starting Tests.containing Tests.afterRun
@@ -327,7 +341,7 @@ unfolding Versions.isVersion Versions.versionOf
 openVersions = tt
 
 unfoldable pub everything1 : Unit {0}
-unfolding openNumber openNumber2 openDictionary openDictionary2 openFormat openDictionaryNames openRecord openRecord2 openBytes
+unfolding openNumber openNumber2 openDictionary openDictionary2 openFormat openDictionaryNames openRecord openRecord2 openRunEntries openBytes
 everything1 = tt
 
 unfoldable pub everything2 : Unit {0}
@@ -339,7 +353,7 @@ unfolding openGrammarNames openGrammarNames2 openGrammarNames3 openReader openRe
 everything3 = tt
 
 unfoldable pub everything4 : Unit {0}
-unfolding openRows3 openScope openSizes openSizes2 openSizes3 openSizes4 openSizes5 openStatements openStatements2 openStatements3
+unfolding openRows3 openScope openSizes openSizes2 openSizes3 openSizes4 openSizes5 openSizes6 openStatements openStatements2 openStatements3
 everything4 = tt
 
 unfoldable pub everything5 : Unit {0}
@@ -347,7 +361,7 @@ unfolding openStatements4 openStatements5 openStatements6 openValues openValues2
 everything5 = tt
 
 unfoldable pub everything6 : Unit {0}
-unfolding openDecoding2 openDecoding3 openDecoding4 openDecoding5 openEvaluation openHouse openInputs openInputs2 openMeaning
+unfolding openDecoding2 openDecoding3 openDecoding4 openDecoding5 openEvaluation openHouse openInputs openInputs2 openRuns openMeaning
 everything6 = tt
 
 unfoldable pub everything7 : Unit {0}
@@ -358,6 +372,6 @@ unfoldable pub readAnswer : List ℕ → List ℕ → ℕ → ℕ → ℕ → An
 unfolding everything1 everything2 everything3 everything4 everything5 everything6 everything7
 readAnswer s d a b c = readingAnswer d (Reading.answer s d a b c)
 
-unfoldable pub evaluateAnswer : List ℕ → List ℕ → ℕ → List ℕ → List ℕ → Answer
+unfoldable pub evaluateAnswer : List ℕ → List ℕ → ℕ → List ℕ → List ℕ → List ℕ → Answer
 unfolding everything1 everything2 everything3 everything4 everything5 everything6 everything7
-evaluateAnswer s d n images records = truthAnswer (Evaluation.evaluation s d n images records)
+evaluateAnswer s d n images records runs = truthAnswer (Evaluation.evaluation s d n images records runs)

@@ -8,20 +8,20 @@ use Rattle.records.specs.declared.missing.Cause.the-variants as Cause
 use Rattle.examples.proofs.Answers.{Answer, rows, isTrue, isFalse, isMissing, refusal, readAnswer, evaluateAnswer}
 
 -- 01: "Request S, 41 bytes in hex"
-pub S : List ℕ
+unfoldable pub S : List ℕ
 S =
     0x04 ∷ 0x02 ∷ 0x04 ∷ 0x00 ∷ 0x01 ∷ 0x00 ∷ 0x07 ∷ 0x00 ∷ 0x07 ∷ 0x43 ∷ 0x01 ∷ 0x4B ∷ 0x01 ∷ 0x00 ∷ 0x00 ∷ 0x47 ∷ 0x31 ∷ 0x18 ∷ 0x00 ∷ 0x00 ∷
     0x00 ∷ 0x15 ∷ 0x07 ∷ 0xFF ∷ 0x2C ∷ 0x01 ∷ 0xFF ∷ 0x0E ∷ 0x00 ∷ 0x01 ∷ 0x15 ∷ 0x07 ∷ 0x00 ∷ 0x01 ∷ 0x00 ∷ 0x19 ∷ 0x00 ∷ 0x00 ∷ 0x00 ∷ 0xFF ∷ 0x4C ∷ []
 
 -- 01: "Relation 1 BEDS has HEAT (200, scale -1) and NAME (text 4)."
-pub dictionary : List ℕ
+unfoldable pub dictionary : List ℕ
 dictionary =
     11 ∷ 0 ∷ 1 ∷ 0 ∷ 1 ∷ 0 ∷ 4 ∷ 66 ∷ 69 ∷ 68 ∷ 83 ∷
     15 ∷ 0 ∷ 2 ∷ 0 ∷ 0 ∷ 0 ∷ 200 ∷ 255 ∷ 2 ∷ 0 ∷ 4 ∷ 72 ∷ 69 ∷ 65 ∷ 84 ∷
     15 ∷ 0 ∷ 2 ∷ 0 ∷ 1 ∷ 0 ∷ 14 ∷ 0 ∷ 4 ∷ 0 ∷ 4 ∷ 78 ∷ 65 ∷ 77 ∷ 69 ∷ []
 
 -- a record of BEDS: missing bits, the word of HEAT, and NAME "ABCD"
-pub bed : ℕ → ℕ → ℕ → List ℕ
+unfoldable pub bed : ℕ → ℕ → ℕ → List ℕ
 bed bits low high = 13 ∷ 0 ∷ 3 ∷ 0 ∷ 1 ∷ 0 ∷ bits ∷ low ∷ high ∷ 65 ∷ 66 ∷ 67 ∷ 68 ∷ []
 
 -- S with another byte at a place, read with tables of the smallest lengths
@@ -30,7 +30,7 @@ altered place byte = readAnswer (set S place byte) dictionary statementTableNumb
 
 -- the condition of S over a record
 pub evaluated : List ℕ → Answer
-evaluated record′ = evaluateAnswer S dictionary 0 (0 ∷ 0 ∷ []) record′
+evaluated record′ = evaluateAnswer S dictionary 0 (0 ∷ 0 ∷ []) record′ []
 
 -- HEAT 301, 300, 65534, 65535, and 301 with its bit set
 pub beds : List (List ℕ)

@@ -1,3 +1,4 @@
--- Document 01's examples, and answers that compute.
+-- Document 01's examples, those of any and unique, and answers that compute.
 pub mod Answers
 pub mod Examples
+pub mod AnyUnique

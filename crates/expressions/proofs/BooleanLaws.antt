@@ -14,7 +14,7 @@ use Rattle.wire.specs.Classes.{booleanClass}
 use Rattle.wire.specs.declared.codes.TextSearch.{TextSearch}
 use Rattle.wire.specs.declared.codes.Connective.{Connective}
 use Rattle.wire.specs.declared.codes.BooleanCode.{BooleanCode}
-use Rattle.wire.specs.declared.codes.BooleanCode.the-variants.{Compare, Search, Between, Connect, Not, Missing}
+use Rattle.wire.specs.declared.codes.BooleanCode.the-variants.{Compare, Search, Between, Connect, Not, Missing, Quantify}
 use Rattle.wire.proofs.codes.BooleanCode.{the-type}
 use Rattle.classes.proofs.Arms.{at-key}
 use Rattle.grammar.specs.Kind.{Kind}
@@ -58,10 +58,10 @@ none-of : (tags : List ℕ) (n : ℕ) → map (eqb n) tags ≡ replicate (length
 none-of tags n e h = false≢true (at-key false (eqb n) tags e n h ∙ eq-eqb n n refl)
 
 abbrev pub notMissing : List ℕ
-notMissing = 0 ∷ 1 ∷ 2 ∷ 3 ∷ 4 ∷ []
+notMissing = 0 ∷ 1 ∷ 2 ∷ 3 ∷ 4 ∷ 6 ∷ []
 
 abbrev pub notText : List ℕ
-notText = 0 ∷ 3 ∷ 4 ∷ 5 ∷ []
+notText = 0 ∷ 3 ∷ 4 ∷ 5 ∷ 6 ∷ []
 
 abbrev pub notBooleans : List ℕ
 notBooleans = 0 ∷ 1 ∷ 2 ∷ 5 ∷ []
@@ -73,6 +73,7 @@ tests-values Between h = refl
 tests-values (Connect o) h = absurd (none-of notBooleans 3 refl h)
 tests-values Not h = absurd (none-of notBooleans 4 refl h)
 tests-values Missing h = refl
+tests-values (Quantify q) h = absurd (none-of notBooleans 6 refl h)
 
 -- ---- under each code
 
@@ -107,6 +108,7 @@ module _ (s : List ℕ) (e : Environment) (sc : Scope) (l p : ℕ) (c : Cursor) 
   first-stopped (Connect o) m y = absurd (false≢true m)
   first-stopped Not m y = absurd (false≢true m)
   first-stopped Missing m y = stops w y (λ z. rw z)
+  first-stopped (Quantify q) m y = absurd (false≢true m)
 
   module _ (known : Bytes s) {x : Fit} {q : Cursor} (y : a ≡ Step.Next x q) where
     pub missing-wrote : {k : BooleanCode} → k ≡ Missing → c .at ≡ p + 1 → TestWrote s e sc l p k c t t₁ (Step.Next Fit.NoKind q)
@@ -124,6 +126,7 @@ module _ (s : List ℕ) (e : Environment) (sc : Scope) (l p : ℕ) (c : Cursor) 
       second-stopped (Connect o) m n y₁ = absurd (false≢true m)
       second-stopped Not m n y₁ = absurd (false≢true m)
       second-stopped Missing m n y₁ = absurd (none-of notMissing 5 refl n)
+      second-stopped (Quantify q) m n y₁ = absurd (false≢true m)
 
       module _ {x₁ : Fit} {q₁ : Cursor} (y₁ : b ≡ Step.Next x₁ q₁) where
         two-wrote : (test : Option Kind → Option Kind → Bool) (made : Value → Value → Boolean) →
@@ -157,6 +160,7 @@ module _ (s : List ℕ) (e : Environment) (sc : Scope) (l p : ℕ) (c : Cursor) 
         compare-wrote (Connect o) m n d here i h = absurd (false≢true m)
         compare-wrote Not m n d here i h = absurd (false≢true m)
         compare-wrote Missing m n d here i h = absurd (none-of notMissing 5 refl n)
+        compare-wrote (Quantify q) m n d here i h = absurd (false≢true m)
 
         module _ {k : BooleanCode} (ke : k ≡ Between) {d : Step} {t₃ : Tables} (w₂ : ValueWrote s e sc l q₁ t₂ t₃ d) where
           pub third-stopped : {n : Refusal} {i : ℕ} → d ≡ Step.Refused n i → TestWrote s e sc l p k c t t₃ d

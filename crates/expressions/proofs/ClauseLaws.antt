@@ -30,10 +30,11 @@ use Rattle.grammar.specs.Reader.{Read, read, refused, onRead, Reader, coded}
 use Rattle.grammar.specs.Values.{readValue, readBoolean}
 use Rattle.grammar.specs.Rses.{countByte, keys, sort, clausesUnder, clauses}
 use Rattle.grammar.specs.Internal.Steps.{stepOf, byteStep, noKind}
+use Rattle.grammar.specs.Demands.{Octets}
 use Rattle.grammar.proofs.StepLaws.{step-read, step-refused, byte-read, byte-refused}
 use Rattle.grammar.proofs.Went.{never, undo, same}
-use Rattle.grammar.proofs.SoundValues.{value-sound}
-use Rattle.grammar.proofs.SoundRses.{sort-sound, count-went}
+use Rattle.grammar.proofs.SoundValues.{value-sound, boolean-sound}
+use Rattle.grammar.proofs.SoundRses.{ClausesSound, sort-sound, clauses-sound, count-went}
 use Rattle.grammar.proofs.RowCounts.{keys-rows}
 use Rattle.grammar.proofs.Codes.{direction-due, coded-went}
 use Rattle.tables.specs.Tables.{Tables, contextsAlone, Wrote}
@@ -137,6 +138,15 @@ module _ (booleans : Reader Boolean) (values : Reader Value) (s : List ℕ) (c :
       (λ k q h. under-code m b t k q h)
       (λ r p h. rw (clauses, h, clause-refused (suc m) b t s c (λ z. absurd (omega (arith, z))) h)))
 
+-- all clauses of an rse
+abbrev pub readsClauses : List ℕ → Environment → Scope → ℕ → Cursor → Read Clauses
+readsClauses s e sc l c = clauses 3 (readBoolean l e sc) (readValue l e sc) false false s c
+
+pub reads-sound : (s : List ℕ) → Octets s → (e : Environment) (sc : Scope) (l : ℕ) (c : Cursor) (cs : Clauses) (q : Cursor) →
+    readsClauses s e sc l c ≡ read cs q → ClausesSound l e sc s false false c cs q
+reads-sound s known e sc l c = clauses-sound l e sc s (readBoolean l e sc) (readValue l e sc) (boolean-sound s known e sc l)
+    (value-sound s known e sc l) 3 false false c
+
 -- a place that is not 0
 there-is : (p : ℕ) → (p ≡ 0 → ⊥) → listed p ≡ p ∷ []
 there-is zero h = absurd (h refl)
@@ -164,7 +174,7 @@ module _ (s : List ℕ) (e : Environment) (sc : Scope) (l n place : ℕ) (t : Bo
         rw (clause-not (clauseCoded n (negation (eqb place 0)) t s c) (sym u ∙ i))) refl j
 
     module _ {k : ClauseCode} {q : Cursor} (i : h ≡ ClauseHead.Is k q) where
-      stood : Stands n c q × (clauseDue k (negation (eqb place 0)) t ≡ true)
+      stood : Stands n s c q × (clauseDue k (negation (eqb place 0)) t ≡ true)
       stood = clause-stood n (negation (eqb place 0)) t s c u i
 
       more-at : (k′ : ClauseCode) → k ≡ k′ → more n place t c ≡ under k′ q

@@ -1,11 +1,12 @@
 -- Codes of values, booleans and clauses, in the code's terms.
-use Prim.Native.Nat.{ℕ, zero, suc, _+_, _-_, _<_, _≤_}
+use Prim.Native.Nat.{ℕ, zero, suc, _+_, _-_, _*_, _<_, _≤_}
 use mathlib.Core.Path.{_≡_, refl, sym, ap, _∙_}
 use mathlib.Core.Bool.{Bool, true, false}
 use mathlib.Core.List.{List, [], _∷_}
 use native.Mathlib.Numerals.{sub-one}
 use native.Mathlib.Omega.{arith}
 use lib.Dec.{ltb}
+use lib.ListN.{length}
 use borrow.Author.Tests.{lt-ltb, le-ltb, ltb-true}
 use Rattle.wire.specs.Classes.{Class, valueClass, booleanClass, clauseClass}
 use Rattle.wire.specs.declared.codes.ValueCode.{ValueCode}
@@ -21,7 +22,7 @@ use Rattle.grammar.specs.declared.ByteStep.the-variants as ByteStep
 use Rattle.grammar.specs.Internal.Steps.{byteStep}
 use Rattle.grammar.specs.Reader.{Read, read, refused, onRead, byte, due, coded}
 use Rattle.grammar.proofs.StepLaws.{absurd-eq, byte-read, byte-refused}
-use Rattle.grammar.proofs.Went.{Passed, undo, same, needed, coded-read, byte-went}
+use Rattle.grammar.proofs.Went.{Passed, inside, undo, same, needed, coded-read, byte-went}
 use Rattle.tables.proofs.Chains.{Counts}
 use Rattle.expressions.specs.declared.heads.ValueHead.{ValueHead}
 use Rattle.expressions.specs.declared.heads.ValueHead.the-variants as ValueHead
@@ -178,23 +179,24 @@ clause-not (refused n p) e = cc
 -- ---- a code that was read
 
 -- a byte that counts nothing, where one of n levels or clauses was left for it
-pub record Stands (n : ℕ) (c q : Cursor) : Type 0 where
+pub record Stands (n : ℕ) (s : List ℕ) (c q : Cursor) : Type 0 where
   pub some : 0 < n
   pub place : q .at ≡ c .at + 1
+  pub within : c .at ≤ length s → q .at ≤ length s
   pub counts : Counts c q
 
-byte-stands : {n x : ℕ} {s : List ℕ} {c q : Cursor} → ltb 0 n ≡ true → Passed s c (x ∷ []) q → Stands n c q
-byte-stands {n} t g = record { some = ltb-true 0 n t; place = g .place; counts = counted g }
+byte-stands : {n x : ℕ} {s : List ℕ} {c q : Cursor} → ltb 0 n ≡ true → Passed s c (x ∷ []) q → Stands n s c q
+byte-stands {n} t g = record { some = ltb-true 0 n t; place = g .place; within = inside g; counts = counted g }
 
 leveled-stands : {A : Type 0} (class : ℕ → Class A) (l : ℕ) (s : List ℕ) (c : Cursor) {k : A} {q : Cursor} →
-    leveled class l s c ≡ read k q → Stands l c q
+    leveled class l s c ≡ read k q → Stands l s c q
 unfolding leveled
 leveled-stands class l s c h = undo (coded class s c) _ h (λ a q₁ e w. needed (ltb 0 l) _ _ _ _ _ w (λ t v.
-    same v (λ a q. Stands l c q) (byte-stands t (byte-went s c (coded-read s c class e .1)))))
+    same v (λ a q. Stands l s c q) (byte-stands t (byte-went s c (coded-read s c class e .1)))))
 
 module _ (l : ℕ) (s : List ℕ) (c : Cursor) {q : Cursor} where
   module _ {h : ValueHead} {k : ValueCode} (u : h ≡ valueHead (leveled valueClass l s c)) (i : h ≡ ValueHead.Is k q) where
-    pub value-stands : Stands l c q
+    pub value-stands : Stands l s c q
     value-stands = leveled-stands valueClass l s c (value-is _ (sym u ∙ i))
 
     pub value-level : 1 ≤ l
@@ -204,14 +206,17 @@ module _ (l : ℕ) (s : List ℕ) (c : Cursor) {q : Cursor} where
     value-falls e = omega (arith, e, value-stands .some)
 
   module _ {h : BooleanHead} {k : BooleanCode} (u : h ≡ booleanHead (leveled booleanClass l s c)) (i : h ≡ BooleanHead.Is k q) where
-    pub boolean-stands : Stands l c q
+    pub boolean-stands : Stands l s c q
     boolean-stands = leveled-stands booleanClass l s c (boolean-is _ (sym u ∙ i))
 
     pub boolean-level : 1 ≤ l
     boolean-level = omega (arith, boolean-stands .some)
 
-    pub boolean-falls : {t : ℕ} → l ≡ t → l - 1 < t
+    pub boolean-falls : {t : ℕ} → l * 8 ≡ t → (l - 1) * 8 < t
     boolean-falls e = omega (arith, e, boolean-stands .some)
+
+    pub quantifier-falls : {t : ℕ} → l * 8 ≡ t → (l - 1) * 8 + 6 < t
+    quantifier-falls e = omega (arith, e, boolean-stands .some)
 
     pub boolean-place : q .at ≡ c .at + 1
     boolean-place = boolean-stands .place
@@ -219,14 +224,14 @@ module _ (l : ℕ) (s : List ℕ) (c : Cursor) {q : Cursor} where
 -- a clause that was read was due
 module _ (n : ℕ) (b t : Bool) (s : List ℕ) (c : Cursor) {h : ClauseHead} {k : ClauseCode} {q : Cursor}
     (u : h ≡ clauseHead (clauseCoded n b t s c)) (i : h ≡ ClauseHead.Is k q) where
-  pub clause-stood : Stands n c q × (clauseDue k b t ≡ true)
+  pub clause-stood : Stands n s c q × (clauseDue k b t ≡ true)
   unfolding clauseCoded
   clause-stood = needed (ltb 0 n) _ _ _ _ _ (clause-is (clauseCoded n b t s c) (sym u ∙ i)) (λ z w.
       undo (coded clauseClass s c) _ w (λ a q₁ e w₁. needed (clauseDue a b t) _ _ _ _ _ w₁ (λ d v.
-      same v (λ k q. Stands n c q × (clauseDue k b t ≡ true)) (byte-stands z (byte-went s c (coded-read s c clauseClass e .1)), d))))
+      same v (λ k q. Stands n s c q × (clauseDue k b t ≡ true)) (byte-stands z (byte-went s c (coded-read s c clauseClass e .1)), d))))
 
   pub clause-left : 1 ≤ n
   clause-left = omega (arith, clause-stood .0 .some)
 
-  pub clause-falls : {t : ℕ} → n ≡ t → n - 1 < t
-  clause-falls e = omega (arith, e, clause-stood .0 .some)
+  pub clause-falls : (l : ℕ) {t : ℕ} → l * 8 + (1 + n) ≡ t → l * 8 + (1 + (n - 1)) < t
+  clause-falls l e = omega (arith, e, clause-stood .0 .some)

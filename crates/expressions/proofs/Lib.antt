@@ -3,3 +3,5 @@ pub mod Codes
 pub mod ValueLaws
 pub mod BooleanLaws
 pub mod ClauseLaws
+pub mod ReadyLaws
+pub mod QuantifierLaws

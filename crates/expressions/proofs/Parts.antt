@@ -1,10 +1,11 @@
 -- Parts one after another: the rows of each stand after those of the parts before it.
 use Prim.Native.Nat.{ℕ, _+_, _*_}
-use mathlib.Core.Path.{_≡_, refl, ap, _∙_}
+use mathlib.Core.Path.{_≡_, refl, sym, ap, ap₂, _∙_}
 use mathlib.Core.Bool.{Bool, true, false}
 use mathlib.Core.List.{List, [], _++_}
 use native.Mathlib.Omega.{arith}
 use lib.ListN.{length, getD, length-append}
+use lib.Seq.{sets}
 use mir.Syntax.{w8}
 use mir.Val.{Fits}
 use Rattle.wire.specs.Limits.{contextRowNumbers}
@@ -18,6 +19,7 @@ use Rattle.grammar.specs.Internal.Steps.{stepOf}
 use Rattle.grammar.specs.Demands.{Octets}
 use Rattle.grammar.proofs.Went.{Went, Passed}
 use Rattle.tables.specs.Tables.{Tables, contextsAlone, laid, Wrote}
+use Rattle.tables.proofs.Stores.{sets-append}
 use Rattle.tables.proofs.Laid.{Follows, laid-laid}
 use Rattle.tables.proofs.Chains.{by-read, stop, Counts, on-next, stopped}
 
@@ -62,6 +64,11 @@ reached-on {c} {q} {q₁} {a} {b} {t} i j = record {
     conditions = omega (arith, i .follows .conditions, j .follows .conditions);
   };
 }
+
+-- rows after rows of one table
+pub rows-after : (own rest l : List ℕ) (i : ℕ) {l₁ l₂ : List ℕ} {j : ℕ} → l₁ ≡ sets l i own → j ≡ i + length own → l₂ ≡ sets l₁ j rest →
+    l₂ ≡ sets l i (own ++ rest)
+rows-after own rest l i e h k = k ∙ ap₂ (λ z n. sets z n rest) e h ∙ sym (sets-append own rest l i)
 
 -- ---- parts
 

@@ -1,14 +1,17 @@
 -- What the readers of values, booleans and clauses promise, in the definitions' terms.
-use Prim.Native.Nat.{ℕ, _+_}
+use Prim.Native.Nat.{ℕ, _+_, _<_, _≤_}
 use mathlib.Core.Path.{_≡_}
 use mathlib.Core.Bool.{Bool, true, false, not as negation}
 use mathlib.Core.List.{List, _++_, map}
 use mathlib.Core.Option.{Option, none, some}
 use lib.Dec.{eqb, ltb}
+use lib.ListN.{length}
+use Rattle.wire.specs.Limits.{maxRequestBytes, maxDepth, maxContexts}
 use Rattle.wire.specs.Classes.{Class, clauseClass}
 use Rattle.wire.specs.declared.codes.ValueCode.{ValueCode}
 use Rattle.wire.specs.declared.codes.BooleanCode.{BooleanCode}
-use Rattle.wire.specs.declared.codes.BooleanCode.the-variants.{Compare, Search, Between, Connect, Not, Missing}
+use Rattle.wire.specs.declared.codes.BooleanCode.the-variants.{Compare, Search, Between, Connect, Not, Missing, Quantify}
+use Rattle.wire.specs.declared.codes.Quantifier.{Quantifier}
 use Rattle.wire.specs.declared.codes.ClauseCode.{ClauseCode}
 use Rattle.wire.specs.declared.codes.ClauseCode.the-variants as Clause
 use Rattle.grammar.specs.Kind.{Kind}
@@ -26,10 +29,13 @@ use Rattle.grammar.specs.Rows.{valueRows, booleanRows, keysRows, clausesRows}
 use Rattle.grammar.specs.Conditions.{clausesConditions}
 use Rattle.grammar.specs.Reader.{Read, read, refused, Reader, _>>=_, _>>_, return, need, place, coded}
 use Rattle.grammar.specs.Rses.{keys, sort, clauses}
-use Rattle.grammar.specs.Values.{Operands, operands, readValue, booleanUnder, readBoolean}
+use Rattle.grammar.specs.Values.{Operands, operands, readValue, quantifierUnder, booleanUnder, readBoolean}
 use Rattle.grammar.specs.Internal.Steps.{fitOf, noKind}
 use Rattle.tables.specs.Tables.{Tables, contextsAlone, Wrote}
 use Rattle.tables.specs.Written.{listed}
+use Rattle.scopes.specs.Internal.Columns.{scopeNumbers}
+use Rattle.scopes.specs.Scopes.{contextsHeld, sendsHeld, labelsHeld}
+use Rattle.openings.specs.Streams.{Proper}
 use Rattle.expressions.specs.declared.heads.ValueHead.{ValueHead}
 use Rattle.expressions.specs.declared.heads.ValueHead.the-variants as ValueHead
 use Rattle.expressions.specs.declared.heads.BooleanHead.{BooleanHead}
@@ -93,6 +99,19 @@ testsValues Between = true
 testsValues (Connect o) = false
 testsValues Not = false
 testsValues Missing = true
+testsValues (Quantify q) = false
+
+-- what a reader that may open contexts is given: a request within 01's sizes, a dictionary that was checked, a place in the request, and a
+-- scope that fits, with so many levels left
+pub record Ready (s d sc : List ℕ) (c : Cursor) (levels : ℕ) : Type 0 where
+  pub short : length s ≤ maxRequestBytes
+  pub is-proper : Proper d
+  pub inside : c .at ≤ length s
+  pub contexts-few : c .contexts ≤ maxContexts
+  pub scope-whole : length sc ≡ scopeNumbers
+  pub scope-fits : contextsHeld sc ≤ c .contexts
+  pub sends-fit : sendsHeld sc + levels < maxDepth
+  pub labels-fit : labelsHeld sc + levels < maxDepth
 
 -- ---- what is read, with l levels left for it: the reading of the definitions, and in the table of contexts the rows of those
 -- ---- declared in it
@@ -122,6 +141,11 @@ operandsAt l e = operands (λ x. readBoolean l e x) (λ x. readValue l e x)
 abbrev pub TestRead : ℕ → Environment → Scope → ℕ → BooleanCode → List ℕ → Cursor → List ℕ → List ℕ → Step → Type 0
 TestRead l e sc p k s c ct ct′ r =
     Wrote (booleanUnder (operandsAt l e) e sc p k s c) noKind c (booleanTables e sc p) (contextsAlone ct) (contextsAlone ct′) r
+
+-- an any or a unique after its code at p
+abbrev pub QuantifierRead : ℕ → Environment → Scope → ℕ → Quantifier → List ℕ → Cursor → List ℕ → List ℕ → Step → Type 0
+QuantifierRead l e sc p q s c ct ct′ r =
+    Wrote (quantifierUnder (operandsAt l e) e sc q s c) noKind c (booleanTables e sc p) (contextsAlone ct) (contextsAlone ct′) r
 
 abbrev pub keysTables : Environment → Scope → ℕ → Keys → Tables
 keysTables e sc p ks = contextsAlone (keysRows (e .relations) sc ks p)

@@ -4,7 +4,9 @@ ghost use mathlib.Core.Bool.{true};
 ghost use Prim.Native.Nat.{_+_};
 ghost use Rattle.references.specs.Promises.{environmentOf};
 ghost use Rattle.scopes.specs.Scopes.{scopeOf};
-ghost use Rattle.expressions.specs.Promises.{testsValues, TestRead, BooleanRead};
+ghost use Rattle.grammar.specs.Bytes.{quantifierCode};
+ghost use Rattle.expressions.specs.Promises.{Ready, testsValues, TestRead, QuantifierRead, BooleanRead};
+use crate::clauses::read_clauses;
 use crate::fits::tested;
 use crate::heads::BooleanHead;
 use crate::heads::boolean_at;
@@ -13,11 +15,16 @@ use grammar::Cursor;
 use grammar::Fit;
 use grammar::Step;
 use messages::declared::AROUND;
+use openings::opening::read_head;
 use scopes::kinds::all_one_kind;
 use scopes::kinds::both_text;
 use scopes::kinds::one_kind;
 use scopes::scope::SCOPE;
+use tables::contexts::close;
+use wire::blr::ANY;
+use wire::blr::UNIQUE;
 use wire::codes::BooleanCode;
+use wire::codes::Quantifier;
 
 // The values of a boolean that tests values, whose code stands at a place: one, two or three, each with so many levels left.
 fn read_test(
@@ -60,6 +67,60 @@ fn read_test(
     }
 }
 
+fn quantifier_code(q: Quantifier) -> u8
+    ensures { λ r. ⌜ r ≡ quantifierCode q ⌝ }
+{
+    match q {
+        Quantifier::Any => ANY,
+        Quantifier::Unique => UNIQUE,
+    }
+}
+
+// An any or a unique after its code at a place: an rse of one stream, whose context is in scope inside it.
+fn read_quantifier(
+    request: &[u8],
+    dictionary: &[u8],
+    around: &[u32; AROUND],
+    scope: &[u16; SCOPE],
+    contexts: &mut [u32],
+    q: Quantifier,
+    at: usize,
+    c: Cursor,
+    levels: usize,
+) -> Step
+    requires { ⌜ c .at ≡ at + 1 ⌝ }
+    ensures { λ r. ⌜ (Ready (now (request .entry)) (now (dictionary .entry)) (now (scope .entry)) c (levels + 1) →
+        QuantifierRead levels (environmentOf (now (dictionary .entry)) (now (around .entry)))
+        (scopeOf (now (dictionary .entry)) (now (scope .entry))) at q (now (request .entry)) c
+        (now (contexts .entry)) (now (contexts .exit)) r) ⌝ }
+{
+    let mut inside = *scope;
+    let head = read_head(
+        request,
+        dictionary,
+        contexts,
+        &mut inside,
+        1,
+        quantifier_code(q),
+        c,
+    );
+    let Step::Next(_, first) = head else {
+        return head;
+    };
+    let cs = read_clauses(
+        request,
+        dictionary,
+        around,
+        &inside,
+        contexts,
+        first,
+        levels,
+    );
+    let clauses = cs.step;
+    close(contexts, c.contexts as usize, first, clauses);
+    clauses
+}
+
 // A boolean, with so many levels left for it.
 pub fn read_boolean(
     request: &[u8],
@@ -70,9 +131,10 @@ pub fn read_boolean(
     c: Cursor,
     levels: usize,
 ) -> Step
-    ensures { λ r. ⌜ BooleanRead levels (environmentOf (now (dictionary .entry)) (now (around .entry)))
+    ensures { λ r. ⌜ (Ready (now (request .entry)) (now (dictionary .entry)) (now (scope .entry)) c levels →
+        BooleanRead levels (environmentOf (now (dictionary .entry)) (now (around .entry)))
         (scopeOf (now (dictionary .entry)) (now (scope .entry))) (now (request .entry)) c
-        (now (contexts .entry)) (now (contexts .exit)) r ⌝ }
+        (now (contexts .entry)) (now (contexts .exit)) r) ⌝ }
 {
     match boolean_at(request, c, levels) {
         BooleanHead::Is(k, first) => match k {
@@ -95,6 +157,17 @@ pub fn read_boolean(
                     levels - 1,
                 )
             }
+            BooleanCode::Quantify(q) => read_quantifier(
+                request,
+                dictionary,
+                around,
+                scope,
+                contexts,
+                q,
+                c.at,
+                first,
+                levels - 1,
+            ),
             _ => read_test(
                 request,
                 dictionary,

@@ -4,7 +4,7 @@ ghost use Rattle.grammar.specs.declared.Fit.the-variants.{NoKind};
 ghost use Rattle.grammar.specs.declared.Step.the-variants.{Next};
 ghost use Rattle.references.specs.Promises.{environmentOf};
 ghost use Rattle.scopes.specs.Scopes.{scopeOf};
-ghost use Rattle.expressions.specs.Promises.{KeysRead, SortRead, MoreRead, ClausesRead};
+ghost use Rattle.expressions.specs.Promises.{Ready, KeysRead, SortRead, MoreRead, ClausesRead};
 use crate::booleans::read_boolean;
 use crate::heads::ClauseHead;
 use crate::heads::clause_at;
@@ -133,9 +133,10 @@ fn read_more(
     levels: usize,
     stood: Stood,
 ) -> Clauses
-    ensures { λ r. ⌜ MoreRead stood levels (environmentOf (now (dictionary .entry)) (now (around .entry)))
+    ensures { λ r. ⌜ (Ready (now (request .entry)) (now (dictionary .entry)) (now (scope .entry)) c levels →
+        MoreRead stood levels (environmentOf (now (dictionary .entry)) (now (around .entry)))
         (scopeOf (now (dictionary .entry)) (now (scope .entry))) (now (request .entry)) c
-        (now (contexts .entry)) (now (contexts .exit)) r ⌝ }
+        (now (contexts .entry)) (now (contexts .exit)) r) ⌝ }
 {
     match clause_at(request, c, stood.most, stood.such != 0, stood.sorted) {
         ClauseHead::Is(k, first) => match k {
@@ -193,9 +194,10 @@ pub fn read_clauses(
     c: Cursor,
     levels: usize,
 ) -> Clauses
-    ensures { λ r. ⌜ ClausesRead levels (environmentOf (now (dictionary .entry)) (now (around .entry)))
+    ensures { λ r. ⌜ (Ready (now (request .entry)) (now (dictionary .entry)) (now (scope .entry)) c levels →
+        ClausesRead levels (environmentOf (now (dictionary .entry)) (now (around .entry)))
         (scopeOf (now (dictionary .entry)) (now (scope .entry))) (now (request .entry)) c
-        (now (contexts .entry)) (now (contexts .exit)) r ⌝ }
+        (now (contexts .entry)) (now (contexts .exit)) r) ⌝ }
 {
     let nothing = Stood {
         most: MOST_CLAUSES,

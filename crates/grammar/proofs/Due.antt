@@ -16,10 +16,12 @@ use Rattle.wire.specs.declared.codes.TextSearch.{TextSearch}
 use Rattle.wire.specs.declared.codes.TextSearch.the-variants.{Containing, Matching, Starting}
 use Rattle.wire.specs.declared.codes.Connective.{Connective}
 use Rattle.wire.specs.declared.codes.Connective.the-variants.{Or, And}
-use Rattle.wire.specs.declared.codes.BooleanCode.the-variants.{Compare, Search, Connect}
+use Rattle.wire.specs.declared.codes.BooleanCode.the-variants.{Compare, Search, Connect, Quantify}
+use Rattle.wire.specs.declared.codes.Quantifier.{Quantifier}
+use Rattle.wire.specs.declared.codes.Quantifier.the-variants.{Any, Unique}
 use Rattle.wire.specs.declared.codes.Direction.{Direction}
 use Rattle.wire.specs.declared.codes.Direction.the-variants.{Ascending, Descending}
-use Rattle.grammar.specs.Bytes.{widthCode, textCode, operatorCode, comparisonCode, searchCode, connectiveCode, directionCode}
+use Rattle.grammar.specs.Bytes.{widthCode, textCode, operatorCode, comparisonCode, searchCode, connectiveCode, quantifierCode, directionCode}
 
 pub width-due : (w : Width) → descriptorClass (widthCode w) ≡ due (Number w)
 unfolding descriptorClass classify
@@ -65,6 +67,11 @@ pub connective-due : (c : Connective) → booleanClass (connectiveCode c) ≡ du
 unfolding booleanClass classify
 connective-due Or = refl
 connective-due And = refl
+
+pub quantifier-due : (q : Quantifier) → booleanClass (quantifierCode q) ≡ due (Quantify q)
+unfolding booleanClass classify
+quantifier-due Any = refl
+quantifier-due Unique = refl
 
 pub direction-due : (d : Direction) → directionClass (directionCode d) ≡ due d
 unfolding directionClass classify

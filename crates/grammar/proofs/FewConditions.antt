@@ -4,6 +4,7 @@ use mathlib.Core.Path.{_≡_, refl}
 use mathlib.Core.List.{List}
 use native.Mathlib.Omega.{arith}
 use lib.ListN.{length, length-append}
+use Rattle.wire.specs.Codes as blr
 use Rattle.dictionary.specs.Dictionary.{Relation}
 use Rattle.grammar.specs.Tree.{Clauses, noClauses, such, sorted, Rse, rse, Statement, assignment, begin, erase, for, headed, leave, if, ifElse, select, Statements, none as nothing, _then_, Receives, last, more, Request}
 use Rattle.grammar.specs.Bytes.{keysBytes, headBytes, rseBytes, headingBytes, booleanBytes, statementBytes}
@@ -23,7 +24,7 @@ clauses-count sc (sorted ks cs) p = clauses-count sc cs (p + 2 + length (keysByt
 -- how many conditions there are
 pub rse-count : (d : List Relation) (sc : Scope) (r : Rse) (p : ℕ) → length (rseConditions d sc r p) ≡ rseBooleans r
 unfolding rseConditions rseBooleans
-rse-count d sc (rse ss cs) p = clauses-count (underStreams d sc ss) cs (p + length (headBytes ss))
+rse-count d sc (rse ss cs) p = clauses-count (underStreams d blr.for sc ss) cs (p + length (headBytes ss))
 
 module _ (d : List Relation) where
   mutual
@@ -60,10 +61,10 @@ module _ (d : List Relation) where
         let j = receives-conditions-count sc rs (p + 2 + length (statementBytes t)) in
         rw (length-append (conditions d sc t (p + 2))) (omega arith)
 
-rse-few : (e : Environment) (sc : Scope) (r : Rse) (p : ℕ) → RseAllowed e sc r → length (rseConditions (e .relations) sc r p) ≤ 1
+rse-few : (e : Environment) (sc : Scope) (r : Rse) (p : ℕ) → RseAllowed e blr.for sc r → length (rseConditions (e .relations) sc r p) ≤ 1
 unfolding rseConditions
 rse-few e sc (rse ss cs) p a =
-    let n = clauses-count (underStreams (e .relations) sc ss) cs (p + length (headBytes ss)) in omega (arith, n, a .2 .0)
+    let n = clauses-count (underStreams (e .relations) blr.for sc ss) cs (p + length (headBytes ss)) in omega (arith, n, a .2 .0)
 
 module _ (e : Environment) where
   mutual

@@ -5,6 +5,7 @@ use mathlib.Core.Bool.{Bool, true, false, not as negation}
 use mathlib.Core.List.{List, [], _∷_, _++_}
 use native.Mathlib.Nat.{zero-add}
 use native.Mathlib.Omega.{arith}
+use lib.Dec.{leb}
 use lib.ListN.{length, drop}
 use borrow.Author.Tests.{not-true}
 use Rattle.wire.specs.Codes as blr
@@ -25,7 +26,7 @@ use Rattle.grammar.specs.Sizes.{valueDepth, booleanDepth, keysDepth, cla
 use Rattle.grammar.specs.Rules.{ValueAllowed, BooleanAllowed, KeysAllowed, ClausesAllowed, RseAllowed}
 use Rattle.grammar.specs.Reader.{read, Reader, byte, tested, code, coded, opened}
 use Rattle.grammar.specs.Values.{contextByte}
-use Rattle.grammar.specs.Rses.{naming, stream, streams, countByte, rseHead, keys, sort, clausesUnder, clauses}
+use Rattle.grammar.specs.Rses.{naming, stream, streams, countByte, streamCount, rseHead, keys, sort, clausesUnder, clauses}
 use Rattle.grammar.specs.Statements.{exchanged, modifyHeading, receiveHeading, sendHeading, storeHeading, labelHeading}
 use Rattle.grammar.specs.Demands.{Octets}
 use Rattle.grammar.proofs.Went.{Went, Passed, never, undo, same, needed, tested-read, stayed, onward, went-as, coded-onward, byte-went, code-went, opened-went}
@@ -62,16 +63,17 @@ pub record StreamSound (d : List Relation) (sc : Scope) (s : List ℕ) (c : Curs
   pub scoped : StreamScoped d sc r
   pub few : c′ .contexts ≤ 32
 
-pub record StreamsSound (n : ℕ) (d : List Relation) (sc : Scope) (s : List ℕ) (c : Cursor) (ss : List Stream) (c′ : Cursor) : Type 0 where
+pub record StreamsSound (n : ℕ) (d : List Relation) (opener : ℕ) (sc : Scope) (s : List ℕ) (c : Cursor) (ss : List Stream) (c′ : Cursor) : Type 0 where
   pub went : Went s c (streamsBytes ss) 0 (length ss) 0 c′
   pub many : length ss ≡ n
-  pub scoped : Grown d sc ss
+  pub scoped : Grown d opener sc ss
   pub few : c .contexts ≤ 32 → c′ .contexts ≤ 32
 
--- an rse up to its last stream
-pub record HeadSound (d : List Relation) (sc : Scope) (s : List ℕ) (c : Cursor) (ss : List Stream) (c′ : Cursor) : Type 0 where
+-- an rse up to its last stream, so many at most
+pub record HeadSound (most : ℕ) (d : List Relation) (sc : Scope) (s : List ℕ) (c : Cursor) (ss : List Stream) (c′ : Cursor) : Type 0 where
   pub went : Went s c (headBytes ss) 0 (length ss) 0 c′
   pub ranged : StreamsInRange ss
+  pub few-streams : leb (length ss) most ≡ true
   pub scoped : StreamsScoped d sc ss
   pub few : c .contexts ≤ 32 → c′ .contexts ≤ 32
 
@@ -90,6 +92,14 @@ pub count-went : (s : List ℕ) (c : Cursor) {x : ℕ} {c′ : Cursor} → count
 unfolding countByte
 count-went s c e = let t = tested-read s c byte countInRange _ e in (byte-went s c (t .0), t .1)
 
+pub stream-count-went : (most : ℕ) (s : List ℕ) (c : Cursor) {x : ℕ} {c′ : Cursor} → streamCount most s c ≡ read x c′ →
+    Passed s c (x ∷ []) c′ × ((countInRange x ≡ true) × (leb x most ≡ true))
+unfolding streamCount
+stream-count-went most s c e =
+    let t = tested-read s c countByte (λ n. leb n most) _ e in
+    let u = count-went s c (t .0) in
+    (u .0, (u .1, t .1))
+
 module _ (s : List ℕ) (octets : Octets s) (d : List Relation) where
   pub stream-sound : (sc : Scope) (c : Cursor) (r : Stream) (c′ : Cursor) → stream d sc s c ≡ read r c′ → StreamSound d sc s c r c′
   unfolding stream streamBytes
@@ -106,36 +116,38 @@ module _ (s : List ℕ) (octets : Octets s) (d : List Relation) where
         few = omega (arith, o .1, i .0 .declared, f .0 .declared);
       })))))
 
-  pub streams-sound : (n : ℕ) (sc : Scope) (c : Cursor) (ss : List Stream) (c′ : Cursor) → streams n d sc s c ≡ read ss c′ →
-      StreamsSound n d sc s c ss c′
+  pub streams-sound : (n opener : ℕ) (sc : Scope) (c : Cursor) (ss : List Stream) (c′ : Cursor) → streams n d opener sc s c ≡ read ss c′ →
+      StreamsSound n d opener sc s c ss c′
   unfolding streams streamsBytes
-  streams-sound zero sc c ss c′ h = same h (λ ss c′. StreamsSound zero d sc s c ss c′) (record {
+  streams-sound zero opener sc c ss c′ h = same h (λ ss c′. StreamsSound zero d opener sc s c ss c′) (record {
     went = stayed s c;
     many = refl;
     scoped = tt;
     few = λ f. f;
   })
-  streams-sound (suc n) sc c ss c′ h = undo (stream d sc s c) _ h (λ r q e v.
-      undo (streams n d (underStreams d sc (r ∷ [])) s q) _ v (λ rs q₁ e₁ v₁.
+  streams-sound (suc n) opener sc c ss c′ h = undo (stream d sc s c) _ h (λ r q e v.
+      undo (streams n d opener (underStreams d opener sc (r ∷ [])) s q) _ v (λ rs q₁ e₁ v₁.
       let i = stream-sound sc c r q e in
-      let j = streams-sound n (underStreams d sc (r ∷ [])) q rs q₁ e₁ in
-      same v₁ (λ ss c′. StreamsSound (suc n) d sc s c ss c′) (record {
+      let j = streams-sound n opener (underStreams d opener sc (r ∷ [])) q rs q₁ e₁ in
+      same v₁ (λ ss c′. StreamsSound (suc n) d opener sc s c ss c′) (record {
         went = went-as (onward (i .went) (j .went)) refl (omega arith) refl;
         many = ap suc (j .many);
         scoped = (i .scoped, j .scoped);
         few = λ f. j .few (i .few);
       })))
 
-  pub head-sound : (sc : Scope) (c : Cursor) (ss : List Stream) (c′ : Cursor) → rseHead d sc s c ≡ read ss c′ → HeadSound d sc s c ss c′
+  pub head-sound : (most opener : ℕ) (sc : Scope) (c : Cursor) (ss : List Stream) (c′ : Cursor) → rseHead most d opener sc s c ≡ read ss c′ →
+      HeadSound most d sc s c ss c′
   unfolding rseHead headBytes
-  head-sound sc c ss c′ h = undo (code blr.rse NotDue s c) _ h (λ x q e v. undo (countByte s q) _ v (λ n q₁ e₁ v₁.
-      let j = streams-sound n sc q₁ ss c′ v₁ in
-      let t = rw (sym (j .many)) at (count-went s q e₁) in
+  head-sound most opener sc c ss c′ h = undo (code blr.rse NotDue s c) _ h (λ x q e v. undo (streamCount most s q) _ v (λ n q₁ e₁ v₁.
+      let j = streams-sound n opener sc q₁ ss c′ v₁ in
+      let t = rw (sym (j .many)) at (stream-count-went most s q e₁) in
       let g = onward (code-went blr.rse NotDue s c e) (t .0) in
       record {
         went = went-as (onward g (j .went)) refl (omega arith) refl;
-        ranged = t .1;
-        scoped = grown-scoped d sc ss (j .scoped);
+        ranged = t .1 .0;
+        few-streams = t .1 .1;
+        scoped = grown-scoped d opener sc ss (j .scoped);
         few = λ f. j .few (omega (arith, g .declared));
       }))
 
@@ -272,19 +284,19 @@ module _ (l : ℕ) (e : Environment) (sc : Scope) (s : List ℕ) where
 
 -- ---- a whole rse
 
-pub record RseSound (l : ℕ) (e : Environment) (sc : Scope) (s : List ℕ) (c : Cursor) (r : Rse) (c′ : Cursor) : Type 0 where
+pub record RseSound (l : ℕ) (e : Environment) (opener : ℕ) (sc : Scope) (s : List ℕ) (c : Cursor) (r : Rse) (c′ : Cursor) : Type 0 where
   pub went : Went s c (rseBytes r) 0 (rseContexts r) 0 c′
   pub depth : rseDepth r ≤ l
-  pub allowed : RseAllowed e sc r
+  pub allowed : RseAllowed e opener sc r
   pub few : c .contexts ≤ 32 → c′ .contexts ≤ 32
 
 -- its head, and its clauses under the contexts of its streams
-pub rse-sound : (l : ℕ) (e : Environment) (sc : Scope) (s : List ℕ) (c : Cursor) (ss : List Stream) (q : Cursor)
+pub rse-sound : (l : ℕ) {most : ℕ} (e : Environment) (opener : ℕ) (sc : Scope) (s : List ℕ) (c : Cursor) (ss : List Stream) (q : Cursor)
     (cs : Clauses) (c′ : Cursor) →
-    HeadSound (e .relations) sc s c ss q → ClausesSound l e (underStreams (e .relations) sc ss) s false false q cs c′ →
-    RseSound l e sc s c (rse ss cs) c′
+    HeadSound most (e .relations) sc s c ss q → ClausesSound l e (underStreams (e .relations) opener sc ss) s false false q cs c′ →
+    RseSound l e opener sc s c (rse ss cs) c′
 unfolding rseBytes rseContexts rseDepth
-rse-sound l e sc s c ss q cs c′ i j = record {
+rse-sound l e opener sc s c ss q cs c′ i j = record {
   went = onward (i .went) (j .went);
   depth = j .depth;
   allowed = (i .ranged, i .scoped, (j .booleans, j .sorts), j .allowed);

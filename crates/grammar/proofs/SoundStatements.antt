@@ -9,6 +9,7 @@ use lib.Dec.{eqb}
 use lib.ListN.{length, drop, length-append}
 use borrow.Author.Tests.{not-true}
 use Rattle.wire.specs.Codes as blr
+use Rattle.wire.specs.Limits.{maxStreams}
 use Rattle.wire.specs.Lists.{among}
 use Rattle.wire.specs.declared.codes.StatementCode.{StatementCode}
 use Rattle.wire.specs.declared.codes.StatementCode.the-variants.{Assignment, Begin, Erase, For, Loop, Modify, Handler, Receive, Send, Store, Label, Leave, If, Select}
@@ -162,11 +163,11 @@ module _ (s : List ℕ) (octets : Octets s) (e : Environment) (sc : Scope) (p : 
 
       pub for-sound : (t : Statement) (c′ : Cursor) → forUnder below e sc s c ≡ read t c′ → StatementUnderSound l e sc For p s c t c′
       unfolding forUnder underRse statementBytes statementCount contextCount conditions rseConditions statementDepth
-      for-sound t c′ h = undo (rseHead (e .relations) sc s c) _ h (λ ss q e₁ w.
-          let sc₁ = underStreams (e .relations) sc ss in
+      for-sound t c′ h = undo (rseHead maxStreams (e .relations) blr.for sc s c) _ h (λ ss q e₁ w.
+          let sc₁ = underStreams (e .relations) blr.for sc ss in
           undo (clauses 3 (below .boolean sc₁) (below .value sc₁) false false s q) _ w (λ cs q₁ e₂ w₁.
           undo (noted (booleansCount cs) s q₁) _ w₁ (λ u q₂ e₃ w₂. undo (below .statement sc₁ s q₂) _ w₂ (λ a q₃ e₄ w₃.
-          let i = rse-sound l e sc s c ss q cs q₁ (head-sound s octets (e .relations) sc c ss q e₁)
+          let i = rse-sound l e blr.for sc s c ss q cs q₁ (head-sound s octets (e .relations) maxStreams blr.for sc c ss q e₁)
           (clauses-sound l e sc₁ s (below .boolean sc₁) (below .value sc₁) (sound .boolean sc₁) (sound .value sc₁)
           3 false false q cs q₁ e₂) in
           let g = noted-went (booleansCount cs) s q₁ e₃ in

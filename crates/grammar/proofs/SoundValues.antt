@@ -1,31 +1,35 @@
 -- Values and booleans that were read: their bytes are those of the grammar, and the rules allow them.
 use Prim.Native.Nat.{ℕ, zero, suc, _+_, _≤_, max}
 use mathlib.Core.Path.{_≡_, refl}
-use mathlib.Core.Bool.{Bool, true}
+use mathlib.Core.Bool.{Bool, true, false}
 use mathlib.Core.List.{List, _∷_, _++_}
 use native.Mathlib.Omega.{arith}
-use lib.ListN.{drop}
+use lib.Dec.{leb}
+use lib.ListN.{length, drop}
+use borrow.Author.Tests.{leb-true}
 use Rattle.wire.specs.Lists.{isSome}
 use Rattle.wire.specs.declared.codes.ValueCode.{ValueCode}
 use Rattle.wire.specs.declared.codes.ValueCode.the-variants as Code
+use Rattle.wire.specs.declared.codes.Quantifier.{Quantifier}
 use Rattle.wire.specs.declared.codes.BooleanCode.{BooleanCode}
-use Rattle.wire.specs.declared.codes.BooleanCode.the-variants.{Compare, Search, Between, Connect, Not, Missing}
+use Rattle.wire.specs.declared.codes.BooleanCode.the-variants.{Compare, Search, Between, Connect, Not, Missing, Quantify}
 use Rattle.grammar.specs.declared.Cursor.{Cursor}
 use Rattle.grammar.specs.declared.Role.the-variants.{AsValue}
 use Rattle.grammar.specs.declared.Refusal.the-variants.{Unfit}
-use Rattle.grammar.specs.Tree.{Literal, Reference, Value, arithmetic, negate, Boolean, compare, search}
-use Rattle.grammar.specs.Bytes.{valueBytes, booleanBytes}
-use Rattle.grammar.specs.Environment.{Environment, Scope}
+use Rattle.grammar.specs.Tree.{Stream, Literal, Reference, Value, arithmetic, negate, Boolean, compare, search}
+use Rattle.grammar.specs.Bytes.{quantifierCode, valueBytes, booleanBytes}
+use Rattle.grammar.specs.Environment.{Environment, Scope, underStreams}
 use Rattle.grammar.specs.Kinds.{kindOf, oneKind, bothText, allOneKind}
-use Rattle.grammar.specs.Sizes.{valueDepth, booleanDepth, valueContexts, booleanContexts}
+use Rattle.grammar.specs.Sizes.{valueDepth, booleanDepth, valueContexts, booleanContexts, countInRange, StreamsInRange}
 use Rattle.grammar.specs.Rules.{ValueAllowed, BooleanAllowed}
 use Rattle.grammar.specs.Reader.{read, onRead, need, coded}
-use Rattle.grammar.specs.Values.{readLiteral, readReference, Operands, operands, valueUnder, readValue, booleanUnder, readBoolean}
+use Rattle.grammar.specs.Rses.{rseHead, clauses}
+use Rattle.grammar.specs.Values.{readLiteral, readReference, Operands, operands, valueUnder, readValue, quantifierUnder, booleanUnder, readBoolean}
 use Rattle.grammar.specs.Demands.{Octets}
-use Rattle.grammar.proofs.Went.{Went, never, undo, same, needed, onward, coded-onward}
+use Rattle.grammar.proofs.Went.{Went, never, undo, same, needed, both, onward, coded-onward}
 use Rattle.grammar.proofs.Codes.{valueCode, booleanCode, value-due, boolean-due, coded-went}
 use Rattle.grammar.proofs.SoundReferences.{literal-sound, reference-sound}
-use Rattle.grammar.proofs.SoundRses.{ReadsValues, ReadsBooleans}
+use Rattle.grammar.proofs.SoundRses.{ReadsValues, ReadsBooleans, head-sound, clauses-sound, rse-sound}
 
 -- readers of booleans and values, one level down, that are sound
 pub record OperandsSound (l : ℕ) (e : Environment) (s : List ℕ) (below : Operands) : Type 0 where
@@ -48,6 +52,15 @@ pub record BooleanUnderSound (l : ℕ) (e : Environment) (sc : Scope) (k : Boole
   pub depth : booleanDepth b ≤ suc l
   pub allowed : BooleanAllowed e sc b
   pub few : c .contexts ≤ 32 → c′ .contexts ≤ 32
+
+-- of 1 to 8 streams and 1 at most there is one
+one-stream : (ss : List Stream) → StreamsInRange ss → leb (length ss) 1 ≡ true → length ss ≡ 1
+unfolding countInRange
+one-stream ss t u =
+    let v = both (leb 1 (length ss)) (leb (length ss) 8) t in
+    let low : 1 ≤ length ss = leb-true 1 (length ss) (v .0) in
+    let high : length ss ≤ 1 = leb-true (length ss) 1 u in
+    omega arith
 
 module _ (s : List ℕ) (octets : Octets s) (e : Environment) (below : Operands) (l : ℕ) (sound : OperandsSound l e s below) where
   module _ (sc : Scope) (p : ℕ) where
@@ -119,6 +132,24 @@ module _ (s : List ℕ) (octets : Octets s) (e : Environment) (below : Operands)
           few = λ f. j .few (i .few f);
         }))))
 
+    quantifier-sound : (k : Quantifier) (c : Cursor) (b : Boolean) (c′ : Cursor) →
+        quantifierUnder below e sc k s c ≡ read b c′ → BooleanUnderSound l e sc (Quantify k) s c b c′
+    unfolding quantifierUnder booleanBytes booleanDepth booleanContexts
+    quantifier-sound k c b c′ h = undo (rseHead 1 (e .relations) (quantifierCode k) sc s c) _ h (λ ss q e₁ w.
+        let under = underStreams (e .relations) (quantifierCode k) sc ss in
+        undo (clauses 3 (below .boolean under) (below .value under) false false s q) _ w (λ cs q₁ e₂ w₁.
+        let i = head-sound s octets (e .relations) 1 (quantifierCode k) sc c ss q e₁ in
+        let j = clauses-sound l e under s (below .boolean under) (below .value under) (sound .boolean under) (sound .value under) 3 false
+        false q cs q₁ e₂ in
+        let r = rse-sound l e (quantifierCode k) sc s c ss q cs q₁ i j in
+        same w₁ (λ b c′. BooleanUnderSound l e sc (Quantify k) s c b c′) (record {
+          went = r .went;
+          starts = refl;
+          depth = omega (arith, r .depth);
+          allowed = (one-stream ss (i .ranged) (i .few-streams), r .allowed);
+          few = r .few;
+        })))
+
     pub boolean-under-sound : (k : BooleanCode) (c : Cursor) (b : Boolean) (c′ : Cursor) →
         booleanUnder below e sc p k s c ≡ read b c′ → BooleanUnderSound l e sc k s c b c′
     unfolding booleanUnder booleanBytes booleanDepth booleanContexts
@@ -168,6 +199,7 @@ module _ (s : List ℕ) (octets : Octets s) (e : Environment) (below : Operands)
           allowed = i .allowed;
           few = i .few;
         }))
+    boolean-under-sound (Quantify k) c b c′ h = quantifier-sound k c b c′ h
 
 -- ---- with the code, by the levels left
 

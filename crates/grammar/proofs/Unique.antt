@@ -6,7 +6,6 @@ use mathlib.Core.List.{List, [], _∷_, _++_, append-assoc, append-nil}
 use mathlib.Core.Option.{some, none}
 use lib.Dec.{eqb}
 use borrow.Author.Tests.{eqb-false, ne-eqb}
-use Rattle.wire.specs.Codes as blr
 use Rattle.wire.specs.Lists.{anyOf, among, find, isSome}
 use Rattle.dictionary.specs.Dictionary.{Relation}
 use Rattle.grammar.specs.Tree.{Message, Stream}
@@ -82,9 +81,9 @@ any-number n (m ∷ ms) = rw (any-number n ms)
 
 -- ---- streams, each in the scope with the contexts of those before it
 
-abbrev pub Grown : List Relation → Scope → List Stream → Type 0
-Grown d sc [] = Unit {0}
-Grown d sc (s ∷ ss) = StreamScoped d sc s × Grown d (underStreams d sc (s ∷ [])) ss
+abbrev pub Grown : List Relation → ℕ → Scope → List Stream → Type 0
+Grown d o sc [] = Unit {0}
+Grown d o sc (s ∷ ss) = StreamScoped d sc s × Grown d o (underStreams d o sc (s ∷ [])) ss
 
 found-last : {A : Type 0} (test : A → Bool) (l : List A) (x : A) → isSome (find test (l ++ (x ∷ []))) ≡ isSome (find test l) || test x
 unfolding find
@@ -101,37 +100,37 @@ found-last test (y ∷ l) x = by (test y) (found-last test l x)
     by false e = e
 
 -- a context is in scope below a stream if it is so around it or is the stream's
-in-below : (d : List Relation) (sc : Scope) (s : Stream) (k : ℕ) → inScope (underStreams d sc (s ∷ [])) k ≡ inScope sc k || eqb (s .context) k
+in-below : (d : List Relation) (o : ℕ) (sc : Scope) (s : Stream) (k : ℕ) → inScope (underStreams d o sc (s ∷ [])) k ≡ inScope sc k || eqb (s .context) k
 unfolding inScope contextOf underStreams
-in-below d sc s k = found-last (λ x. eqb (x .number) k) (sc .contexts) (streamContext d blr.for s)
+in-below d o sc s k = found-last (λ x. eqb (x .number) k) (sc .contexts) (streamContext d o s)
 
-module _ (d : List Relation) where
+module _ (d : List Relation) (o : ℕ) where
   together : (sc : Scope) (s : Stream) (ss : List Stream) → EachScoped d sc ss → among (s .context) (streamContexts ss) ≡ false →
-      EachScoped d (underStreams d sc (s ∷ [])) ss
+      EachScoped d (underStreams d o sc (s ∷ [])) ss
   unfolding among anyOf
   together sc s [] e a = tt
   together sc s (t ∷ ts) e a =
       let v = neither (eqb (t .context) (s .context)) (among (s .context) (streamContexts ts)) a in
       let free = both-false (inScope sc (t .context)) (eqb (s .context) (t .context)) (e .0 .1) (other (t .context) (s .context) (v .0)) in
-      ((e .0 .0, in-below d sc s (t .context) ∙ free), together sc s ts (e .1) (v .1))
+      ((e .0 .0, in-below d o sc s (t .context) ∙ free), together sc s ts (e .1) (v .1))
 
-  pub scoped-grown : (sc : Scope) (ss : List Stream) → StreamsScoped d sc ss → Grown d sc ss
+  pub scoped-grown : (sc : Scope) (ss : List Stream) → StreamsScoped d sc ss → Grown d o sc ss
   scoped-grown sc [] w = tt
   scoped-grown sc (s ∷ ss) w =
-      (w .0 .0, scoped-grown (underStreams d sc (s ∷ [])) ss (together sc s ss (w .0 .1) (w .1 .0), w .1 .1))
+      (w .0 .0, scoped-grown (underStreams d o sc (s ∷ [])) ss (together sc s ss (w .0 .1) (w .1 .0), w .1 .1))
 
-  apart : (sc : Scope) (s : Stream) (ss : List Stream) → EachScoped d (underStreams d sc (s ∷ [])) ss →
+  apart : (sc : Scope) (s : Stream) (ss : List Stream) → EachScoped d (underStreams d o sc (s ∷ [])) ss →
       EachScoped d sc ss × (among (s .context) (streamContexts ss) ≡ false)
   unfolding among anyOf
   apart sc s [] e = (tt, refl)
   apart sc s (t ∷ ts) e =
       let i = apart sc s ts (e .1) in
-      let v = neither (inScope sc (t .context)) (eqb (s .context) (t .context)) (sym (in-below d sc s (t .context)) ∙ e .0 .1) in
+      let v = neither (inScope sc (t .context)) (eqb (s .context) (t .context)) (sym (in-below d o sc s (t .context)) ∙ e .0 .1) in
       (((e .0 .0, v .0), i .0), both-false (eqb (t .context) (s .context)) _ (other (s .context) (t .context) (v .1)) (i .1))
 
-  pub grown-scoped : (sc : Scope) (ss : List Stream) → Grown d sc ss → StreamsScoped d sc ss
+  pub grown-scoped : (sc : Scope) (ss : List Stream) → Grown d o sc ss → StreamsScoped d sc ss
   grown-scoped sc [] g = (tt, tt)
   grown-scoped sc (s ∷ ss) g =
-      let i = grown-scoped (underStreams d sc (s ∷ [])) ss (g .1) in
+      let i = grown-scoped (underStreams d o sc (s ∷ [])) ss (g .1) in
       let j = apart sc s ss (i .0) in
       ((g .0, j .0), (j .1, i .1))

@@ -2,6 +2,7 @@
 use Prim.Native.Nat.{ℕ, _+_}
 use mathlib.Core.List.{List, [], _∷_, _++_}
 use lib.ListN.{length}
+use Rattle.wire.specs.Codes as blr
 use Rattle.dictionary.specs.Dictionary.{Relation}
 use Rattle.grammar.specs.Tree.{Boolean, Clauses, noClauses, such, sorted, Rse, rse, Statement, assignment, begin, erase, for, headed, leave, if, ifElse, select, Statements, none as nothing, _then_, Receives, last, more, Request}
 use Rattle.grammar.specs.Bytes.{keysBytes, headBytes, rseBytes, headingBytes, booleanBytes}
@@ -17,14 +18,14 @@ pub record Condition : Type 0 where
 abbrev pub condition : Scope → Boolean → ℕ → List Condition
 condition sc b p = record { place = p; boolean = b; scope = sc } ∷ []
 
--- the conditions of the clauses that start at p
+-- the conditions of the clauses that start at p; 02, No. 4: "Booleans inside an rse of this sort have no number of their own."
 unfoldable pub clausesConditions : Scope → Clauses → ℕ → List Condition
 clausesConditions sc noClauses p = []
 clausesConditions sc (such b cs) p = condition sc b (p + 1) ++ clausesConditions sc cs (p + 1 + length (booleanBytes b))
 clausesConditions sc (sorted ks cs) p = clausesConditions sc cs (p + 2 + length (keysBytes ks))
 
 unfoldable pub rseConditions : List Relation → Scope → Rse → ℕ → List Condition
-rseConditions d sc (rse ss cs) p = clausesConditions (underStreams d sc ss) cs (p + length (headBytes ss))
+rseConditions d sc (rse ss cs) p = clausesConditions (underStreams d blr.for sc ss) cs (p + length (headBytes ss))
 
 unfoldable mutual
   pub conditions : List Relation → Scope → Statement → ℕ → List Condition

@@ -20,7 +20,7 @@ pub record Environment : Type 0 where
   pub relations : List Relation
   pub messages : List Message
 
--- a context: its number, its relation if that is known, and the code of the statement that opened it: for, store or modify
+-- a context: its number, its relation if that is known, and the code that opened it: for, store, modify, any or unique
 pub record Context : Type 0 where
   pub number : ℕ
   pub relation : Option Relation
@@ -53,7 +53,7 @@ relationOfContext sc c = contextOf sc c andThen relationIn
 
 -- ---- scopes
 
--- the context of a stream, which the statement of a code opens
+-- the context of a stream, which a code opens
 abbrev pub streamContext : List Relation → ℕ → Stream → Context
 streamContext d opener s = record { number = s .context; relation = relationOf d (s .relation); opener = opener }
 
@@ -61,12 +61,13 @@ abbrev pub withContexts : Scope → List Context → Scope
 withContexts sc xs =
     record { contexts = sc .contexts ++ xs; target = sc .target; sends = sc .sends; labels = sc .labels }
 
--- 01: "A context of an rse is in scope from the byte after its last stream to the end of its for"
-unfoldable pub underStreams : List Relation → Scope → List Stream → Scope
-underStreams d sc ss = withContexts sc (map (streamContext d blr.for) ss)
+-- below the streams of an rse, which a code opens
+unfoldable pub underStreams : List Relation → ℕ → Scope → List Stream → Scope
+underStreams d opener sc ss = withContexts sc (map (streamContext d opener) ss)
 
+-- 01: "A context of an rse is in scope from the byte after its last stream to the end of its for"
 unfoldable pub underRse : List Relation → Scope → Rse → Scope
-underRse d sc (rse ss cs) = underStreams d sc ss
+underRse d sc (rse ss cs) = underStreams d blr.for sc ss
 
 -- 01: "that of store or a modify's to-ctx, throughout its substatement"
 abbrev pub underUpdate : Scope → Context → Scope

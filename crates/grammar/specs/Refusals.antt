@@ -1,7 +1,7 @@
 -- 01, "Numbers given back".
 use Prim.Native.Nat.{ℕ}
 use Rattle.grammar.specs.declared.Refusal.{Refusal}
-use Rattle.grammar.specs.declared.Refusal.the-variants.{TablesTooShort, RequestTooLong, BadDictionary, EndsEarly, BadVersion, NotDue, LeftOut, TooGreat, BadMessage, NoParameter, BadContext, Unknown, Unfit, Misplaced, BytesAfterEnd, OutOfRange, NoBoolean, BadMessageBytes, BadRecords, MalformedText, Overflow, ZeroDivisor}
+use Rattle.grammar.specs.declared.Refusal.the-variants.{TablesTooShort, RequestTooLong, BadDictionary, EndsEarly, BadVersion, NotDue, LeftOut, TooGreat, BadMessage, NoParameter, BadContext, Unknown, Unfit, Misplaced, BytesAfterEnd, OutOfRange, NoBoolean, BadMessageBytes, BadRecords, MalformedText, Overflow, ZeroDivisor, BadRuns}
 
 unfoldable pub number : Refusal → ℕ
 number TablesTooShort = 1  -- tables below 2560, 1536, 192 numbers (02, No. 7)
@@ -26,3 +26,4 @@ number BadRecords = 22  -- records not as due
 number MalformedText = 23  -- varying length above n, cstring without zero
 number Overflow = 24  -- overflow
 number ZeroDivisor = 25  -- zero divisor
+number BadRuns = 26  -- runs not as due (02, No. 4)

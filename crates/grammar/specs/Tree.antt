@@ -8,6 +8,7 @@ use Rattle.wire.specs.declared.codes.Operator.{Operator}
 use Rattle.wire.specs.declared.codes.Comparison.{Comparison}
 use Rattle.wire.specs.declared.codes.TextSearch.{TextSearch}
 use Rattle.wire.specs.declared.codes.Connective.{Connective}
+use Rattle.wire.specs.declared.codes.Quantifier.{Quantifier}
 use Rattle.wire.specs.declared.codes.Direction.{Direction}
 use Rattle.dictionary.specs.Naming.{Name}
 
@@ -65,6 +66,8 @@ mutual
     connect : Connective → Boolean → Boolean → Boolean
     not : Boolean → Boolean
     missing : Value → Boolean
+    -- 02, No. 4: "any 60 and unique 62, each with an rse of one stream"
+    quantify : Quantifier → Rse → Boolean
 
   -- the values of a sort, each with its direction
   pub data Keys : Type 0 where

@@ -29,6 +29,7 @@ pub enum Refusal {
     MalformedText,
     Overflow,
     ZeroDivisor,
+    BadRuns,
 }
 
 // Document 01's number of a refusal.
@@ -58,6 +59,7 @@ pub fn number_of(refusal: Refusal) -> u32
         Refusal::MalformedText => 23,
         Refusal::Overflow => 24,
         Refusal::ZeroDivisor => 25,
+        Refusal::BadRuns => 26,
     }
 }
 

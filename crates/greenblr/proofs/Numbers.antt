@@ -52,8 +52,8 @@ cause-few Cause.Bit = omega arith
 cause-few Cause.Reading = omega arith
 cause-few Cause.Flag = omega arith
 
--- no number is above 25
-pub number-few : (x : Refusal) → number x ≤ 25
+-- no number is above 26
+pub number-few : (x : Refusal) → number x ≤ 26
 unfolding number
 number-few Refusal.TablesTooShort = omega arith
 number-few Refusal.RequestTooLong = omega arith
@@ -77,15 +77,18 @@ number-few Refusal.BadRecords = omega arith
 number-few Refusal.MalformedText = omega arith
 number-few Refusal.Overflow = omega arith
 number-few Refusal.ZeroDivisor = omega arith
+number-few Refusal.BadRuns = omega arith
 
 -- ---- evaluation
 
-pub truth-given : (s d : List ℕ) (n : ℕ) (images rows : List ℕ) (e : Evaluation) (t : Truth) (r : ℕ) → Evaluated s d n images rows e → e ≡ Evaluation.Is t →
-    r ≡ truthGiven t → r ≡ outcomeGiven (evaluation s d n images rows)
+pub truth-given :
+    (s d : List ℕ) (n : ℕ) (images rows runs : List ℕ) (e : Evaluation) (t : Truth) (r : ℕ) → Evaluated s d n images rows runs e →
+    e ≡ Evaluation.Is t → r ≡ truthGiven t → r ≡ outcomeGiven (evaluation s d n images rows runs)
 unfolding outcomeGiven
-truth-given s d n images rows e t r h i j = j ∙ ap outcomeGiven (sym (ap outcomeOf i) ∙ h .answered)
+truth-given s d n images rows runs e t r h i j = j ∙ ap outcomeGiven (sym (ap outcomeOf i) ∙ h .answered)
 
-pub refusal-given : (s d : List ℕ) (n : ℕ) (images rows : List ℕ) (e : Evaluation) (x : Refusal) (p r : ℕ) → Evaluated s d n images rows e →
-    e ≡ Evaluation.Refused x p → r ≡ refusalGiven x p → r ≡ outcomeGiven (evaluation s d n images rows)
+pub refusal-given :
+    (s d : List ℕ) (n : ℕ) (images rows runs : List ℕ) (e : Evaluation) (x : Refusal) (p r : ℕ) → Evaluated s d n images rows runs e →
+    e ≡ Evaluation.Refused x p → r ≡ refusalGiven x p → r ≡ outcomeGiven (evaluation s d n images rows runs)
 unfolding outcomeGiven
-refusal-given s d n images rows e x p r h i j = j ∙ ap outcomeGiven (sym (ap outcomeOf i) ∙ h .answered)
+refusal-given s d n images rows runs e x p r h i j = j ∙ ap outcomeGiven (sym (ap outcomeOf i) ∙ h .answered)

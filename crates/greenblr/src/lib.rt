@@ -118,11 +118,12 @@ pub extern "C" fn greenblr_evaluate<'a>(
     number: usize,
     images: &'a [u8],
     records: &'a [u8],
+    runs: &'a [u8],
 ) -> u64
     ensures { λ r. ⌜ r ≡ outcomeGiven
-        (evaluation (now (request .entry)) (now (dictionary .entry)) number (now (images .entry)) (now (records .entry))) ⌝ }
+        (evaluation (now (request .entry)) (now (dictionary .entry)) number (now (images .entry)) (now (records .entry)) (now (runs .entry))) ⌝ }
 {
-    match evaluator::evaluate(request, dictionary, number, images, records) {
+    match evaluator::evaluate(request, dictionary, number, images, records, runs) {
         Evaluation::Is(t) => truth_number(t),
         Evaluation::Refused(r, p) => refusal_number(r, p),
     }

@@ -1,6 +1,5 @@
 -- The input of the program `evaluate`. 02, No. 6: "It reads entries of kinds 4, 5, 9 (the boolean's number, a word), then any of kind 10
--- (message bytes, joined), then of 3 .., in all at most 3,000,000 bytes, else `bad input`." Its entries of kind 7 come
--- with No. 4.
+-- (message bytes, joined), then of 3, then of 7, in all at most 3,000,000 bytes, else `bad input`."
 use Prim.Native.Nat.{ℕ, zero, suc, _+_, _-_}
 use mathlib.Core.Bool.{Bool, true, false, cond, _&&_}
 use mathlib.Core.Path.{_≡_}
@@ -9,7 +8,15 @@ use lib.Dec.{eqb, leb}
 use lib.ListN.{length, take, drop}
 use lib.Seq.{sets}
 use Rattle.wire.specs.Words.{wordAt}
-use Rattle.wire.specs.Entries.{entryBody, dictionaryEntryKind, requestEntryKind, numberEntryKind, messageEntryKind, recordEntryKind}
+use Rattle.wire.specs.Entries.{
+  entryBody,
+  dictionaryEntryKind,
+  requestEntryKind,
+  numberEntryKind,
+  messageEntryKind,
+  recordEntryKind,
+  runEntryKind,
+}
 use Rattle.input.specs.Input.{whole}
 use Rattle.input.specs.declared.EvaluationInput.{EvaluationInput}
 use Rattle.input.specs.declared.EvaluationInput.the-variants as EvaluationInput
@@ -67,7 +74,7 @@ numberEntryBytes = 6
 unfoldable pub wholeNumber : List ℕ → ℕ → Bool
 wholeNumber s p = whole s p numberEntryKind && eqb (wordAt s p) numberEntryBytes
 
--- where the request's entry, the number's, the messages' and the records' begin
+-- where the request's entry, the number's, the messages', the records' and the runs' begin
 abbrev pub requestAt : List ℕ → ℕ
 requestAt s = wordAt s 0
 
@@ -80,11 +87,14 @@ messagesAt s = numberAt s + numberEntryBytes
 unfoldable pub recordsAt : List ℕ → ℕ
 recordsAt s = afterEntries s (messagesAt s) messageEntryKind
 
--- the records are the last entries
+unfoldable pub runsAt : List ℕ → ℕ
+runsAt s = afterEntries s (recordsAt s) recordEntryKind
+
+-- the runs are the last entries
 unfoldable pub wholeInput : List ℕ → Bool
 wholeInput s =
     leb (length s) maxInputBytes && whole s 0 dictionaryEntryKind && whole s (requestAt s) requestEntryKind && wholeNumber s (numberAt s) &&
-    eqb (afterEntries s (recordsAt s) recordEntryKind) (length s)
+    eqb (afterEntries s (runsAt s) runEntryKind) (length s)
 
 unfoldable pub evaluationInput : List ℕ → EvaluationInput
-evaluationInput s = cond (wholeInput s) (EvaluationInput.Entries (requestAt s) (numberAt s) (recordsAt s)) EvaluationInput.Bad
+evaluationInput s = cond (wholeInput s) (EvaluationInput.Entries (requestAt s) (numberAt s) (recordsAt s) (runsAt s)) EvaluationInput.Bad

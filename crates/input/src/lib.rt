@@ -13,6 +13,7 @@ use wire::entries::MESSAGE_ENTRY;
 use wire::entries::NUMBER_ENTRY;
 use wire::entries::RECORD_ENTRY;
 use wire::entries::REQUEST_ENTRY;
+use wire::entries::RUN_ENTRY;
 
 // The longest input of the program `evaluate`, in bytes.
 pub const MAX_INPUT_BYTES: usize = 3000000;
@@ -26,9 +27,10 @@ pub enum Input {
     Bad,
 }
 
-// The places of the request's entry, of the number's entry and of the first record, or that the input is not an evaluation's.
+// The places of the request's entry, of the number's entry, of the first record and of the first run, or that the input is not an
+// evaluation's.
 pub enum EvaluationInput {
-    Entries(usize, usize, usize),
+    Entries(usize, usize, usize, usize),
     Bad,
 }
 
@@ -88,7 +90,8 @@ fn after_entries(s: &[u8], at: usize, kind: u32) -> usize
     p
 }
 
-// The entries of the program `evaluate`: of kinds 4, 5 and 9, then those of kind 10, then those of kind 3, and nothing more.
+// The entries of the program `evaluate`: of kinds 4, 5 and 9, then those of kind 10, then those of kind 3, then those of kind 7, and
+// nothing more.
 pub fn evaluation_entries(s: &[u8]) -> EvaluationInput
     ensures { λ r. ⌜ r ≡ evaluationInput (now (s .entry)) ⌝ }
 {
@@ -107,8 +110,9 @@ pub fn evaluation_entries(s: &[u8]) -> EvaluationInput
         return EvaluationInput::Bad;
     }
     let records = after_entries(s, number + NUMBER_ENTRY_BYTES, MESSAGE_ENTRY);
-    if after_entries(s, records, RECORD_ENTRY) == s.len() {
-        EvaluationInput::Entries(request, number, records)
+    let runs = after_entries(s, records, RECORD_ENTRY);
+    if after_entries(s, runs, RUN_ENTRY) == s.len() {
+        EvaluationInput::Entries(request, number, records, runs)
     } else {
         EvaluationInput::Bad
     }

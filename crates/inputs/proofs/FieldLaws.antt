@@ -1,5 +1,5 @@
--- Fields of a record by their entries, of a relation by name and by id, and of a context by its slot. Assumes nothing.
-use Prim.Native.Nat.{ℕ, zero, suc, _≤_}
+-- Fields of a record by their entries, of a relation by name and by id, and of a context by the row that binds it. Assumes nothing.
+use Prim.Native.Nat.{ℕ, zero, suc, _≤_, _<_}
 use mathlib.Core.Path.{_≡_, refl, ap, ap₂, _∙_}
 use mathlib.Core.Bool.{Bool, true, false, cond, _||_}
 use mathlib.Core.List.{List, [], _∷_, map}
@@ -8,7 +8,7 @@ use native.Mathlib.Omega.{arith}
 use native.Mathlib.Nat.{le-of-suc-le-suc, not-suc-le-zero}
 use lib.Dec.{ltb}
 use lib.ListN.{length, getElem?}
-use borrow.Author.Tests.{ltb-false}
+use borrow.Author.Tests.{eq-eqb, ne-eqb, ltb-false}
 use Rattle.wire.specs.Words.{wordAt}
 use Rattle.dictionary.specs.Format.{Format}
 use Rattle.dictionary.specs.Dictionary.{Relation}
@@ -23,11 +23,12 @@ use Rattle.records.specs.declared.missing.Presence.the-variants.{There, Missing
 use Rattle.records.specs.Record.{bitAt, readingMissing, fieldPlace, presenceOf, fieldPresence}
 use Rattle.meaning.specs.Data.{absent}
 use Rattle.meaning.specs.Inputs.{Fetched, value, nothing, onFound, kindHeld, valueAt, fieldIn}
-use Rattle.surroundings.specs.Slots.{Slot}
-use Rattle.surroundings.specs.Around.{slotField, slotAt, slotValue}
-use Rattle.surroundings.specs.Tables.{foundAnswer}
-use Rattle.surroundings.specs.declared.Found.the-variants as Found
-use Rattle.inputs.specs.Answers.{clamped}
+use Rattle.surroundings.specs.Around.{slotField}
+use Rattle.surroundings.specs.Bindings.{cell, rowsIn, rowBinding, boundValue}
+use Rattle.surroundings.specs.Tables.{boundAnswer}
+use Rattle.surroundings.specs.declared.Bound.the-variants as Bound
+use Rattle.surroundings.proofs.BindingLoops.{bound-some, bound-none, binding-inside}
+use Rattle.inputs.specs.Answers.{clamped, rowField, rowNamed}
 use Rattle.inputs.proofs.PastEnd.{word-clamped, value-clamped}
 
 -- ---- answers taken apart
@@ -113,21 +114,29 @@ pub field-numbered : (d : List ℕ) (r : ℕ) (s : List ℕ) (p i : ℕ) → fie
 unfolding fieldOf
 field-numbered d r s p i = by-number (relationAt d r) s p i (ltb i (length (relationAt d r .fields))) refl
 
+-- ---- the record that a row binds
+
+module _ (d t records runs : List ℕ) (row i relation p code : ℕ) (r : relation ≡ cell t row 2) (q : p ≡ cell t row 3)
+    (k : code ≡ cell t row 0) where
+  pub in-records : code ≡ 0 → fieldIn (relationAt d relation) records p i ≡ rowField d t records runs row i
+  in-records z = rw (r, q, ← k, eq-eqb code 0 z)
+
+  pub in-runs : (code ≡ 0 → ⊥) → fieldIn (relationAt d relation) runs p i ≡ rowField d t records runs row i
+  in-runs z = rw (r, q, ← k, ne-eqb code 0 z)
+
 -- ---- a field of a context
 
-module _ (d s : List ℕ) (xs : List Slot) (c : ℕ) (n : Name) where
-  pub by-slot : (r p : ℕ) → Found.At r p ≡ foundAnswer (slotAt xs s 0 c) → slotField d s n r p ≡ slotValue d xs s 0 c n
-  unfolding slotValue
-  by-slot r p e = by (slotAt xs s 0 c) e
-    where
-      by : (o : Option (ℕ × ℕ)) → Found.At r p ≡ foundAnswer o → slotField d s n r p ≡ onFound o (λ y. slotField d s n (y .0) (y .1))
-      by none e = absurd (let z : _≡_ {A = ℕ} 0 1 = cc in omega arith)
-      by (some y) e = let a : r ≡ y .0 = cc in let b : p ≡ y .1 = cc in ap₂ (slotField d s n) a b
+pub row-bound : (t : List ℕ) (c row : ℕ) → Bound.At row ≡ boundAnswer (rowBinding t c (rowsIn t) 0) → row < rowsIn t
+row-bound t c row e =
+    let z = binding-inside t c (rowsIn t) 0 row (bound-some (rowBinding t c (rowsIn t) 0) row e) in
+    omega (arith, z)
 
-  pub no-slot : Found.Nothing ≡ foundAnswer (slotAt xs s 0 c) → nothing ≡ slotValue d xs s 0 c n
-  unfolding slotValue
-  no-slot e = by (slotAt xs s 0 c) e
-    where
-      by : (o : Option (ℕ × ℕ)) → Found.Nothing ≡ foundAnswer o → nothing ≡ onFound o (λ y. slotField d s n (y .0) (y .1))
-      by none e = refl
-      by (some y) e = absurd (let z : _≡_ {A = ℕ} 0 1 = cc in omega arith)
+module _ (d t records runs : List ℕ) (c : ℕ) (n : Name) where
+  pub by-row : (row : ℕ) → Bound.At row ≡ boundAnswer (rowBinding t c (rowsIn t) 0) →
+      rowNamed d t records runs n row ≡ boundValue d t records runs c n
+  unfolding boundValue
+  by-row row e = rw (bound-some (rowBinding t c (rowsIn t) 0) row e)
+
+  pub no-row : Bound.Nothing ≡ boundAnswer (rowBinding t c (rowsIn t) 0) → nothing ≡ boundValue d t records runs c n
+  unfolding boundValue
+  no-row e = rw (bound-none (rowBinding t c (rowsIn t) 0) e)

@@ -1,12 +1,11 @@
 -- What the code's answers stand for, beside the slices that were lent.
-use Prim.Native.Nat.{ℕ, _+_, _-_, _≤_, _<_, min}
+use Prim.Native.Nat.{ℕ, _+_, _-_, _≤_, _<_}
 use mathlib.Core.Path.{_≡_}
 use mathlib.Core.Bool.{Bool, true, false, cond}
 use mathlib.Core.List.{List}
 use lib.Dec.{ltb}
 use lib.IntN.{ℤ, pos}
 use lib.ListN.{length, take, drop}
-use Rattle.wire.specs.Limits.{maxContexts, maxParameters}
 use Rattle.wire.specs.Words.{byteAt, wordAt, longAt, signed}
 use Rattle.wire.specs.declared.codes.Width.{Width}
 use Rattle.wire.specs.declared.codes.TextType.{TextType}
@@ -14,7 +13,8 @@ use Rattle.wire.specs.declared.codes.ReferenceCode.{ReferenceCode}
 use Rattle.wire.specs.declared.codes.ReferenceCode.the-variants.{Field, Fid, Parameter, Parameter2}
 use Rattle.decimal.specs.declared.Number.{Number}
 use Rattle.dictionary.specs.Dictionary.{nameAt}
-use Rattle.dictionary.specs.Naming.{named, numbered}
+use Rattle.dictionary.specs.Naming.{Name, named, numbered}
+use Rattle.dictionary.specs.Internal.Walk.{relationAt}
 use Rattle.grammar.specs.Tree.{Reference, field, parameter, parameter2}
 use Rattle.meaning.specs.Inputs as Inputs
 use Rattle.meaning.specs.Inputs.{onFound, flagged, unlessFlagged}
@@ -25,10 +25,9 @@ use Rattle.values.specs.declared.Date.{Date}
 use Rattle.values.specs.declared.Valued.{Valued}
 use Rattle.values.specs.declared.Valued.the-variants as Valued
 use Rattle.values.specs.Values.{Lent, sourceIn, datum, valued}
-use Rattle.surroundings.specs.Slots.{Slot}
 use Rattle.surroundings.specs.Parameters.{parameterFrom}
-use Rattle.surroundings.specs.Around.{rowValue, around}
-use Rattle.surroundings.specs.Tables.{slotsIn}
+use Rattle.surroundings.specs.Around.{slotField, rowValue}
+use Rattle.surroundings.specs.Bindings.{cell, bindingRelation, bindingRecord, bytesBound}
 use Rattle.inputs.specs.declared.Fetched.{Fetched}
 use Rattle.inputs.specs.declared.Fetched.the-variants.{Value, Malformed, Nothing}
 use Rattle.inputs.specs.declared.parameters.Flag.{Flag}
@@ -43,6 +42,10 @@ fetchedIn m Nothing = Inputs.nothing
 -- the answer stands for x, whatever is lent beside the bytes s of its source
 abbrev pub Gives : Source → List ℕ → Fetched → Inputs.Fetched → Type 0
 Gives source s r x = (m : Lent) → sourceIn m source ≡ s → fetchedIn m r ≡ x
+
+-- likewise, whatever is lent beside the records and the runs
+abbrev pub GivesBound : List ℕ → List ℕ → Fetched → Inputs.Fetched → Type 0
+GivesBound records runs r x = (m : Lent) → m .records ≡ records → m .runs ≡ runs → fetchedIn m r ≡ x
 
 -- the number of a width and a scale byte at a place, and a house reading
 abbrev pub numberOf : Width → ℕ → List ℕ → ℕ → Number
@@ -78,14 +81,14 @@ abbrev pub flaggedValue : List ℕ → ℕ → List ℕ → ℕ → ℕ → ℕ 
 flaggedValue t count images m i flag =
     onFound (parameterFrom t m i count 0 0) (λ x. flagged (rowValue t count images m flag) (unlessFlagged (x .0) images (x .1)))
 
--- the contexts in scope that two tables hold, 32 at most
-abbrev pub slotsLent : List ℕ → List ℕ → ℕ → List Slot
-slotsLent numbers relations count = slotsIn numbers relations (min count maxContexts) 0
+-- field i of the record that a row binds, and the field of a name
+abbrev pub rowField : List ℕ → List ℕ → List ℕ → List ℕ → ℕ → ℕ → Inputs.Fetched
+rowField d t records runs row i =
+    Inputs.fieldIn (relationAt d (cell t row bindingRelation)) (bytesBound t row records runs) (cell t row bindingRecord) i
 
--- what a reference gives: contexts in scope from two tables, parameters from the rows of a third, 256 at most
-abbrev pub lentAround : List ℕ → List ℕ → List ℕ → ℕ → List ℕ → ℕ → List ℕ → List ℕ → Reference → Inputs.Fetched
-lentAround d numbers relations count parameters rows images records =
-    around d (slotsLent numbers relations count) parameters (min rows maxParameters) images records
+abbrev pub rowNamed : List ℕ → List ℕ → List ℕ → List ℕ → Name → ℕ → Inputs.Fetched
+rowNamed d t records runs n row =
+    slotField d (bytesBound t row records runs) n (cell t row bindingRelation) (cell t row bindingRecord)
 
 -- the reference whose code stands at p, and the place after it
 abbrev pub referenceIn : List ℕ → ℕ → ReferenceCode → Reference

@@ -1,11 +1,13 @@
 // References in a request: fields by name and by id, and parameters with and without a flag.
 ghost use mathlib.Core.Path.{_≡_};
-ghost use Prim.Native.Nat.{_<_};
+ghost use Prim.Native.Nat.{_<_, min};
 ghost use lib.ListN.{length};
+ghost use Rattle.wire.specs.Limits.{maxParameters};
 ghost use Rattle.meaning.specs.Meaning.{fetchedAt};
 ghost use Rattle.walking.specs.Walk.{ended};
 ghost use Rattle.values.specs.Values.{Lent, lent, valued};
-ghost use Rattle.inputs.specs.Answers.{fetchedIn, lentAround, referenceIn, referenceEnd, Referred};
+ghost use Rattle.surroundings.specs.Bindings.{boundAround};
+ghost use Rattle.inputs.specs.Answers.{fetchedIn, referenceIn, referenceEnd, Referred};
 use crate::Fetched;
 use crate::fields::by_id;
 use crate::fields::by_name;
@@ -49,20 +51,19 @@ fn reference_end(request: &[u8], at: usize, code: ReferenceCode) -> usize
 fn fetch(
     request: &[u8],
     dictionary: &[u8],
-    numbers: &[u32],
-    relations: &[u32],
-    count: usize,
+    bindings: &[u32],
     parameters: &[u32],
     rows: usize,
     images: &[u8],
     records: &[u8],
+    runs: &[u8],
     at: usize,
     code: ReferenceCode,
 ) -> Fetched
     requires { ⌜ at < length (now request) ⌝ }
-    ensures { λ r. ⌜ fetchedIn (lent (now (request .entry)) (now (images .entry)) (now (records .entry))) r ≡
-        lentAround (now (dictionary .entry)) (now (numbers .entry)) (now (relations .entry)) count
-        (now (parameters .entry)) rows (now (images .entry)) (now (records .entry))
+    ensures { λ r. ⌜ fetchedIn (lent (now (request .entry)) (now (images .entry)) (now (records .entry)) (now (runs .entry))) r ≡
+        boundAround (now (dictionary .entry)) (now (parameters .entry)) (min rows maxParameters)
+        (now (images .entry)) (now (records .entry)) (now (runs .entry)) (now (bindings .entry))
         (referenceIn (now (request .entry)) at code) ⌝ }
 {
     let n = byte_at(request, at + 1);
@@ -70,19 +71,17 @@ fn fetch(
     match code {
         ReferenceCode::Field => by_name(
             dictionary,
-            numbers,
-            relations,
-            count,
+            bindings,
             records,
+            runs,
             ContextNumber(n),
             name_at(request, at + 2),
         ),
         ReferenceCode::Fid => by_id(
             dictionary,
-            numbers,
-            relations,
-            count,
+            bindings,
             records,
+            runs,
             ContextNumber(n),
             word as usize,
         ),
@@ -102,19 +101,18 @@ fn fetch(
 pub fn reference(
     request: &[u8],
     dictionary: &[u8],
-    numbers: &[u32],
-    relations: &[u32],
-    count: usize,
+    bindings: &[u32],
     parameters: &[u32],
     rows: usize,
     images: &[u8],
     records: &[u8],
+    runs: &[u8],
     at: usize,
     code: ReferenceCode,
 ) -> Valued
-    ensures { λ r. ⌜ Referred (lent (now (request .entry)) (now (images .entry)) (now (records .entry)))
-        (lentAround (now (dictionary .entry)) (now (numbers .entry)) (now (relations .entry)) count
-        (now (parameters .entry)) rows (now (images .entry)) (now (records .entry)))
+    ensures { λ r. ⌜ Referred (lent (now (request .entry)) (now (images .entry)) (now (records .entry)) (now (runs .entry)))
+        (boundAround (now (dictionary .entry)) (now (parameters .entry)) (min rows maxParameters)
+        (now (images .entry)) (now (records .entry)) (now (runs .entry)) (now (bindings .entry)))
         at code r ⌝ }
 {
     if request.len() <= at {
@@ -123,13 +121,12 @@ pub fn reference(
     let x = fetch(
         request,
         dictionary,
-        numbers,
-        relations,
-        count,
+        bindings,
         parameters,
         rows,
         images,
         records,
+        runs,
         at,
         code,
     );

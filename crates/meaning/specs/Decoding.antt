@@ -30,7 +30,7 @@ use Rattle.wire.specs.declared.codes.LiteralType.{LiteralType}
 use Rattle.wire.specs.declared.codes.LiteralType.the-variants as LiteralType
 use Rattle.dictionary.specs.Naming.{Name, named, numbered}
 use Rattle.grammar.specs.Tree as Tree
-use Rattle.grammar.specs.Tree.{Descriptor, Message, Stream, Literal, Reference, field, parameter, parameter2, Heading, loop, modify, handler, receive, send, store, label, Value, literal, reference, arithmetic, negate, Boolean, compare, search, between, connect, not, missing, Keys, noKeys, key, Clauses, noClauses, such, sorted, Rse, rse, Statement, assignment, begin, erase, for, headed, leave, if, ifElse, select, Statements, none as nothing, Receives, last, more, Request}
+use Rattle.grammar.specs.Tree.{Descriptor, Message, Stream, Literal, Reference, field, parameter, parameter2, Heading, loop, modify, handler, receive, send, store, label, Value, literal, reference, arithmetic, negate, Boolean, compare, search, between, connect, not, missing, quantify, Keys, noKeys, key, Clauses, noClauses, such, sorted, Rse, rse, Statement, assignment, begin, erase, for, headed, leave, if, ifElse, select, Statements, none as nothing, Receives, last, more, Request}
 
 -- ---- decoders: what stands at the front of a list, and the bytes after it
 
@@ -127,7 +127,7 @@ unfoldable pub messages : ℕ → Decoder (List Message)
 messages zero = return []
 messages (suc k) = peek >>= λ x. cond (eqb x blr.message) (message >>= λ m. messages k >>= λ ms. return (m ∷ ms)) (return [])
 
--- ---- values and booleans
+-- ---- values
 
 unfoldable pub countedName : Decoder Name
 countedName = one named (byte >>= bytes)
@@ -162,18 +162,6 @@ unfoldable pub value : ℕ → Decoder Value
 value zero = fail
 value (suc l) = coded valueClass >>= λ c. valueUnder (value l) c
 
-unfoldable pub booleanUnder : Decoder Boolean → Decoder Value → BooleanCode → Decoder Boolean
-booleanUnder inner values (BooleanCode.Compare c) = two (compare c) values values
-booleanUnder inner values (BooleanCode.Search t) = two (search t) values values
-booleanUnder inner values BooleanCode.Between = three between values values values
-booleanUnder inner values (BooleanCode.Connect c) = two (connect c) inner inner
-booleanUnder inner values BooleanCode.Not = one not inner
-booleanUnder inner values BooleanCode.Missing = one missing values
-
-unfoldable pub boolean : ℕ → Decoder Boolean
-boolean zero = fail
-boolean (suc l) = coded booleanClass >>= λ c. booleanUnder (boolean l) (value l) c
-
 -- ---- rses
 
 abbrev pub streamUnder : StreamCode → Decoder Name
@@ -202,6 +190,22 @@ clauses (suc n) booleans values = coded clauseClass >>= λ c. clausesUnder (clau
 -- n bounds the clauses
 unfoldable pub rseOf : ℕ → Decoder Boolean → Decoder Value → Decoder Rse
 rseOf n booleans values = two rse (code blr.rse then byte >>= λ k. several k stream) (clauses n booleans values)
+
+-- ---- booleans
+
+-- what stands under a boolean's code; n bounds the clauses of an rse
+unfoldable pub booleanUnder : ℕ → Decoder Boolean → Decoder Value → BooleanCode → Decoder Boolean
+booleanUnder n inner values (BooleanCode.Compare c) = two (compare c) values values
+booleanUnder n inner values (BooleanCode.Search t) = two (search t) values values
+booleanUnder n inner values BooleanCode.Between = three between values values values
+booleanUnder n inner values (BooleanCode.Connect c) = two (connect c) inner inner
+booleanUnder n inner values BooleanCode.Not = one not inner
+booleanUnder n inner values BooleanCode.Missing = one missing values
+booleanUnder n inner values (BooleanCode.Quantify q) = one (quantify q) (rseOf n inner values)
+
+unfoldable pub boolean : ℕ → ℕ → Decoder Boolean
+boolean n zero = fail
+boolean n (suc l) = coded booleanClass >>= λ c. booleanUnder n (boolean n l) (value l) c
 
 -- ---- statements
 
@@ -234,7 +238,7 @@ statementUnder n inner booleans values Code.Select = one select (manyReceives n 
 
 unfoldable pub statement : ℕ → ℕ → Decoder Statement
 statement n zero = fail
-statement n (suc l) = coded statementClass >>= λ c. statementUnder n (statement n l) (boolean l) (value l) c
+statement n (suc l) = coded statementClass >>= λ c. statementUnder n (statement n l) (boolean n l) (value l) c
 
 abbrev pub requestOf : Version → List Message → Statements → Request
 requestOf v ms ss = record { version = v; messages = ms; statements = ss }

@@ -8,6 +8,7 @@ use lib.ListN.{length, getElem?}
 use Rattle.wire.specs.Lists.{sumOf}
 use Rattle.dictionary.specs.Dictionary.{Relation, dictionary}
 use Rattle.records.specs.Record.{Run, asDue, wrongAt, records}
+use Rattle.records.specs.Runs as Runs
 use Rattle.grammar.specs.declared.Refusal.{Refusal}
 use Rattle.grammar.specs.declared.Refusal.the-variants as Refusal
 use Rattle.grammar.specs.Tree.{Message, Request}
@@ -20,6 +21,7 @@ use Rattle.meaning.specs.declared.Truth.{Truth}
 use Rattle.meaning.specs.declared.Fault.{Fault}
 use Rattle.meaning.specs.declared.Fault.the-variants as Fault
 use Rattle.meaning.specs.Data.{Result, is, refused, stray}
+use Rattle.meaning.specs.Runs.{dueRuns, runRelations}
 use Rattle.meaning.specs.Meaning.{meaning}
 
 -- what evaluation answers: a truth value, or a refusal and its place. Demand 3 shows that no evaluation strays.
@@ -54,22 +56,29 @@ abbrev pub afterRecords : Run → Outcome → Outcome
 afterRecords asDue rest = rest
 afterRecords (wrongAt p) rest = refusal Refusal.BadRecords p
 
+-- 26: "runs not as due"
+abbrev pub afterRuns : Run → Outcome → Outcome
+afterRuns asDue rest = rest
+afterRuns (wrongAt p) rest = refusal Refusal.BadRuns p
+
 -- 21: "message bytes not the exact total", at the length given
 abbrev pub afterMessages : Bool → ℕ → Outcome → Outcome
 afterMessages true n rest = rest
 afterMessages false n rest = refusal Refusal.BadMessageBytes n
 
--- 01: "Order: ..; 20, 21, 22, then 23–25 as met."
-abbrev pub onCondition : Option Condition → List Message → List ℕ → List ℕ → Outcome → Outcome
-onCondition none ms images rows rest = refusal Refusal.NoBoolean 0
-onCondition (some x) ms images rows rest =
+-- 01: "Order: ..; 20, 21, 22, then 23–25 as met."; 02, No. 4: "26 runs not as due, after 22"
+abbrev pub onCondition : Option Condition → List Relation → List Message → List ℕ → List ℕ → List ℕ → Outcome → Outcome
+onCondition none d ms images rows runs rest = refusal Refusal.NoBoolean 0
+onCondition (some x) d ms images rows runs rest =
     afterMessages (eqb (length images) (sumOf messageSize ms)) (length images)
-    (afterRecords (records (dueRelations (x .scope .contexts)) rows 0) rest)
+    (afterRecords (records (dueRelations (x .scope .contexts)) rows 0)
+    (afterRuns (Runs.runs (runRelations (dueRuns d (x .boolean) (x .place))) runs 0) rest))
 
-abbrev pub onReading : Reader.Read Request → List Relation → ℕ → List ℕ → List ℕ → Outcome → Outcome
-onReading (Reader.refused r p) d n images rows rest = refusal r p
-onReading (Reader.read t c) d n images rows rest = onCondition (getElem? (requestConditions d t) n) (t .messages) images rows rest
+abbrev pub onReading : Reader.Read Request → List Relation → ℕ → List ℕ → List ℕ → List ℕ → Outcome → Outcome
+onReading (Reader.refused r p) d n images rows runs rest = refusal r p
+onReading (Reader.read t c) d n images rows runs rest = onCondition (getElem? (requestConditions d t) n) d (t .messages) images rows runs rest
 
--- request, dictionary, boolean number, message images, records
-unfoldable pub evaluation : List ℕ → List ℕ → ℕ → List ℕ → List ℕ → Outcome
-evaluation s d n images rows = onReading (reading s d) (relationsOf (dictionary d)) n images rows (outcome (meaning s d n images rows))
+-- request, dictionary, boolean number, message images, records, runs
+unfoldable pub evaluation : List ℕ → List ℕ → ℕ → List ℕ → List ℕ → List ℕ → Outcome
+evaluation s d n images rows runs =
+    onReading (reading s d) (relationsOf (dictionary d)) n images rows runs (outcome (meaning s d n images rows runs))

@@ -3,6 +3,7 @@ pub mod Decoding
 pub mod House
 pub mod Data
 pub mod Inputs
+pub mod Runs
 pub mod Meaning
 pub mod Evaluation
 pub mod Evaluated

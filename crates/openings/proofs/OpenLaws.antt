@@ -27,12 +27,12 @@ use Rattle.grammar.specs.Environment as Grammar
 use Rattle.grammar.specs.Environment.{streamContext, withContexts, underStreams}
 use Rattle.grammar.specs.Rows.{contextRow, streamRows}
 use Rattle.grammar.specs.Reader.{Read, read, refused, onRead, code}
-use Rattle.grammar.specs.Statements.{stream, streams, countByte, rseHead}
+use Rattle.grammar.specs.Statements.{stream, streams, streamCount, rseHead}
 use Rattle.grammar.specs.Demands.{Octets}
 use Rattle.grammar.specs.Internal.Steps.{stepOf, noKind, byteStep}
 use Rattle.grammar.proofs.StepLaws.{absurd-eq, step-read, step-refused, byte-read, byte-refused}
 use Rattle.grammar.proofs.Went.{Passed, inside, onward, code-went}
-use Rattle.grammar.proofs.SoundRses.{stream-sound, count-went}
+use Rattle.grammar.proofs.SoundRses.{stream-sound, stream-count-went}
 use Rattle.scopes.specs.Internal.Columns.{scopeNumbers}
 use Rattle.scopes.specs.declared.scope.Context.{Context}
 use Rattle.scopes.specs.Scopes.{contextsHeld, sendsHeld, labelsHeld, contextOf, scopeOf}
@@ -109,31 +109,31 @@ module _ {s d sc : List ℕ} {c : Cursor} (ready : Prepared s d sc c) (room : c 
 
 -- ---- several streams
 
-no-streams : (rs : List Relation) (sc : Grammar.Scope) → sc ≡ underStreams rs sc []
+no-streams : (rs : List Relation) (o : ℕ) (sc : Grammar.Scope) → sc ≡ underStreams rs o sc []
 unfolding underStreams
-no-streams rs sc = rw (append-nil (sc .contexts))
+no-streams rs o sc = rw (append-nil (sc .contexts))
 
-under-more : (rs : List Relation) (sc : Grammar.Scope) (st : Stream) (ss : List Stream) →
-    underStreams rs (underStreams rs sc (st ∷ [])) ss ≡ underStreams rs sc (st ∷ ss)
+under-more : (rs : List Relation) (o : ℕ) (sc : Grammar.Scope) (st : Stream) (ss : List Stream) →
+    underStreams rs o (underStreams rs o sc (st ∷ [])) ss ≡ underStreams rs o sc (st ∷ ss)
 unfolding underStreams
-under-more rs sc st ss = rw append-assoc
+under-more rs o sc st ss = rw append-assoc
 
-streams-more : (n : ℕ) (rs : List Relation) (sc : Grammar.Scope) (s : List ℕ) (c : Cursor) {st : Stream} {q : Cursor} → 0 < n →
+streams-more : (n : ℕ) (rs : List Relation) (o : ℕ) (sc : Grammar.Scope) (s : List ℕ) (c : Cursor) {st : Stream} {q : Cursor} → 0 < n →
     stream rs sc s c ≡ read st q →
-    streams n rs sc s c ≡ onRead (streams (n - 1) rs (underStreams rs sc (st ∷ [])) s q) (λ ss q. read (st ∷ ss) q)
+    streams n rs o sc s c ≡ onRead (streams (n - 1) rs o (underStreams rs o sc (st ∷ [])) s q) (λ ss q. read (st ∷ ss) q)
 unfolding streams
-streams-more zero rs sc s c z e = absurd (omega arith)
-streams-more (suc n) rs sc s c z e = let h : suc n - 1 ≡ n = omega arith in rw (h, streams, e)
+streams-more zero rs o sc s c z e = absurd (omega arith)
+streams-more (suc n) rs o sc s c z e = let h : suc n - 1 ≡ n = omega arith in rw (h, streams, e)
 
 -- no stream, and a stream that was refused
-module _ {s d sc : List ℕ} {c : Cursor} (ready : Prepared s d sc c) (ct : List ℕ) where
+module _ {s d sc : List ℕ} {c : Cursor} (ready : Prepared s d sc c) (ct : List ℕ) (o : ℕ) where
   pub opens-none : (n : ℕ) → n ≡ 0 →
-      OpensStreams (streams n (relations d) (scopeOf d sc) s c) d c ct ct sc sc (Step.Next Fit.NoKind c)
+      OpensStreams o (streams n (relations d) o (scopeOf d sc) s c) d c ct ct sc sc (Step.Next Fit.NoKind c)
   unfolding streams streamRows
   opens-none n e = rw (e, streams) (record {
     answer = refl;
     contexts-filled = refl;
-    scope-below = no-streams (relations d) (scopeOf d sc);
+    scope-below = no-streams (relations d) o (scopeOf d sc);
     count-below = sym (add-zero _);
     whole-below = ready .scope-whole;
     sends-below = omega arith;
@@ -141,15 +141,15 @@ module _ {s d sc : List ℕ} {c : Cursor} (ready : Prepared s d sc c) (ct : List
   })
 
   pub opens-refused : (n : ℕ) {z : Refusal} {p : ℕ} → 0 < n →
-      StreamStep.Refused z p ≡ streamStep d blr.for (stream (relations d) (scopeOf d sc) s c) →
-      OpensStreams (streams n (relations d) (scopeOf d sc) s c) d c ct ct sc sc (Step.Refused z p)
+      StreamStep.Refused z p ≡ streamStep d o (stream (relations d) (scopeOf d sc) s c) →
+      OpensStreams o (streams n (relations d) o (scopeOf d sc) s c) d c ct ct sc sc (Step.Refused z p)
   unfolding streams
   opens-refused zero h e = absurd (omega arith)
   opens-refused (suc n) h e = opens-nothing (ready .scope-whole)
-      (rw (streams, stream-refused d blr.for (stream (relations d) (scopeOf d sc) s c) e))
+      (rw (streams, stream-refused d o (stream (relations d) (scopeOf d sc) s c) e))
 
 -- one stream, and the others after it
-module _ {s d sc : List ℕ} {c : Cursor} (ready : Prepared s d sc c) {x : Context} {q : Cursor} (i : Next s d blr.for sc c x q)
+module _ {s d sc : List ℕ} {c : Cursor} (ready : Prepared s d sc c) {o : ℕ} {x : Context} {q : Cursor} (i : Next s d o sc c x q)
     {ct ct′ sc′ : List ℕ} (added : Added d x (c .contexts) (c .at) ct ct′ sc sc′) where
   count-next : contextsHeld sc′ ≡ contextsHeld sc + 1
   count-next = ap contextsHeld (added .scope-is) ∙ with-context-count sc x (ready .scope-whole) (held-below ready (i .room) x)
@@ -171,36 +171,36 @@ module _ {s d sc : List ℕ} {c : Cursor} (ready : Prepared s d sc c) {x : Conte
     labels-fit = rw labels-next (ready .labels-fit);
   }
 
-  scope-next : scopeOf d sc′ ≡ underStreams (relations d) (scopeOf d sc) (i .st ∷ [])
+  scope-next : scopeOf d sc′ ≡ underStreams (relations d) o (scopeOf d sc) (i .st ∷ [])
   unfolding underStreams
   scope-next =
       ap (scopeOf d) (added .scope-is) ∙ scope-with d sc (ready .scope-whole) x (held-below ready (i .room) x) ∙
       ap (λ y. withContexts (scopeOf d sc) (y ∷ [])) (i .context-is)
 
   rows-next : (ss : List Stream) →
-      sets ct′ (q .contexts * contextRowNumbers) (streamRows (relations d) ss (q .at) 0 0) ≡
-      sets ct (c .contexts * contextRowNumbers) (streamRows (relations d) (i .st ∷ ss) (c .at) 0 0)
+      sets ct′ (q .contexts * contextRowNumbers) (streamRows (relations d) o ss (q .at) 0 0) ≡
+      sets ct (c .contexts * contextRowNumbers) (streamRows (relations d) o (i .st ∷ ss) (c .at) 0 0)
   unfolding streamRows
   rows-next ss =
-      let row = contextRow (streamContext (relations d) blr.for (i .st)) (c .at) 0 0 in
+      let row = contextRow (streamContext (relations d) o (i .st)) (c .at) 0 0 in
       let e : q .contexts * contextRowNumbers ≡ c .contexts * contextRowNumbers + contextRowNumbers = omega (arith, i .declared) in
       rw (row-added ready (i .room) x added (omega arith) (i .context-is), e, i .place)
-      (sym (sets-append row (streamRows (relations d) ss (c .at + length (streamBytes (i .st))) 0 0) ct (c .contexts * contextRowNumbers)))
+      (sym (sets-append row (streamRows (relations d) o ss (c .at + length (streamBytes (i .st))) 0 0) ct (c .contexts * contextRowNumbers)))
 
   opens-next : (n : ℕ) {ct″ sc″ : List ℕ} {r : Step} → 0 < n →
-      OpensStreams (streams (n - 1) (relations d) (scopeOf d sc′) s q) d q ct′ ct″ sc′ sc″ r →
-      OpensStreams (streams n (relations d) (scopeOf d sc) s c) d c ct ct″ sc sc″ r
+      OpensStreams o (streams (n - 1) (relations d) o (scopeOf d sc′) s q) d q ct′ ct″ sc′ sc″ r →
+      OpensStreams o (streams n (relations d) o (scopeOf d sc) s c) d c ct ct″ sc sc″ r
   opens-next n {ct″} {sc″} {r} z h =
-      rw (streams-more n (relations d) (scopeOf d sc) s c z (i .is-read), sym scope-next)
-      (go (streams (n - 1) (relations d) (scopeOf d sc′) s q) h)
+      rw (streams-more n (relations d) o (scopeOf d sc) s c z (i .is-read), sym scope-next)
+      (go (streams (n - 1) (relations d) o (scopeOf d sc′) s q) h)
     where
-      go : (y : Read (List Stream)) → OpensStreams y d q ct′ ct″ sc′ sc″ r →
-          OpensStreams (onRead y (λ ss q. read (i .st ∷ ss) q)) d c ct ct″ sc sc″ r
+      go : (y : Read (List Stream)) → OpensStreams o y d q ct′ ct″ sc′ sc″ r →
+          OpensStreams o (onRead y (λ ss q. read (i .st ∷ ss) q)) d c ct ct″ sc sc″ r
       go (read ss q′) h = record {
         answer = h .answer;
         contexts-filled = h .contexts-filled ∙ rows-next ss;
         scope-below =
-            h .scope-below ∙ ap (λ z. underStreams (relations d) z ss) scope-next ∙ under-more (relations d) (scopeOf d sc) (i .st) ss;
+            h .scope-below ∙ ap (λ z. underStreams (relations d) o z ss) scope-next ∙ under-more (relations d) o (scopeOf d sc) (i .st) ss;
         count-below = omega (arith, count-next, h .count-below);
         whole-below = h .whole-below;
         sends-below = omega (arith, sends-next, h .sends-below);
@@ -219,30 +219,30 @@ module _ {s d sc : List ℕ} {c : Cursor} (ready : Prepared s d sc c) {x : Conte
 -- ---- the loop over streams
 
 -- the streams from c on, of which so many are left at a cursor: what these open with the rest is what all open
-pub record Opening (s d ct sc : List ℕ) (c : Cursor) (n : ℕ) (ct₁ sc₁ : List ℕ) (at : Cursor) (left : ℕ) : Type 0 where
+pub record Opening (o : ℕ) (s d ct sc : List ℕ) (c : Cursor) (n : ℕ) (ct₁ sc₁ : List ℕ) (at : Cursor) (left : ℕ) : Type 0 where
   pub ready : Prepared s d sc₁ at
-  pub all : {ct′ sc′ : List ℕ} {r : Step} → OpensStreams (streams left (relations d) (scopeOf d sc₁) s at) d at ct₁ ct′ sc₁ sc′ r →
-      OpensStreams (streams n (relations d) (scopeOf d sc) s c) d c ct ct′ sc sc′ r
+  pub all : {ct′ sc′ : List ℕ} {r : Step} → OpensStreams o (streams left (relations d) o (scopeOf d sc₁) s at) d at ct₁ ct′ sc₁ sc′ r →
+      OpensStreams o (streams n (relations d) o (scopeOf d sc) s c) d c ct ct′ sc sc′ r
 
-pub stream-opened : {s d ct sc ct₁ sc₁ ct₂ sc₂ : List ℕ} {c at : Cursor} {n left : ℕ} → Opening s d ct sc c n ct₁ sc₁ at left →
+pub stream-opened : {s d ct sc ct₁ sc₁ ct₂ sc₂ : List ℕ} {c at : Cursor} {n left o : ℕ} → Opening o s d ct sc c n ct₁ sc₁ at left →
     Octets s → 0 < left → {x : Context} {q : Cursor} →
-    (Proper d → StreamStep.Is x q ≡ streamStep d blr.for (stream (relations d) (scopeOf d sc₁) s at)) →
-    Added d x (at .contexts) (at .at) ct₁ ct₂ sc₁ sc₂ → Opening s d ct sc c n ct₂ sc₂ q (left - 1)
-stream-opened {s} {d} {sc₁} {at} {left} o octets some e added =
-    let proper = o .ready .is-proper in
-    let i = stream-next s d octets proper blr.for sc₁ at (e proper) in
-    record { ready = ready-next (o .ready) i added; all = λ h. o .all (opens-next (o .ready) i added left some h) }
+    (Proper d → StreamStep.Is x q ≡ streamStep d o (stream (relations d) (scopeOf d sc₁) s at)) →
+    Added d x (at .contexts) (at .at) ct₁ ct₂ sc₁ sc₂ → Opening o s d ct sc c n ct₂ sc₂ q (left - 1)
+stream-opened {s} {d} {sc₁} {at} {left} {o} w octets some e added =
+    let proper = w .ready .is-proper in
+    let i = stream-next s d octets proper o sc₁ at (e proper) in
+    record { ready = ready-next (w .ready) i added; all = λ h. w .all (opens-next (w .ready) i added left some h) }
 
 -- ---- the head of an rse, by the answers for its code and its count
 
-module _ {s d sc : List ℕ} {c : Cursor} (ready : Prepared s d sc c) {b : Step} (u : b ≡ stepOf noKind (code blr.rse NotDue s c)) where
-  module _ {g : Fit} {q : Cursor} (i : b ≡ Step.Next g q) {a : ByteStep} (v : a ≡ byteStep (countByte s q)) where
+module _ {s d sc : List ℕ} {c : Cursor} (ready : Prepared s d sc c) (most o : ℕ) {b : Step} (u : b ≡ stepOf noKind (code blr.rse NotDue s c)) where
+  module _ {g : Fit} {q : Cursor} (i : b ≡ Step.Next g q) {a : ByteStep} (v : a ≡ byteStep (streamCount most s q)) where
     module _ {n : ℕ} {q₁ : Cursor} (j : a ≡ ByteStep.Is n q₁) where
       coded : (k : ℕ) × (code blr.rse NotDue s c ≡ read k q) × (g ≡ Fit.NoKind)
       coded = step-read noKind (code blr.rse NotDue s c) (sym i ∙ u)
 
       first-went : Passed s c (blr.rse ∷ n ∷ []) q₁
-      first-went = onward (code-went blr.rse NotDue s c (coded .1)) (count-went s q (byte-read (countByte s q) (sym j ∙ v)) .0)
+      first-went = onward (code-went blr.rse NotDue s c (coded .1)) (stream-count-went most s q (byte-read (streamCount most s q) (sym j ∙ v)) .0)
 
       ready-head : Prepared s d sc q₁
       ready-head = record {
@@ -256,21 +256,21 @@ module _ {s d sc : List ℕ} {c : Cursor} (ready : Prepared s d sc c) {b : Step}
       }
 
       pub opens-head : {ct ct′ sc′ : List ℕ} {r : Step} →
-          (Prepared s d sc q₁ → OpensStreams (streams n (relations d) (scopeOf d sc) s q₁) d q₁ ct ct′ sc sc′ r) →
-          OpensHead (rseHead (relations d) (scopeOf d sc) s c) d c ct ct′ sc sc′ r
+          (Prepared s d sc q₁ → OpensStreams o (streams n (relations d) o (scopeOf d sc) s q₁) d q₁ ct ct′ sc sc′ r) →
+          OpensHead o (rseHead most (relations d) o (scopeOf d sc) s c) d c ct ct′ sc sc′ r
       unfolding rseHead
       opens-head h =
           let w : q₁ .at ≡ c .at + 2 = first-went .place in
           let z : q₁ .contexts ≡ c .contexts = first-went .declared ∙ add-zero _ in
-          rw (rseHead, coded .1, byte-read (countByte s q) (sym j ∙ v), sym z, sym w) (h ready-head)
+          rw (rseHead, coded .1, byte-read (streamCount most s q) (sym j ∙ v), sym z, sym w) (h ready-head)
 
     pub head-uncounted : {ct : List ℕ} {r : Refusal} {p : ℕ} → a ≡ ByteStep.Refused r p →
-        OpensHead (rseHead (relations d) (scopeOf d sc) s c) d c ct ct sc sc (Step.Refused r p)
+        OpensHead o (rseHead most (relations d) o (scopeOf d sc) s c) d c ct ct sc sc (Step.Refused r p)
     unfolding rseHead
     head-uncounted j = opens-nothing (ready .scope-whole)
-        (rw (rseHead, step-read noKind (code blr.rse NotDue s c) (sym i ∙ u) .1, byte-refused (countByte s q) (sym j ∙ v)))
+        (rw (rseHead, step-read noKind (code blr.rse NotDue s c) (sym i ∙ u) .1, byte-refused (streamCount most s q) (sym j ∙ v)))
 
   pub head-refused : {ct : List ℕ} {r : Refusal} {p : ℕ} → b ≡ Step.Refused r p →
-      OpensHead (rseHead (relations d) (scopeOf d sc) s c) d c ct ct sc sc (Step.Refused r p)
+      OpensHead o (rseHead most (relations d) o (scopeOf d sc) s c) d c ct ct sc sc (Step.Refused r p)
   unfolding rseHead
   head-refused i = opens-nothing (ready .scope-whole) (rw (rseHead, step-refused noKind (code blr.rse NotDue s c) (sym i ∙ u)))

@@ -1,5 +1,5 @@
 -- The ways through the readers of streams. Assumes nothing.
-use Prim.Native.Nat.{ℕ, _<_}
+use Prim.Native.Nat.{ℕ, _<_, _≤_}
 use native.Mathlib.Nat.{mod-eq-of-lt}
 use native.Mathlib.Omega.{arith}
 use mathlib.Core.Path.{_≡_, refl, sym, ap, _∙_}
@@ -7,6 +7,7 @@ use mathlib.Core.Bool.{true, false, cond, not, false≢true}
 use mathlib.Core.List.{List}
 use mathlib.Core.Option.{Option, none, some, Option·map}
 use lib.ListN.{take, drop}
+use borrow.Author.Tests.{le-leb, lt-leb}
 use Rattle.wire.specs.Words.{byteAt}
 use Rattle.wire.specs.Lists.{isSome}
 use Rattle.wire.specs.Classes.{streamClass}
@@ -22,20 +23,22 @@ use Rattle.grammar.specs.declared.Cursor.{Cursor}
 use Rattle.grammar.specs.declared.Fit.{Fit}
 use Rattle.grammar.specs.declared.Step.{Step}
 use Rattle.grammar.specs.declared.Step.the-variants as Step
+use Rattle.grammar.specs.declared.ByteStep.{ByteStep}
+use Rattle.grammar.specs.declared.ByteStep.the-variants as ByteStep
 use Rattle.grammar.specs.declared.ContextStep.{ContextStep}
 use Rattle.grammar.specs.declared.ContextStep.the-variants as ContextStep
 use Rattle.grammar.specs.declared.WordStep.{WordStep}
 use Rattle.grammar.specs.declared.WordStep.the-variants as WordStep
 use Rattle.grammar.specs.declared.Refusal.{Refusal}
-use Rattle.grammar.specs.declared.Refusal.the-variants.{Unknown, BadContext}
+use Rattle.grammar.specs.declared.Refusal.the-variants.{TooGreat, Unknown, BadContext}
 use Rattle.grammar.specs.Tree.{Stream}
 use Rattle.grammar.specs.Environment as Grammar
-use Rattle.grammar.specs.Reader.{Read, read, refused, Reader, byte, word, name, coded, opened}
+use Rattle.grammar.specs.Reader.{Read, read, refused, Reader, byte, word, name, tested, coded, opened}
 use Rattle.grammar.specs.Values.{byName, byNumber}
 use Rattle.grammar.specs.Scope.{inScope}
-use Rattle.grammar.specs.Statements.{naming, stream}
-use Rattle.grammar.specs.Internal.Steps.{stepOf, noKind, contextStep, wordStep}
-use Rattle.grammar.proofs.StepLaws.{absurd-eq, step-read, step-refused, context-read, context-refused, word-read, word-refused}
+use Rattle.grammar.specs.Statements.{naming, stream, countByte, streamCount}
+use Rattle.grammar.specs.Internal.Steps.{stepOf, noKind, byteStep, contextStep, wordStep}
+use Rattle.grammar.proofs.StepLaws.{absurd-eq, step-read, step-refused, byte-read, byte-refused, context-read, context-refused, word-read, word-refused}
 use Rattle.grammar.proofs.Went.{undo, taken-read}
 use Rattle.tables.proofs.Codes.{tested-is, tested-refused}
 use Rattle.openings.specs.declared.streams.CodeStep.{CodeStep}
@@ -56,6 +59,22 @@ code-read (refused r p) e = absurd-eq (cc)
 code-refused : (x : Read StreamCode) {r : Refusal} {p : ℕ} → CodeStep.Refused r p ≡ codeStep x → x ≡ refused r p
 code-refused (read a c) e = absurd-eq (cc)
 code-refused (refused r p) e = cc
+
+-- ---- the count of an rse's streams, so many at most, by the answer for a count in range
+
+module _ (s : List ℕ) (c : Cursor) {a : ByteStep} (u : a ≡ byteStep (countByte s c)) (most : ℕ) where
+  pub stream-counted : {n : ℕ} {q : Cursor} → a ≡ ByteStep.Is n q → n ≤ most → ByteStep.Is n q ≡ byteStep (streamCount most s c)
+  unfolding streamCount tested
+  stream-counted {n} i h = rw (streamCount, tested, byte-read (countByte s c) (sym i ∙ u), le-leb n most h)
+
+  pub too-many-streams : {n : ℕ} {q : Cursor} → a ≡ ByteStep.Is n q → most < n →
+      ByteStep.Refused TooGreat (c .at) ≡ byteStep (streamCount most s c)
+  unfolding streamCount tested
+  too-many-streams {n} i h = rw (streamCount, tested, byte-read (countByte s c) (sym i ∙ u), lt-leb n most h)
+
+  pub no-stream-count : {r : Refusal} {p : ℕ} → a ≡ ByteStep.Refused r p → ByteStep.Refused r p ≡ byteStep (streamCount most s c)
+  unfolding streamCount tested
+  no-stream-count i = rw (streamCount, tested, byte-refused (countByte s c) (sym i ∙ u))
 
 module _ (d : List ℕ) where
   relation-read : (x : Read Name) {z : ℕ} {q : Cursor} → RelationStep.Is z q ≡ relationStep d x →

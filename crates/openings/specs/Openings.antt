@@ -4,7 +4,8 @@ use mathlib.Core.Path.{_≡_}
 use mathlib.Core.List.{List}
 use lib.ListN.{length}
 use lib.Seq.{sets}
-use Rattle.wire.specs.Limits.{maxRequestBytes, maxDepth, contextRowNumbers}
+use Rattle.wire.specs.Codes as blr
+use Rattle.wire.specs.Limits.{maxRequestBytes, maxDepth, maxStreams, contextRowNumbers}
 use Rattle.wire.specs.declared.codes.StatementCode.{StatementCode}
 use Rattle.wire.specs.declared.codes.StatementCode.the-variants as Code
 use Rattle.dictionary.specs.Internal.Walk.{relationAt}
@@ -63,16 +64,16 @@ pub record Opens {A : Type 0} (x : Read A) (d ct : List ℕ) (row : ℕ) (rows :
   pub sends-below : sendsHeld sc′ ≤ sendsHeld sc + 1
   pub labels-below : labelsHeld sc′ ≤ labelsHeld sc + 1
 
--- streams from a cursor on
-abbrev pub OpensStreams : Read (List Stream) → List ℕ → Cursor → List ℕ → List ℕ → List ℕ → List ℕ → Step → Type 0
-OpensStreams x d c ct ct′ sc sc′ r =
-    Opens x d ct (c .contexts) (λ ss. streamRows (relations d) ss (c .at) 0 0) (λ ss. underStreams (relations d) (scopeOf d sc) ss) length
-    ct′ sc sc′ r
+-- streams from a cursor on, which a code opens
+abbrev pub OpensStreams : ℕ → Read (List Stream) → List ℕ → Cursor → List ℕ → List ℕ → List ℕ → List ℕ → Step → Type 0
+OpensStreams o x d c ct ct′ sc sc′ r =
+    Opens x d ct (c .contexts) (λ ss. streamRows (relations d) o ss (c .at) 0 0) (λ ss. underStreams (relations d) o (scopeOf d sc) ss)
+    length ct′ sc sc′ r
 
 -- the head of an rse, whose code stands at the cursor
-abbrev pub OpensHead : Read (List Stream) → List ℕ → Cursor → List ℕ → List ℕ → List ℕ → List ℕ → Step → Type 0
-OpensHead x d c ct ct′ sc sc′ r =
-    Opens x d ct (c .contexts) (λ ss. streamRows (relations d) ss (c .at + 2) 0 0) (λ ss. underStreams (relations d) (scopeOf d sc) ss)
+abbrev pub OpensHead : ℕ → Read (List Stream) → List ℕ → Cursor → List ℕ → List ℕ → List ℕ → List ℕ → Step → Type 0
+OpensHead o x d c ct ct′ sc sc′ r =
+    Opens x d ct (c .contexts) (λ ss. streamRows (relations d) o ss (c .at + 2) 0 0) (λ ss. underStreams (relations d) o (scopeOf d sc) ss)
     length ct′ sc sc′ r
 
 -- a heading after the code of its statement at p
@@ -118,5 +119,5 @@ plainReader e sc p Code.Select = refuse TooGreat p
 -- what opens a scope after the code at p: the head of a for's rse, or a heading
 pub record OpensCoded (k : StatementCode) (e : Environment) (s d : List ℕ) (p : ℕ) (c : Cursor) (ct ct′ sc sc′ : List ℕ) (r : Step)
     : Type 0 where
-  pub for-opens : k ≡ Code.For → OpensHead (rseHead (e .relations) (scopeOf d sc) s c) d c ct ct′ sc sc′ r
+  pub for-opens : k ≡ Code.For → OpensHead blr.for (rseHead maxStreams (e .relations) blr.for (scopeOf d sc) s c) d c ct ct′ sc sc′ r
   pub heading-opens : (k ≡ Code.For → ⊥) → OpensHeading (openingReader e (scopeOf d sc) p k s c) d p c ct ct′ sc sc′ r

@@ -16,6 +16,7 @@ use crate::streams::StreamStep;
 use crate::streams::fresh_context;
 use crate::streams::open_context;
 use crate::streams::read_stream;
+use crate::streams::stream_count;
 use grammar::ByteStep;
 use grammar::ContextStep;
 use grammar::Cursor;
@@ -37,7 +38,6 @@ use scopes::scope::is_of_for;
 use scopes::scope::relation_of;
 use scopes::scope::set_target;
 use scopes::scope::updating;
-use steps::count_byte;
 use steps::due_code;
 use steps::next_context;
 use steps::next_label;
@@ -49,6 +49,7 @@ use wire::blr::RSE;
 use wire::blr::STORE;
 use wire::bytes::word_at;
 use wire::codes::StatementCode;
+use wire::limits::MAX_STREAMS;
 
 // The id of the relation whose entry stands at a place.
 fn relation_id(dictionary: &[u8], place: usize) -> u32
@@ -85,24 +86,25 @@ fn declare(
     add_context(below, x);
 }
 
-// So many streams, whose contexts come into scope.
+// So many streams that a code opens, whose contexts come into scope.
 fn read_streams(
     request: &[u8],
     dictionary: &[u8],
     contexts: &mut [u32],
     below: &mut [u16; SCOPE],
+    opener: u8,
     n: usize,
     c: Cursor,
 ) -> Step
     ensures { λ r. ⌜ (Prepared (now (request .entry)) (now (dictionary .entry)) (now (below .entry)) c →
-        OpensStreams (streams n (relations (now (dictionary .entry))) (scopeOf (now (dictionary .entry)) (now (below .entry)))
+        OpensStreams opener (streams n (relations (now (dictionary .entry))) opener (scopeOf (now (dictionary .entry)) (now (below .entry)))
         (now (request .entry)) c)
         (now (dictionary .entry)) c (now (contexts .entry)) (now (contexts .exit)) (now (below .entry)) (now (below .exit)) r) ⌝ }
 {
     let mut at = c;
     let mut left = n;
     while 0 < left {
-        match read_stream(request, dictionary, below, FOR, at) {
+        match read_stream(request, dictionary, below, opener, at) {
             StreamStep::Is(x, next) => {
                 declare(dictionary, contexts, below, x, at.contexts as usize, at.at);
                 at = next;
@@ -116,26 +118,29 @@ fn read_streams(
     Step::Next(Fit::NoKind, at)
 }
 
-// The head of an rse: its code, the count and the streams, whose contexts come into scope.
-fn read_head(
+// The head of an rse: its code, the count and the streams, so many at most. A code opens them, and their contexts come into scope.
+pub fn read_head(
     request: &[u8],
     dictionary: &[u8],
     contexts: &mut [u32],
     below: &mut [u16; SCOPE],
+    most: usize,
+    opener: u8,
     c: Cursor,
 ) -> Step
     ensures { λ r. ⌜ (Prepared (now (request .entry)) (now (dictionary .entry)) (now (below .entry)) c →
-        OpensHead (rseHead (relations (now (dictionary .entry))) (scopeOf (now (dictionary .entry)) (now (below .entry)))
-        (now (request .entry)) c)
+        OpensHead opener (rseHead most (relations (now (dictionary .entry))) opener
+        (scopeOf (now (dictionary .entry)) (now (below .entry))) (now (request .entry)) c)
         (now (dictionary .entry)) c (now (contexts .entry)) (now (contexts .exit)) (now (below .entry)) (now (below .exit)) r) ⌝ }
 {
     match due_code(request, c, RSE, Refusal::NotDue) {
-        Step::Next(_, first) => match count_byte(request, first) {
+        Step::Next(_, first) => match stream_count(request, most, first) {
             ByteStep::Is(n, next) => read_streams(
                 request,
                 dictionary,
                 contexts,
                 below,
+                opener,
                 n as usize,
                 next,
             ),
@@ -305,7 +310,7 @@ pub fn read_opened(
     let k = x.code;
     let c = x.after;
     match k {
-        StatementCode::For => read_head(request, dictionary, contexts, below, c),
+        StatementCode::For => read_head(request, dictionary, contexts, below, MAX_STREAMS, FOR, c),
         StatementCode::Modify => {
             let declared = modify_context(request, below, x.at, c);
             update(

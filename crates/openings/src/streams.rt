@@ -2,7 +2,8 @@
 ghost use mathlib.Core.Path.{_≡_};
 ghost use Rattle.wire.specs.Classes.{streamClass};
 ghost use Rattle.grammar.specs.Reader.{coded};
-ghost use Rattle.grammar.specs.Statements.{naming, stream};
+ghost use Rattle.grammar.specs.Statements.{naming, stream, streamCount};
+ghost use Rattle.grammar.specs.Internal.Steps.{byteStep};
 ghost use Rattle.scopes.specs.Scopes.{scopeOf};
 ghost use Rattle.openings.specs.Streams.{relations};
 ghost use Rattle.openings.specs.Streams.{Proper, Counted, Fresh, codeStep, placedStep};
@@ -24,6 +25,7 @@ use scopes::scope::Context;
 use scopes::scope::Found;
 use scopes::scope::SCOPE;
 use scopes::scope::find;
+use steps::count_byte;
 use steps::next_byte;
 use steps::next_context;
 use steps::next_word;
@@ -60,6 +62,20 @@ fn stream_code(request: &[u8], c: Cursor) -> CodeStep
             StreamClass::Foreign => CodeStep::Refused(Refusal::NotDue, c.at),
         },
         ByteStep::Refused(r, p) => CodeStep::Refused(r, p),
+    }
+}
+
+// The count of an rse's streams, so many at most.
+pub(crate) fn stream_count(request: &[u8], most: usize, c: Cursor) -> ByteStep
+    ensures { λ r. ⌜ r ≡ byteStep (streamCount most (now (request .entry)) c) ⌝ }
+{
+    match count_byte(request, c) {
+        ByteStep::Is(n, next) => if n as usize <= most {
+            ByteStep::Is(n, next)
+        } else {
+            ByteStep::Refused(Refusal::TooGreat, c.at)
+        },
+        ByteStep::Refused(r, p) => ByteStep::Refused(r, p),
     }
 }
 

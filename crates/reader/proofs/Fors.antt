@@ -1,12 +1,12 @@
 -- A for: its streams, its clauses, its statement, and the scope of its contexts.
 use Prim.Native.Nat.{ℕ, zero, suc, _+_, _-_, _*_, _<_, _≤_}
 use mathlib.Core.Path.{_≡_, refl, sym, ap, _∙_}
-use mathlib.Core.Bool.{false}
 use mathlib.Core.List.{List, [], _∷_, _++_, append-assoc, map-append}
 use native.Mathlib.Omega.{arith}
 use lib.ListN.{length, length-map, length-append}
 use lib.Seq.{sets}
-use Rattle.wire.specs.Limits.{maxRequestBytes, maxStatements, contextRowNumbers}
+use Rattle.wire.specs.Codes as blr
+use Rattle.wire.specs.Limits.{maxRequestBytes, maxStatements, maxStreams, contextRowNumbers}
 use Rattle.wire.specs.declared.codes.StatementCode.the-variants as Code
 use Rattle.grammar.specs.declared.Cursor.{Cursor}
 use Rattle.grammar.specs.declared.Fit.{Fit}
@@ -21,14 +21,12 @@ use Rattle.grammar.specs.Sizes.{clausesContexts, booleansCount, rseBooleans, ow
 use Rattle.grammar.specs.Rows.{size, streamRows, clausesRows, rseRows, rowsBelow, contextRows}
 use Rattle.grammar.specs.Conditions.{clausesConditions, rseConditions, conditions}
 use Rattle.grammar.specs.Reader.{Read, read, refused, withConditions, noted}
-use Rattle.grammar.specs.Values.{readValue, readBoolean}
-use Rattle.grammar.specs.Statements.{rseHead, clauses, forUnder, statementUnder, readStatement}
+use Rattle.grammar.specs.Statements.{rseHead, forUnder, statementUnder, readStatement}
 use Rattle.grammar.specs.Internal.Steps.{noKind}
 use Rattle.grammar.specs.Demands.{Octets}
 use Rattle.grammar.proofs.StepLaws.{absurd-eq, step-read, step-refused}
 use Rattle.grammar.proofs.Went.{inside, within-one}
-use Rattle.grammar.proofs.SoundRses.{ClausesSound, head-sound, clauses-sound}
-use Rattle.grammar.proofs.SoundValues.{value-sound, boolean-sound}
+use Rattle.grammar.proofs.SoundRses.{head-sound}
 use Rattle.grammar.proofs.SoundStatements.{statement-sound}
 use Rattle.grammar.proofs.RowCounts.{stream-rows, clauses-rows}
 use Rattle.grammar.proofs.FewConditions.{clauses-count}
@@ -42,12 +40,14 @@ use Rattle.openings.specs.declared.heads.Coded.{Coded}
 use Rattle.openings.specs.Streams.{relations}
 use Rattle.openings.specs.Openings.{OpensHead}
 use Rattle.expressions.specs.declared.clauses.Clauses.{Clauses as Answer}
-use Rattle.expressions.specs.Promises.{clausesPlaces, ClausesRead}
+use Rattle.expressions.specs.Promises.{Ready, clausesPlaces, ClausesRead}
+use Rattle.expressions.proofs.Parts.{rows-after}
+use Rattle.expressions.proofs.ClauseLaws.{readsClauses, reads-sound}
 use Rattle.reader.specs.Given.{Given, Inside}
 use Rattle.reader.specs.Readers.{levelUnder, innerAt, statementTables, StatementRead, CodedRead, HeadingRead}
-use Rattle.reader.proofs.Parts.{rows-after, Noted, noted-part, under-stop}
+use Rattle.reader.proofs.Parts.{Noted, noted-part, under-stop}
 use Rattle.reader.proofs.Headings.{headed-refused, headed-goes}
-use Rattle.reader.proofs.Ready.{fine-of, fine-went, given-opened, clauses-given}
+use Rattle.reader.proofs.Ready.{fine-of, fine-went, given-ready, given-opened, clauses-given}
 
 one-listed : (n : ℕ) (p : ℕ) (rest : List ℕ) → listed n ≡ p ∷ rest → n ≡ p
 one-listed zero p rest e = absurd-eq (cc)
@@ -65,33 +65,26 @@ place-within sc (such b cs) p n e = omega (arith, one-listed n (p + 1) _ e)
 place-within sc (sorted ks cs) p n e = simp length-append (omega (arith, place-within sc cs (p + 2 + length (keysBytes ks)) n e))
 
 module _ (s : List ℕ) (octets : Octets s) (e : Environment) (sc : Scope) (l : ℕ) (q : Cursor) where
-  abbrev reads : Read Clauses
-  reads = clauses 3 (readBoolean l e sc) (readValue l e sc) false false s q
-
-  reads-sound : (cs : Clauses) (q₁ : Cursor) → reads ≡ read cs q₁ → ClausesSound l e sc s false false q cs q₁
-  reads-sound = clauses-sound l e sc s (readBoolean l e sc) (readValue l e sc) (boolean-sound s octets e sc l)
-      (value-sound s octets e sc l) 3 false false q
-
   abbrev ClausesPart : List ℕ → Tables → Tables → Cursor → Type 0
-  ClausesPart = Noted reads clausesBytes (λ cs. clausesRows (e .relations) sc cs (q .at)) (λ cs. clausesPlaces sc cs (q .at)) q
+  ClausesPart = Noted (readsClauses s e sc l q) clausesBytes (λ cs. clausesRows (e .relations) sc cs (q .at)) (λ cs. clausesPlaces sc cs (q .at)) q
 
   clauses-part : {st st₁ ct₁ nd ct₂ nd₁ : List ℕ} {a : Answer} {f : Fit} {q₁ q₂ : Cursor} → q .at ≤ length s → length s ≤ maxRequestBytes →
       q .statements ≤ maxStatements → q .conditions < q .statements → ClausesRead l e sc s q ct₁ ct₂ a → a .step ≡ Step.Next f q₁ →
       q₂ ≡ numbered q₁ (a .such) → nd₁ ≡ withPlace nd q₁ (a .such) → st₁ ≡ withNumber st (q .statements - 1) q₁ (a .such) →
       ClausesPart st (tables st₁ ct₁ nd) (tables st₁ ct₂ nd₁) q₂
   clauses-part {a} {q₁} within short rows few w i =
-      let u = step-read noKind reads (sym i ∙ w .wrote .answer) in
-      let o = reads-sound (u .0) q₁ (u .1) .went in
-      noted-part clausesContexts (a .such) (λ cs y. reads-sound cs q₁ y .went) (λ cs. clauses-rows (e .relations) sc cs (q .at))
+      let u = step-read noKind (readsClauses s e sc l q) (sym i ∙ w .wrote .answer) in
+      let o = reads-sound s octets e sc l q (u .0) q₁ (u .1) .went in
+      noted-part clausesContexts (a .such) (λ cs y. reads-sound s octets e sc l q cs q₁ y .went) (λ cs. clauses-rows (e .relations) sc cs (q .at))
       (λ cs y. w .told cs q₁ y) (w .wrote) i rows few
       (omega (arith, place-within sc (u .0) (q .at) (a .such) (w .told (u .0) q₁ (u .1)), o .place, inside o within))
 
 -- its streams, its clauses and its statement
 module _ (s : List ℕ) (octets : Octets s) (e : Environment) (sc : Scope) (l : ℕ) (x : Coded)
     (here : x .after .at ≡ x .at + 1) (is-for : x .code ≡ Code.For) {ss : List Stream} {q : Cursor}
-    (y : rseHead (e .relations) sc s (x .after) ≡ read ss q) where
+    (y : rseHead maxStreams (e .relations) blr.for sc s (x .after) ≡ read ss q) where
   abbrev inner : Scope
-  inner = underStreams (e .relations) sc ss
+  inner = underStreams (e .relations) blr.for sc ss
 
   module _ {st st₀ ct₁ nd ct₂ nd₁ : List ℕ} {q₁ : Cursor}
       (a : ClausesPart s octets e inner l q st (tables st₀ ct₁ nd) (tables st₀ ct₂ nd₁) q₁) where
@@ -104,7 +97,7 @@ module _ (s : List ℕ) (octets : Octets s) (e : Environment) (sc : Scope) (l : 
         ((t : Statement) (q₂ : Cursor) → readStatement l e inner s q₁ ≡ read t q₂ → r ≡ Step.Next Fit.NoKind q₂ →
         ct₃ ≡ sets ct₁ (q .contexts * contextRowNumbers) (contextsAfter t) →
         ct₄ ≡ sets ct (x .after .contexts * contextRowNumbers)
-        (streamRows (e .relations) ss (x .after .at + 2) (q .at) (q₂ .at) ++ contextsAfter t)) →
+        (streamRows (e .relations) blr.for ss (x .after .at + 2) (q .at) (q₂ .at) ++ contextsAfter t)) →
         CodedRead l e sc s x (tables st ct nd) (tables st₁ ct₄ nd₂) r
     unfolding statementUnder forUnder noted underRse rowsBelow contextRows rseRows rseConditions rseBytes conditions statementBytes
         ownConditions rseBooleans
@@ -112,7 +105,7 @@ module _ (s : List ℕ) (octets : Octets s) (e : Environment) (sc : Scope) (l : 
         let marks : length (clausesPlaces inner (a .part) (q .at)) ≡ booleansCount (a .part) =
         length-map (clausesConditions inner (a .part) (q .at)) (λ x. x .place) ∙ clauses-count inner (a .part) (q .at) in
         let number : q₁ ≡ withConditions (a .last) (booleansCount (a .part)) = a .number ∙ rw marks in
-        let o = head-sound s octets (e .relations) sc (x .after) ss q y .went in
+        let o = head-sound s octets (e .relations) maxStreams blr.for sc (x .after) ss q y .went in
         by-read (readStatement l e inner s q₁)
         (λ t q₂ z.
         let m = statement-sound s octets e l inner q₁ t q₂ z .went in
@@ -149,7 +142,7 @@ module _ (s : List ℕ) (octets : Octets s) (e : Environment) (sc : Scope) (l : 
                 head,
                 here,
                 length-append (headBytes ss) (clausesBytes (a .part)),
-                append-assoc (streamRows (e .relations) ss (x .at + 1 + 2) (x .at + 1 + length (headBytes ss)) _) _ _,
+                append-assoc (streamRows (e .relations) blr.for ss (x .at + 1 + 2) (x .at + 1 + length (headBytes ss)) _) _ _,
                 map-append (λ x. x .place) (clausesConditions inner (a .part) (x .at + 1 + length (headBytes ss))) _,
               ));
         }))
@@ -157,9 +150,9 @@ module _ (s : List ℕ) (octets : Octets s) (e : Environment) (sc : Scope) (l : 
 
 module _ (s d scope : List ℕ) (e : Environment) (known : e .relations ≡ relations d) (l : ℕ) (x : Coded)
     (g : Inside s d scope x (l + 1)) (is-for : x .code ≡ Code.For) {ct ct₁ scope′ : List ℕ} {a : Step}
-    (w : OpensHead (rseHead (e .relations) (scopeOf d scope) s (x .after)) d (x .after) ct ct₁ scope scope′ a) where
+    (w : OpensHead blr.for (rseHead maxStreams (e .relations) blr.for (scopeOf d scope) s (x .after)) d (x .after) ct ct₁ scope scope′ a) where
   abbrev heading : Read (List Stream)
-  heading = rseHead (e .relations) (scopeOf d scope) s (x .after)
+  heading = rseHead maxStreams (e .relations) blr.for (scopeOf d scope) s (x .after)
 
   pub streams-refused : {st nd : List ℕ} {n : Refusal} {i : ℕ} → a ≡ Step.Refused n i →
       HeadingRead l e s d x (tables st ct nd) (tables st ct₁ nd) scope scope′ (record { opened = a; ready = a })
@@ -170,13 +163,16 @@ module _ (s d scope : List ℕ) (e : Environment) (known : e .relations ≡ rela
     head-given : Given s d scope′ q l × (q .conditions < q .statements)
     head-given =
         let v = step-read noKind heading (sym j ∙ w .answer) in
-        let o = head-sound s (g .given .octets) (e .relations) (scopeOf d scope) (x .after) (v .0) q (v .1) in (
+        let o = head-sound s (g .given .octets) (e .relations) maxStreams blr.for (scopeOf d scope) (x .after) (v .0) q (v .1) in (
           given-opened (g .given) w (v .1) (o .went .declared)
               (fine-went (fine-of (g .given)) (o .went) (within-one (o .went) (o .few)) (omega arith)) (omega arith),
           omega (arith, o .went .counted, o .went .noted, g .noted),
         )
 
-    module _ {ct₂ : List ℕ} {cs : Answer} (v : ClausesRead l e (scopeOf d scope′) s q ct₁ ct₂ cs) where
+    module _ {ct₂ : List ℕ} {cs : Answer} (reads-clauses : Ready s d scope′ q l → ClausesRead l e (scopeOf d scope′) s q ct₁ ct₂ cs) where
+      v : ClausesRead l e (scopeOf d scope′) s q ct₁ ct₂ cs
+      v = reads-clauses (given-ready (head-given .0))
+
       pub clauses-refused : {st nd : List ℕ} {n : Refusal} {i : ℕ} → cs .step ≡ Step.Refused n i →
           HeadingRead l e s d x (tables st ct nd) (tables st ct₂ nd) scope scope′ (record { opened = Step.Next f q; ready = cs .step })
       unfolding statementUnder forUnder
@@ -186,7 +182,7 @@ module _ (s d scope : List ℕ) (e : Environment) (known : e .relations ≡ rela
           after : (ss : List Stream) → heading ≡ read ss q →
               statementUnder (innerAt l e) e (scopeOf d scope) (x .at) (x .code) s (x .after) ≡ refused n i
           after ss y =
-              let below : scopeOf d scope′ ≡ underStreams (e .relations) (scopeOf d scope) ss = rw y at (w .scope-below) ∙ rw known in
+              let below : scopeOf d scope′ ≡ underStreams (e .relations) blr.for (scopeOf d scope) ss = rw y at (w .scope-below) ∙ rw known in
               let v′ = rw below at v in
               rw is-for (rw (forUnder, y, stopped (v′ .wrote) k))
 
@@ -203,23 +199,23 @@ module _ (s d scope : List ℕ) (e : Environment) (known : e .relations ≡ rela
           after ss y =
               let octets = g .given .octets in
               let here = head-given .0 in
-              let own = streamRows (e .relations) ss (x .after .at + 2) 0 0 in
-              let o = head-sound s octets (e .relations) (scopeOf d scope) (x .after) ss q y .went in
-              let below : scopeOf d scope′ ≡ underStreams (e .relations) (scopeOf d scope) ss = rw y at (w .scope-below) ∙ rw known in
+              let own = streamRows (e .relations) blr.for ss (x .after .at + 2) 0 0 in
+              let o = head-sound s octets (e .relations) maxStreams blr.for (scopeOf d scope) (x .after) ss q y .went in
+              let below : scopeOf d scope′ ≡ underStreams (e .relations) blr.for (scopeOf d scope) ss = rw y at (w .scope-below) ∙ rw known in
               let first : ct₁ ≡ sets ct (x .after .contexts * contextRowNumbers) own = rw y at (w .contexts-filled) ∙ rw known in
               let row : q .contexts * contextRowNumbers ≡ x .after .contexts * contextRowNumbers + length own =
-              omega (arith, o .declared, stream-rows (e .relations) ss (x .after .at + 2) 0 0) in
+              omega (arith, o .declared, stream-rows (e .relations) blr.for ss (x .after .at + 2) 0 0) in
               let same : q .statements ≡ x .after .statements = omega (arith, o .counted) in
-              let part = clauses-part s octets e (underStreams (e .relations) (scopeOf d scope) ss) l q {st = st} (here .inside) (here .short)
+              let part = clauses-part s octets e (underStreams (e .relations) blr.for (scopeOf d scope) ss) l q {st = st} (here .inside) (here .short)
               (here .statements-few) (head-given .1) (rw below at v) i i₁ i₂ (i₃ ∙ rw same) in
               let last = clauses-given here e (scopeOf d scope′) l (head-given .1) v i i₁ in
               for-made s octets e (scopeOf d scope) l x (g .here) is-for y part (rw below at v₁) (λ t q₃ z re te.
-              let m = statement-sound s octets e l (underStreams (e .relations) (scopeOf d scope) ss) q₂ t q₃ z .went in
+              let m = statement-sound s octets e l (underStreams (e .relations) blr.for (scopeOf d scope) ss) q₂ t q₃ z .went in
               let rest = contextsAfter s octets e (scopeOf d scope) l x (g .here) is-for y part t in
               let opened : ct₃ ≡ sets ct (x .after .contexts * contextRowNumbers) (own ++ rest) =
               rows-after own rest ct (x .after .contexts * contextRowNumbers) first row te in
               ce ∙ rw (re, opened) (streams-closed ct rest (x .after .contexts) q q₃ Fit.NoKind (omega (arith, here .inside, here .short))
-              (omega (arith, inside m (last .inside), here .short)) (here .contexts-few) (e .relations) ss
+              (omega (arith, inside m (last .inside), here .short)) (here .contexts-few) (e .relations) blr.for ss
               (x .after .at + 2) (o .declared)))
 
       pub for-read : {st st₀ nd nd₁ : List ℕ} {f₁ : Fit} {q₁ q₂ : Cursor} → cs .step ≡ Step.Next f₁ q₁ → q₂ ≡ numbered q₁ (cs .such) →

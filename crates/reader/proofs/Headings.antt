@@ -40,12 +40,13 @@ use Rattle.tables.proofs.Chains.{by-read}
 use Rattle.openings.specs.declared.heads.Coded.{Coded}
 use Rattle.openings.specs.Streams.{relations}
 use Rattle.openings.specs.Openings.{OpensHeading, openingReader, plainReader}
+use Rattle.expressions.proofs.Parts.{rows-after}
 use Rattle.reader.specs.declared.statements.Headed.{Headed}
 use Rattle.reader.specs.declared.statements.Level.{Level}
 use Rattle.reader.specs.Given.{Given, Inside, Below, opensScope, hasHeading}
 use Rattle.reader.specs.Readers.{levelUnder, innerAt, statementTables, StatementRead, CodedRead, OpenedRead, HeadingRead}
 use Rattle.reader.proofs.Matches.{tested}
-use Rattle.reader.proofs.Parts.{rows-after, under-stop, under-fill}
+use Rattle.reader.proofs.Parts.{under-stop, under-fill}
 use Rattle.reader.proofs.Ready.{fine-of, fine-went, given-at, given-opened}
 
 -- ---- the codes with a heading

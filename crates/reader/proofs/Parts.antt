@@ -1,7 +1,7 @@
 -- Parts one after another: the rows of each stand after those of the parts before it.
 use Prim.Native.Nat.{ℕ, _+_, _-_, _*_, _<_, _≤_}
-use mathlib.Core.Path.{_≡_, refl, sym, ap, ap₂, _∙_}
-use mathlib.Core.List.{List, [], _++_}
+use mathlib.Core.Path.{_≡_, refl, ap, _∙_}
+use mathlib.Core.List.{List, []}
 use native.Mathlib.Omega.{arith}
 use lib.ListN.{length, length-append}
 use lib.Seq.{sets}
@@ -21,7 +21,6 @@ use Rattle.grammar.specs.Internal.Steps.{noKind}
 use Rattle.grammar.proofs.Went.{Went}
 use Rattle.tables.specs.Tables.{Tables, tables, contextsAlone, nothing, joined, laid, Wrote}
 use Rattle.tables.specs.Written.{listed, numbered, withPlace, withNumber}
-use Rattle.tables.proofs.Stores.{sets-append}
 use Rattle.tables.proofs.Laid.{Follows, laid-laid}
 use Rattle.tables.proofs.Rows.{numbered-is, place-noted, number-noted}
 use Rattle.tables.proofs.Chains.{by-read, stop, fill, on-next, stopped}
@@ -54,11 +53,6 @@ reached-on {c} {q} {q₁} {a} {b} {t} i j = record {
 -- the same rows, written otherwise
 pub reached-as : {c q : Cursor} {a b t t′ : Tables} → a ≡ b → Reached c q a t t′ → Reached c q b t t′
 reached-as e i = rw e at i
-
--- rows after rows of one table
-pub rows-after : (own rest l : List ℕ) (i : ℕ) {l₁ l₂ : List ℕ} {j : ℕ} → l₁ ≡ sets l i own → j ≡ i + length own → l₂ ≡ sets l₁ j rest →
-    l₂ ≡ sets l i (own ++ rest)
-rows-after own rest l i e h k = k ∙ ap₂ (λ z n. sets z n rest) e h ∙ sym (sets-append own rest l i)
 
 -- a part that was read from a cursor on, and its rows
 pub record Part {A : Type 0} (x : Read A) (k : A → Fit) (rows : A → Tables) (c : Cursor) (t t′ : Tables) (f : Fit) (q : Cursor) : Type 0 where

@@ -1,7 +1,6 @@
 -- What the readers of statements are given stays so along the way.
 use Prim.Native.Nat.{ℕ, zero, suc, _+_, _-_, _<_, _≤_}
 use mathlib.Core.Path.{_≡_, refl, sym, ap, _∙_}
-use mathlib.Core.Bool.{false}
 use mathlib.Core.List.{List}
 use native.Mathlib.Omega.{arith}
 use lib.ListN.{length}
@@ -12,28 +11,27 @@ use Rattle.grammar.specs.declared.Step.{Step}
 use Rattle.grammar.specs.declared.Step.the-variants as Step
 use Rattle.grammar.specs.Environment.{Environment, Scope}
 use Rattle.grammar.specs.Reader.{Read, read}
-use Rattle.grammar.specs.Values.{readValue, readBoolean}
-use Rattle.grammar.specs.Statements.{clauses, readStatement}
+use Rattle.grammar.specs.Values.{readBoolean}
+use Rattle.grammar.specs.Statements.{readStatement}
 use Rattle.grammar.specs.Internal.Steps.{noKind}
 use Rattle.grammar.proofs.StepLaws.{step-read}
 use Rattle.grammar.proofs.Went.{Went, Within, inside, within-one}
 use Rattle.grammar.proofs.FewConditions.{conditions-few}
-use Rattle.grammar.proofs.SoundValues.{value-sound, boolean-sound}
-use Rattle.grammar.proofs.SoundRses.{clauses-sound}
+use Rattle.grammar.proofs.SoundValues.{boolean-sound}
 use Rattle.grammar.proofs.SoundStatements.{statement-sound}
 use Rattle.scopes.specs.Scopes.{contextsHeld}
 use Rattle.tables.specs.Tables.{Tables}
 use Rattle.tables.specs.Written.{listed, numbered}
 use Rattle.tables.proofs.Rows.{numbered-is}
-use Rattle.references.specs.Promises.{environmentOf}
 use Rattle.openings.specs.declared.heads.Coded.{Coded}
 use Rattle.openings.specs.declared.heads.StatementHead.{StatementHead}
 use Rattle.openings.specs.declared.heads.StatementHead.the-variants as StatementHead
 use Rattle.openings.specs.Heads.{statementCoded, statementHead}
-use Rattle.openings.specs.Streams.{relations}
 use Rattle.openings.specs.Openings.{Prepared, Opens}
 use Rattle.expressions.specs.declared.clauses.Clauses.{Clauses}
-use Rattle.expressions.specs.Promises.{BooleanRead, ClausesRead}
+use Rattle.expressions.specs.Promises.{Ready, BooleanRead, ClausesRead}
+use Rattle.expressions.proofs.ClauseLaws.{readsClauses, reads-sound}
+use Rattle.expressions.proofs.ReadyLaws.{ready-prepared}
 use Rattle.reader.specs.declared.statements.Level.{Level}
 use Rattle.reader.specs.Given.{Given, Inside, Below}
 use Rattle.reader.specs.Readers.{levelBelow, StatementRead}
@@ -96,16 +94,21 @@ module _ {s d sc : List ℕ} {c : Cursor} {l : ℕ} (g : Given s d sc c l) where
   pub given-below : {l′ : ℕ} → l′ ≤ l → Given s d sc c l′
   given-below h = given-at fine-of (omega arith) h
 
-  pub prepared : Prepared s d sc c
-  prepared = record {
+  -- for the readers of booleans and clauses
+  pub given-ready : Ready s d sc c l
+  given-ready = record {
     short = g .short;
     is-proper = g .is-proper;
     inside = g .inside;
+    contexts-few = g .contexts-few;
     scope-whole = g .scope-whole;
     scope-fits = g .scope-fits;
-    sends-fit = omega (arith, g .sends-fit);
-    labels-fit = omega (arith, g .labels-fit);
+    sends-fit = g .sends-fit;
+    labels-fit = g .labels-fit;
   }
+
+  pub prepared : Prepared s d sc c
+  prepared = ready-prepared given-ready
 
   -- under a scope that was opened
   pub given-opened : {A : Type 0} {x : Read A} {ct ct′ sc′ : List ℕ} {row : ℕ} {rows : A → List ℕ} {below : A → Scope} {opened : A → ℕ}
@@ -151,11 +154,6 @@ module _ (level : Level) {s d sc : List ℕ} {x : Coded} {inner : Level} (i : In
       let deep : level .left - 1 + 1 ≡ level .left = omega (arith, i .deep) in
       rw e (record { inside = rw deep i; parent = refl })
 
--- the relations are those of the dictionary
-pub relations-known : (d around : List ℕ) → environmentOf d around .relations ≡ relations d
-unfolding environmentOf
-relations-known d around = refl
-
 -- ---- after a part
 
 -- a part with conditions, which get their numbers after it
@@ -186,7 +184,6 @@ module _ {s d sc : List ℕ} {c : Cursor} {l : ℕ} (g : Given s d sc c l) (e : 
   pub clauses-given : (l′ : ℕ) {ct ct₁ : List ℕ} {a : Clauses} {f : Fit} {q q₁ : Cursor} → c .conditions < c .statements →
       ClausesRead l′ e sc′ s c ct ct₁ a → a .step ≡ Step.Next f q → q₁ ≡ numbered q (a .such) → Given s d sc q₁ l
   clauses-given l′ {a} {q} h w i =
-      let u = step-read noKind (clauses 3 (readBoolean l′ e sc′) (readValue l′ e sc′) false false s c) (sym i ∙ w .wrote .answer) in
-      let o = clauses-sound l′ e sc′ s (readBoolean l′ e sc′) (readValue l′ e sc′) (boolean-sound s (g .octets) e sc′ l′)
-      (value-sound s (g .octets) e sc′ l′) 3 false false c (u .0) q (u .1) in
+      let u = step-read noKind (readsClauses s e sc′ l′ c) (sym i ∙ w .wrote .answer) in
+      let o = reads-sound s (g .octets) e sc′ l′ c (u .0) q (u .1) in
       noted-given (a .such) g h (o .went) (o .few)

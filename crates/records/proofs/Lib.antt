@@ -1,3 +1,4 @@
 -- Laws that belong to no one function.
 pub mod Offsets
 pub mod Records
+pub mod RunLaws

@@ -3,3 +3,4 @@
 pub mod lengths;
 pub mod missing;
 pub mod proper;
+pub mod runs;

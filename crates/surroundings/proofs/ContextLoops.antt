@@ -1,21 +1,18 @@
--- A law for each way through a turn of the loops over the context rows and the slots, and for each answer of the functions that they call.
-use Prim.Native.Nat.{ℕ, suc, _+_, _*_, _-_, _<_, _≤_}
+-- A law for each way through a turn of the loop over the context rows, and for each answer of the functions that it calls.
+use Prim.Native.Nat.{ℕ, suc, _+_, _-_, _<_, _≤_}
 use mathlib.Core.Path.{_≡_, refl, _∙_}
 use mathlib.Core.Bool.{true, false}
 use mathlib.Core.List.{List, _∷_}
 use mathlib.Core.Option.{Option, none, some}
 use native.Mathlib.Omega.{arith}
 use lib.Dec.{ltb}
-use lib.ListN.{length, getD, set, length-set}
+use lib.ListN.{length, set, length-set}
 use lib.Seq.{sets}
-use borrow.Author.Tests.{eq-eqb, ne-eqb, le-leb, lt-leb}
-use Rattle.wire.specs.Words.{wordAt}
+use borrow.Author.Tests.{le-leb, lt-leb}
 use Rattle.dictionary.specs.declared.lookup.Place.the-variants.{At, Unknown}
 use Rattle.dictionary.specs.Internal.Answers.{placeAnswer}
 use Rattle.surroundings.specs.Slots.{Slot, cell, rowHolds, slotOf, slotsFrom, relationsIn}
-use Rattle.surroundings.specs.Around.{slotAt}
-use Rattle.surroundings.specs.Tables.{slotsIn, numbersIn, Laid, foundAnswer}
-use Rattle.surroundings.specs.declared.Found.the-variants as Found
+use Rattle.surroundings.specs.Tables.{numbersIn, Laid}
 
 -- ---- contexts in scope
 
@@ -99,24 +96,6 @@ module _ (d t : List ℕ) (q count : ℕ) (numbers₀ relations₀ : List ℕ) w
             numbers-long = length-set numbers filled number ∙ f .numbers-long;
             relations-long = length-set relations filled relation ∙ f .relations-long;
           }
-
--- ---- the slot of a number
-
-module _ (numbers relations rows : List ℕ) (k count p c : ℕ) where
-  pub slot-here : k < count → (n r : ℕ) → n ≡ getD numbers k 0 → r ≡ getD relations k 0 → n ≡ c →
-      Found.At r p ≡ foundAnswer (slotAt (slotsIn numbers relations (count - k) k) rows p c)
-  unfolding slotsIn slotAt
-  slot-here h n r e g z = let m : count - k ≡ suc (count - (k + 1)) = omega arith in rw (m, slotsIn, slotAt, ← e, eq-eqb n c z, g)
-
-  pub slot-next : k < count → (n w : ℕ) → n ≡ getD numbers k 0 → (n ≡ c → ⊥) → w ≡ wordAt rows p →
-      slotAt (slotsIn numbers relations (count - k) k) rows p c
-      ≡ slotAt (slotsIn numbers relations (count - (k + 1)) (k + 1)) rows (p + w) c
-  unfolding slotsIn slotAt
-  slot-next h n w e z g = let m : count - k ≡ suc (count - (k + 1)) = omega arith in rw (m, slotsIn, slotAt, ← e, ne-eqb n c z, g)
-
-  pub slot-end : count ≤ k → Found.Nothing ≡ foundAnswer (slotAt (slotsIn numbers relations (count - k) k) rows p c)
-  unfolding slotsIn slotAt
-  slot-end h = let m : count - k ≡ 0 = omega arith in rw m
 
 -- ---- the place of a relation's entry
 

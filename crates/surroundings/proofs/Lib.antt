@@ -11,3 +11,6 @@ pub mod Slots
 pub mod Around
 pub mod Counts
 pub mod Laid
+pub mod BindingLoops
+pub mod BindingRows
+pub mod BoundLaws

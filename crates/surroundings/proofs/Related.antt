@@ -10,8 +10,8 @@ use Rattle.wire.specs.Codes as blr
 use Rattle.wire.specs.Lists.{find, isSome, _andThen_}
 use Rattle.dictionary.specs.Dictionary.{Relation}
 use Rattle.dictionary.specs.Naming.{Name, relationOf}
-use Rattle.grammar.specs.Tree.{Stream, Heading, loop, modify, handler, receive, send, store, label, Value, literal, reference, arithmetic, negate, Boolean, compare, search, between, connect, not, missing, Keys, noKeys, key, Clauses, noClauses, such, sorted, Rse, rse, Statement, assignment, begin, erase, for, headed, leave, if, ifElse, select, Statements, none as nothing, _then_, Receives, last, more}
-use Rattle.grammar.specs.Bytes.{streamBytes, headBytes, rseBytes, headingBytes, valueBytes, booleanBytes, keysBytes}
+use Rattle.grammar.specs.Tree.{Stream, Heading, loop, modify, handler, receive, send, store, label, Value, literal, reference, arithmetic, negate, Boolean, compare, search, between, connect, not, missing, quantify, Keys, noKeys, key, Clauses, noClauses, such, sorted, Rse, rse, Statement, assignment, begin, erase, for, headed, leave, if, ifElse, select, Statements, none as nothing, _then_, Receives, last, more}
+use Rattle.grammar.specs.Bytes.{quantifierCode, streamBytes, headBytes, rseBytes, headingBytes, valueBytes, booleanBytes, keysBytes}
 use Rattle.grammar.specs.Environment.{Environment, Context, Scope, streamContext, modifyContext, contextOf, relationOfContext, underStreams, underRse, underHeading}
 use Rattle.grammar.specs.Scope.{StreamScoped, EachScoped, HeadingScoped, ofFor, openedByFor}
 use Rattle.grammar.specs.Rules.{ValueAllowed, BooleanAllowed, KeysAllowed, ClausesAllowed, RseAllowed, StatementAllowed, StatementsAllowed, ReceivesAllowed}
@@ -27,7 +27,7 @@ Named rs x = (n : Name) × (r : Relation) × (x .relation ≡ some r) × (relati
 abbrev NamedAt : List Relation → Declared → Type 0
 NamedAt rs x = Named rs (x .context)
 
-some-of : {A : Type 0} (o : Option A) → isSome o ≡ true → (x : A) × (o ≡ some x)
+pub some-of : {A : Type 0} (o : Option A) → isSome o ≡ true → (x : A) × (o ≡ some x)
 some-of none e = absurd-eq (cc)
 some-of (some x) e = (x, refl)
 
@@ -43,17 +43,17 @@ find-all P t (x ∷ l) y a e = by (t x) e (find-all P t l y (a .1))
 stream-named : (rs : List Relation) (sc : Scope) (opener : ℕ) (s : Stream) → StreamScoped rs sc s → Named rs (streamContext rs opener s)
 stream-named rs sc opener s h = let x = some-of (relationOf rs (s .relation)) (h .0) in (s .relation, x .0, x .1, x .1)
 
-streams-named : (rs : List Relation) (sc : Scope) (ss : List Stream) → EachScoped rs sc ss →
-    All (Named rs) (map (streamContext rs blr.for) ss)
-streams-named rs sc [] h = tt
-streams-named rs sc (s ∷ ss) h = (stream-named rs sc blr.for s (h .0), streams-named rs sc ss (h .1))
+streams-named : (rs : List Relation) (o : ℕ) (sc : Scope) (ss : List Stream) → EachScoped rs sc ss →
+    All (Named rs) (map (streamContext rs o) ss)
+streams-named rs o sc [] h = tt
+streams-named rs o sc (s ∷ ss) h = (stream-named rs sc o s (h .0), streams-named rs o sc ss (h .1))
 
-streams-declared : (rs : List Relation) (sc : Scope) (ss : List Stream) (p start end : ℕ) → EachScoped rs sc ss →
-    All (NamedAt rs) (streamsDeclared rs ss p start end)
+streams-declared : (rs : List Relation) (o : ℕ) (sc : Scope) (ss : List Stream) (p start end : ℕ) → EachScoped rs sc ss →
+    All (NamedAt rs) (streamsDeclared rs o ss p start end)
 unfolding streamsDeclared
-streams-declared rs sc [] p start end h = tt
-streams-declared rs sc (s ∷ ss) p start end h =
-    (stream-named rs sc blr.for s (h .0), streams-declared rs sc ss (p + length (streamBytes s)) start end (h .1))
+streams-declared rs o sc [] p start end h = tt
+streams-declared rs o sc (s ∷ ss) p start end h =
+    (stream-named rs sc o s (h .0), streams-declared rs o sc ss (p + length (streamBytes s)) start end (h .1))
 
 -- the context that a modify opens has the relation of the one that it names
 modify-named : (rs : List Relation) (sc : Scope) (from to : ℕ) → All (Named rs) (sc .contexts) → ofFor sc from ≡ true →
@@ -96,13 +96,13 @@ module _ (e : Environment) where
   both-named : (a b : List Declared) → DeclaredNamed a → DeclaredNamed b → DeclaredNamed (a ++ b)
   both-named a b h k = all-append (NamedAt relations) a b h k
 
-  streams-scope : (sc : Scope) (ss : List Stream) → ScopeNamed sc → EachScoped relations sc ss → ScopeNamed (underStreams relations sc ss)
+  streams-scope : (o : ℕ) (sc : Scope) (ss : List Stream) → ScopeNamed sc → EachScoped relations sc ss → ScopeNamed (underStreams relations o sc ss)
   unfolding underStreams
-  streams-scope sc ss a h = all-append (Named relations) (sc .contexts) (map (streamContext relations blr.for) ss) a (streams-named relations sc ss h)
+  streams-scope o sc ss a h = all-append (Named relations) (sc .contexts) (map (streamContext relations o) ss) a (streams-named relations o sc ss h)
 
-  rse-scope : (sc : Scope) (r : Rse) → ScopeNamed sc → RseAllowed e sc r → ScopeNamed (underRse relations sc r)
+  rse-scope : (sc : Scope) (r : Rse) → ScopeNamed sc → RseAllowed e blr.for sc r → ScopeNamed (underRse relations sc r)
   unfolding underRse
-  rse-scope sc (rse ss cs) a h = streams-scope sc ss a (h .1 .0)
+  rse-scope sc (rse ss cs) a h = streams-scope blr.for sc ss a (h .1 .0)
 
   mutual
     unfolding valueDeclared
@@ -132,6 +132,7 @@ module _ (e : Environment) where
         (boolean-named y sc (p + 1 + length (booleanBytes x)) a (h .1))
     boolean-named (not x) sc p a h = boolean-named x sc (p + 1) a h
     boolean-named (missing v) sc p a h = value-named v sc (p + 1) a h
+    boolean-named (quantify q r) sc p a h = rse-named (quantifierCode q) r sc (p + 1) (p + 1 + length (rseBytes r)) a (h .1)
 
     keys-named : (ks : Keys) (sc : Scope) (p : ℕ) → ScopeNamed sc → KeysAllowed e sc ks → DeclaredNamed (keysDeclared relations sc ks p)
     keys-named noKeys sc p a h = tt
@@ -149,11 +150,11 @@ module _ (e : Environment) where
         both-named (keysDeclared relations sc ks (p + 2)) _ (keys-named ks sc (p + 2) a (h .1))
         (clauses-named cs sc (p + 2 + length (keysBytes ks)) a (h .2))
 
-    rse-named : (r : Rse) (sc : Scope) (p end : ℕ) → ScopeNamed sc → RseAllowed e sc r → DeclaredNamed (rseDeclared relations sc r p end)
-    rse-named (rse ss cs) sc p end a h =
+    rse-named : (o : ℕ) (r : Rse) (sc : Scope) (p end : ℕ) → ScopeNamed sc → RseAllowed e o sc r → DeclaredNamed (rseDeclared relations o sc r p end)
+    rse-named o (rse ss cs) sc p end a h =
         let q = p + length (headBytes ss) in
-        both-named (streamsDeclared relations ss (p + 2) q end) _ (streams-declared relations sc ss (p + 2) q end (h .1 .0))
-        (clauses-named cs (underStreams relations sc ss) q (streams-scope sc ss a (h .1 .0)) (h .3))
+        both-named (streamsDeclared relations o ss (p + 2) q end) _ (streams-declared relations o sc ss (p + 2) q end (h .1 .0))
+        (clauses-named cs (underStreams relations o sc ss) q (streams-scope o sc ss a (h .1 .0)) (h .3))
 
   mutual
     unfolding declared
@@ -164,7 +165,7 @@ module _ (e : Environment) where
     declared-named (begin ss) sc p a h = all-named ss sc (p + 1) a h
     declared-named (erase c) sc p a h = tt
     declared-named (for r s) sc p a h =
-        both-named (rseDeclared relations sc r (p + 1) (p + size (for r s))) _ (rse-named r sc (p + 1) (p + size (for r s)) a (h .0))
+        both-named (rseDeclared relations blr.for sc r (p + 1) (p + size (for r s))) _ (rse-named blr.for r sc (p + 1) (p + size (for r s)) a (h .0))
         (declared-named s (underRse relations sc r) (p + 1 + length (rseBytes r)) (rse-scope sc r a (h .0)) (h .1))
     declared-named (headed g s) sc p a h =
         let x = heading-named sc g p (p + size (headed g s)) a (h .0) in

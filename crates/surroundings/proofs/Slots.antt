@@ -61,7 +61,7 @@ module _ (d t : List ℕ) (q : ℕ) where
 
 module _ (d : List ℕ) (rs : List Relation) (h : dictionary d ≡ proper rs) where
   -- a slot's place is that of the context's relation
-  slot-relation : (x : Context) (a : Named rs x) → relationAt d (slotFor d x .relation) ≡ a .1
+  pub slot-relation : (x : Context) (a : Named rs x) → relationAt d (slotFor d x .relation) ≡ a .1
   slot-relation x a =
       let z = entry-by-id d rs h (a .0) (a .1) (a .3) in
       ap (λ o. relationAt d (placeOr (relationPlace d (numbered (relationId o))))) (a .2) ∙ ap (λ o. relationAt d (placeOr o)) (z .1) ∙ z .2

@@ -2,4 +2,5 @@
 pub mod Parameters
 pub mod Slots
 pub mod Around
+pub mod Bindings
 pub mod Tables

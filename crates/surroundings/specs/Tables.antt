@@ -9,8 +9,8 @@ use Rattle.dictionary.specs.Format.{Format}
 use Rattle.dictionary.specs.Internal.FieldAnswers.{formatIs}
 use Rattle.grammar.specs.Conditions.{Condition}
 use Rattle.surroundings.specs.Slots.{Slot, relationsIn}
-use Rattle.surroundings.specs.declared.Found.{Found}
-use Rattle.surroundings.specs.declared.Found.the-variants as Found
+use Rattle.surroundings.specs.declared.Bound.{Bound}
+use Rattle.surroundings.specs.declared.Bound.the-variants as Bound
 use Rattle.surroundings.specs.declared.Parameter.{Parameter}
 use Rattle.surroundings.specs.declared.Parameter.the-variants as Parameter
 
@@ -30,10 +30,10 @@ pub record Laid (xs : List Slot) (numbers relations numbers′ relations′ : Li
   pub numbers-filled : numbers′ ≡ sets numbers 0 (numbersIn xs)
   pub relations-filled : relations′ ≡ sets relations 0 (relationsIn xs)
 
--- the answer for a slot that is found, or for none
-abbrev pub foundAnswer : Option (ℕ × ℕ) → Found
-foundAnswer none = Found.Nothing
-foundAnswer (some x) = Found.At (x .0) (x .1)
+-- the answer for a row that is found, or for none
+abbrev pub boundAnswer : Option ℕ → Bound
+boundAnswer none = Bound.Nothing
+boundAnswer (some row) = Bound.At row
 
 -- what an answer says: a format and a place, or that there is no such parameter
 abbrev pub parameterIs : Parameter → Option (Format × ℕ)

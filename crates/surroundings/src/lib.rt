@@ -1,14 +1,15 @@
-// From the reader's tables to what a condition needs: the bytes of all images, the contexts in scope, a context's record, and a parameter's
-// format and place.
+// From the reader's tables to what a condition needs: the bytes of all images, the contexts in scope, the table of bindings with
+// their records, and a parameter's format and place.
+pub mod bindings;
 pub mod images;
 pub mod scope;
 mod table;
 
 use dictionary::field::Description;
 
-// Where the entry of a context's relation stands in the dictionary, and its record among the records; or that there is no such context.
-pub enum Found {
-    At(usize, usize),
+// A row of the table of bindings, or that there is no such row.
+pub enum Bound {
+    At(usize),
     Nothing,
 }
 

@@ -1,21 +1,17 @@
-// Contexts in scope by the rows of the context table: number, place, scope start, scope end, relation id. Rows and slots after the most that
-// document 01 allows are not looked at.
+// Contexts in scope by the rows of the context table: number, place, scope start, scope end, relation id. Rows after the most that document
+// 01 allows are not looked at.
 ghost use mathlib.Core.Path.{_≡_};
 ghost use Prim.Native.Nat.{_≤_, min};
 ghost use Rattle.wire.specs.Limits.{maxContexts};
 ghost use Rattle.dictionary.specs.Naming.{numbered};
 ghost use Rattle.dictionary.specs.Internal.Walk.{relationPlace};
 ghost use Rattle.surroundings.specs.Slots.{rowHolds, placeOr, slotsFrom};
-ghost use Rattle.surroundings.specs.Around.{slotAt};
-ghost use Rattle.surroundings.specs.Tables.{slotsIn, Laid, foundAnswer};
-use crate::Found;
+ghost use Rattle.surroundings.specs.Tables.{Laid};
 use crate::table::smaller;
 use dictionary::lookup::Place;
 use dictionary::lookup::relation_numbered;
-use wire::bytes::word_at;
 use wire::limits::CONTEXT_ROW;
 use wire::limits::MAX_CONTEXTS;
-use wire::numbers::ContextNumber;
 use wire::rows::CONTEXT_END;
 use wire::rows::CONTEXT_NUMBER;
 use wire::rows::CONTEXT_RELATION;
@@ -35,7 +31,7 @@ fn row_holds(contexts: &[u32], at: usize, row: usize) -> bool
 }
 
 // Where the entry of the relation of an id stands; 0 where there is none.
-fn entry_of(dictionary: &[u8], id: u32) -> u32
+pub fn entry_of(dictionary: &[u8], id: u32) -> u32
     ensures { λ r. ⌜ r ≡ placeOr (relationPlace (now (dictionary .entry)) (numbered id)) ⌝ }
 {
     let place = relation_numbered(dictionary, id);
@@ -82,30 +78,4 @@ pub fn in_scope(
         row += 1;
     }
     filled
-}
-
-// The context of a number, among so many slots. Its record stands after those of the slots before it, by their length words.
-pub fn slot_of(
-    numbers: &[u32],
-    relations: &[u32],
-    count: usize,
-    records: &[u8],
-    number: ContextNumber,
-) -> Found
-    ensures { λ r.
-        ⌜ r ≡ foundAnswer
-        (slotAt (slotsIn (now (numbers .entry)) (now (relations .entry)) (min count maxContexts) 0) (now (records .entry)) 0 (number .0)) ⌝ }
-{
-    let slots = smaller(count, MAX_CONTEXTS);
-    let mut k: usize = 0;
-    let mut p: usize = 0;
-    while k < slots {
-        let next = p + word_at(records, p) as usize;
-        if number_at(numbers, k) == number.0 as u32 {
-            return Found::At(number_at(relations, k) as usize, p);
-        }
-        p = next;
-        k += 1;
-    }
-    Found::Nothing
 }

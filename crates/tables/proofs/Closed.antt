@@ -81,20 +81,20 @@ rows-closed (x ∷ xs) l rest row start end h k =
 -- ---- what was opened from a row on, up to a cursor
 
 -- the streams of an rse
-abbrev streamsPlaced : List Relation → List Stream → ℕ → List Placed
-streamsPlaced rs [] p = []
-streamsPlaced rs (s ∷ ss) p = (streamContext rs blr.for s, p) ∷ streamsPlaced rs ss (p + length (streamBytes s))
+abbrev streamsPlaced : List Relation → ℕ → List Stream → ℕ → List Placed
+streamsPlaced rs o [] p = []
+streamsPlaced rs o (s ∷ ss) p = (streamContext rs o s, p) ∷ streamsPlaced rs o ss (p + length (streamBytes s))
 
-streams-counted : (rs : List Relation) (ss : List Stream) (p : ℕ) → length (streamsPlaced rs ss p) ≡ length ss
-streams-counted rs [] p = refl
-streams-counted rs (s ∷ ss) p = ap suc (streams-counted rs ss (p + length (streamBytes s)))
+streams-counted : (rs : List Relation) (o : ℕ) (ss : List Stream) (p : ℕ) → length (streamsPlaced rs o ss p) ≡ length ss
+streams-counted rs o [] p = refl
+streams-counted rs o (s ∷ ss) p = ap suc (streams-counted rs o ss (p + length (streamBytes s)))
 
-streams-placed : (rs : List Relation) (ss : List Stream) (p start end : ℕ) →
-    streamRows rs ss p start end ≡ placedRows (streamsPlaced rs ss p) start end
+streams-placed : (rs : List Relation) (o : ℕ) (ss : List Stream) (p start end : ℕ) →
+    streamRows rs o ss p start end ≡ placedRows (streamsPlaced rs o ss p) start end
 unfolding streamRows
-streams-placed rs [] p start end = refl
-streams-placed rs (s ∷ ss) p start end =
-    ap (λ z. contextRow (streamContext rs blr.for s) p start end ++ z) (streams-placed rs ss (p + length (streamBytes s)) start end)
+streams-placed rs o [] p start end = refl
+streams-placed rs o (s ∷ ss) p start end =
+    ap (λ z. contextRow (streamContext rs o s) p start end ++ z) (streams-placed rs o ss (p + length (streamBytes s)) start end)
 
 module _ (l rest : List ℕ) (row : ℕ) (c end : Cursor) (f : Fit) (here : c .at ≤ maxRequestBytes) (there : end .at ≤ maxRequestBytes)
     (few : c .contexts ≤ maxContexts) where
@@ -108,13 +108,13 @@ module _ (l rest : List ℕ) (row : ℕ) (c end : Cursor) (f : Fit) (here : c .a
       rw (le-leb row (c .contexts) some, le-leb (c .contexts) maxContexts few, more)
       (rows-closed xs l rest row (c .at) (end .at) here there)
 
-  -- the streams of an rse
-  pub streams-closed : (rs : List Relation) (ss : List Stream) (p : ℕ) → c .contexts ≡ row + length ss →
-      closedAfter (sets l (row * contextRowNumbers) (streamRows rs ss p 0 0 ++ rest)) row c (Step.Next f end) ≡
-      sets l (row * contextRowNumbers) (streamRows rs ss p (c .at) (end .at) ++ rest)
-  streams-closed rs ss p e =
-      rw (streams-placed rs ss p 0 0, streams-placed rs ss p (c .at) (end .at))
-      (contexts-closed (streamsPlaced rs ss p) (e ∙ ap (λ n. row + n) (sym (streams-counted rs ss p))))
+  -- the streams of an rse, which a code opens
+  pub streams-closed : (rs : List Relation) (o : ℕ) (ss : List Stream) (p : ℕ) → c .contexts ≡ row + length ss →
+      closedAfter (sets l (row * contextRowNumbers) (streamRows rs o ss p 0 0 ++ rest)) row c (Step.Next f end) ≡
+      sets l (row * contextRowNumbers) (streamRows rs o ss p (c .at) (end .at) ++ rest)
+  streams-closed rs o ss p e =
+      rw (streams-placed rs o ss p 0 0, streams-placed rs o ss p (c .at) (end .at))
+      (contexts-closed (streamsPlaced rs o ss p) (e ∙ ap (λ n. row + n) (sym (streams-counted rs o ss p))))
 
   -- the context of a heading
   pub heading-closed : (rs : List Relation) (sc : Scope) (h : Heading) (p : ℕ) → c .at ≡ p + length (headingBytes h) →

@@ -16,19 +16,21 @@ use Rattle.values.specs.declared.Valued.the-variants as Valued
 use Rattle.values.specs.declared.Tested.{Tested}
 use Rattle.values.specs.declared.Tested.the-variants as Tested
 
--- the slices that texts stand in: the request, the message images and the records
+-- the slices that texts stand in: the request, the message images, the records and the runs
 pub record Lent : Type 0 where
   pub request : List ℕ
   pub images : List ℕ
   pub records : List ℕ
+  pub runs : List ℕ
 
-abbrev pub lent : List ℕ → List ℕ → List ℕ → Lent
-lent s i r = record { request = s; images = i; records = r }
+abbrev pub lent : List ℕ → List ℕ → List ℕ → List ℕ → Lent
+lent s i r u = record { request = s; images = i; records = r; runs = u }
 
 abbrev pub sourceIn : Lent → Source → List ℕ
 sourceIn m Source.Request = m .request
 sourceIn m Source.Images = m .images
 sourceIn m Source.Records = m .records
+sourceIn m Source.Runs = m .runs
 
 -- the bytes that hold a text
 unfoldable pub heldIn : Lent → Held → List ℕ

@@ -31,15 +31,16 @@ fn between_of<'a>(
     request: &'a [u8],
     images: &'a [u8],
     records: &'a [u8],
+    runs: &'a [u8],
     x: Value,
     y: Value,
     z: Value,
 ) -> Outcome
-    ensures { λ r. ⌜ BetweenOf (lent (now (request .entry)) (now (images .entry)) (now (records .entry))) x y z r ⌝ }
+    ensures { λ r. ⌜ BetweenOf (lent (now (request .entry)) (now (images .entry)) (now (records .entry)) (now (runs .entry))) x y z r ⌝ }
 {
     both_comparisons(
-        comparison_of(request, images, records, Comparison::Geq, x, y),
-        comparison_of(request, images, records, Comparison::Leq, x, z),
+        comparison_of(request, images, records, runs, Comparison::Geq, x, y),
+        comparison_of(request, images, records, runs, Comparison::Leq, x, z),
     )
 }
 
@@ -47,15 +48,16 @@ pub fn between<'a>(
     request: &'a [u8],
     images: &'a [u8],
     records: &'a [u8],
+    runs: &'a [u8],
     a: Valued,
     b: Valued,
     c: Valued,
 ) -> Tested
-    ensures { λ r. ⌜ Between (lent (now (request .entry)) (now (images .entry)) (now (records .entry))) a b c r ⌝ }
+    ensures { λ r. ⌜ Between (lent (now (request .entry)) (now (images .entry)) (now (records .entry)) (now (runs .entry))) a b c r ⌝ }
 {
     match in_order(a, b) {
         Operands::Are(x, y, _) => match c {
-            Valued::Is(z, end) => ended(between_of(request, images, records, x, y, z), end),
+            Valued::Is(z, end) => ended(between_of(request, images, records, runs, x, y, z), end),
             Valued::Refused(f, p) => Tested::Refused(f, p),
             Valued::Stray => Tested::Stray,
         },

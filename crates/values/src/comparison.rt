@@ -23,17 +23,18 @@ pub(crate) fn comparison_of<'a>(
     request: &'a [u8],
     images: &'a [u8],
     records: &'a [u8],
+    runs: &'a [u8],
     c: Comparison,
     x: Value,
     y: Value,
 ) -> Outcome
-    ensures { λ r. ⌜ ComparedOf (lent (now (request .entry)) (now (images .entry)) (now (records .entry))) c x y r ⌝ }
+    ensures { λ r. ⌜ ComparedOf (lent (now (request .entry)) (now (images .entry)) (now (records .entry)) (now (runs .entry))) c x y r ⌝ }
 {
     match paired(x, y) {
         Pair::Numbers(n, k) => Outcome::Is(truth_of(holds(c, decimal::compare(n, k)))),
         Pair::Texts(n, k) => {
-            let first = text_operand(request, images, records, n);
-            let second = text_operand(request, images, records, k);
+            let first = text_operand(request, images, records, runs, n);
+            let second = text_operand(request, images, records, runs, k);
             Outcome::Is(truth_of(holds(c, text::order::compare(first, second))))
         }
         Pair::Dates(n, k) => Outcome::Is(truth_of(holds(c, date_order(n, k)))),
@@ -46,14 +47,18 @@ pub fn comparison<'a>(
     request: &'a [u8],
     images: &'a [u8],
     records: &'a [u8],
+    runs: &'a [u8],
     c: Comparison,
     a: Valued,
     b: Valued,
 ) -> Tested
-    ensures { λ r. ⌜ Compared (lent (now (request .entry)) (now (images .entry)) (now (records .entry))) c a b r ⌝ }
+    ensures { λ r. ⌜ Compared (lent (now (request .entry)) (now (images .entry)) (now (records .entry)) (now (runs .entry))) c a b r ⌝ }
 {
     match in_order(a, b) {
-        Operands::Are(x, y, end) => ended(comparison_of(request, images, records, c, x, y), end),
+        Operands::Are(x, y, end) => ended(
+            comparison_of(request, images, records, runs, c, x, y),
+            end,
+        ),
         Operands::Refused(f, p) => Tested::Refused(f, p),
         Operands::Stray => Tested::Stray,
     }

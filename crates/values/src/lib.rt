@@ -24,6 +24,7 @@ pub enum Source {
     Request,
     Images,
     Records,
+    Runs,
 }
 
 // The bytes that hold a text: where they start and end in their slice, and the type that says which part of them is the text.

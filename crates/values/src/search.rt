@@ -33,17 +33,18 @@ fn text_search_of<'a>(
     request: &'a [u8],
     images: &'a [u8],
     records: &'a [u8],
+    runs: &'a [u8],
     t: TextSearch,
     x: Value,
     y: Value,
 ) -> Outcome
-    ensures { λ r. ⌜ SearchedOf (lent (now (request .entry)) (now (images .entry)) (now (records .entry))) t x y r ⌝ }
+    ensures { λ r. ⌜ SearchedOf (lent (now (request .entry)) (now (images .entry)) (now (records .entry)) (now (runs .entry))) t x y r ⌝ }
 {
     match paired(x, y) {
         Pair::Numbers(_, _) => Outcome::Stray,
         Pair::Texts(n, k) => {
-            let first = text_operand(request, images, records, n);
-            let second = text_operand(request, images, records, k);
+            let first = text_operand(request, images, records, runs, n);
+            let second = text_operand(request, images, records, runs, k);
             Outcome::Is(truth_of(text::search::searched(t, first, second)))
         }
         Pair::Dates(_, _) => Outcome::Stray,
@@ -57,14 +58,18 @@ pub fn text_search<'a>(
     request: &'a [u8],
     images: &'a [u8],
     records: &'a [u8],
+    runs: &'a [u8],
     t: TextSearch,
     a: Valued,
     b: Valued,
 ) -> Tested
-    ensures { λ r. ⌜ Searched (lent (now (request .entry)) (now (images .entry)) (now (records .entry))) t a b r ⌝ }
+    ensures { λ r. ⌜ Searched (lent (now (request .entry)) (now (images .entry)) (now (records .entry)) (now (runs .entry))) t a b r ⌝ }
 {
     match in_order(a, b) {
-        Operands::Are(x, y, end) => ended(text_search_of(request, images, records, t, x, y), end),
+        Operands::Are(x, y, end) => ended(
+            text_search_of(request, images, records, runs, t, x, y),
+            end,
+        ),
         Operands::Refused(f, p) => Tested::Refused(f, p),
         Operands::Stray => Tested::Stray,
     }

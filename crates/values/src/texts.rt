@@ -24,8 +24,14 @@ fn part<'a>(s: &'a [u8], start: usize, end: usize) -> &'a [u8]
 }
 
 // The bytes that hold a text.
-fn held_bytes<'a>(request: &'a [u8], images: &'a [u8], records: &'a [u8], held: Held) -> &'a [u8]
-    ensures { λ r. ⌜ now r ≡ heldIn (lent (now (request .entry)) (now (images .entry)) (now (records .entry))) held ⌝ }
+fn held_bytes<'a>(
+    request: &'a [u8],
+    images: &'a [u8],
+    records: &'a [u8],
+    runs: &'a [u8],
+    held: Held,
+) -> &'a [u8]
+    ensures { λ r. ⌜ now r ≡ heldIn (lent (now (request .entry)) (now (images .entry)) (now (records .entry)) (now (runs .entry))) held ⌝ }
 {
     let source = held.source;
     let start = held.start;
@@ -34,6 +40,7 @@ fn held_bytes<'a>(request: &'a [u8], images: &'a [u8], records: &'a [u8], held: 
         Source::Request => part(request, start, end),
         Source::Images => part(images, start, end),
         Source::Records => part(records, start, end),
+        Source::Runs => part(runs, start, end),
     }
 }
 
@@ -42,10 +49,11 @@ pub(crate) fn text_operand<'a>(
     request: &'a [u8],
     images: &'a [u8],
     records: &'a [u8],
+    runs: &'a [u8],
     held: Held,
 ) -> &'a [u8]
-    ensures { λ r. ⌜ now r ≡ textIn (lent (now (request .entry)) (now (images .entry)) (now (records .entry))) held ⌝ }
+    ensures { λ r. ⌜ now r ≡ textIn (lent (now (request .entry)) (now (images .entry)) (now (records .entry)) (now (runs .entry))) held ⌝ }
 {
     let of = held.of;
-    text_of(of, held_bytes(request, images, records, held))
+    text_of(of, held_bytes(request, images, records, runs, held))
 }

@@ -11,25 +11,27 @@ use Rattle.dictionary.specs.Dictionary.{Relation}
 use Rattle.grammar.specs.Tree.{Request}
 use Rattle.grammar.specs.Bytes.{messagesBytes, statementsBytes, booleanBytes, requestBytes}
 use Rattle.grammar.specs.Environment.{outermost}
-use Rattle.grammar.specs.Rules.{environment}
+use Rattle.grammar.specs.Rules.{BooleanAllowed, environment}
 use Rattle.grammar.specs.Rows.{statementsStart, requestContextRows}
 use Rattle.grammar.specs.Conditions.{Condition, requestConditions}
 use Rattle.grammar.proofs.StepLaws.{absurd-eq}
 use Rattle.grammar.proofs.Complete.{version-back}
 use Rattle.meaning.specs.Data.{Result}
-use Rattle.meaning.specs.Inputs.{fetch}
-use Rattle.meaning.specs.Meaning.{meaning, truthOf, booleanSize}
+use Rattle.meaning.specs.Runs.{dueRuns, lentRuns, fetchAround}
+use Rattle.meaning.specs.Meaning.{meaning, truthOf, booleanSize, around}
 use Rattle.meaning.specs.Demand.{Accepted, Asked, NotStray}
 use Rattle.meaning.proofs.House.{house-is}
-use Rattle.walking.specs.Walk.{ended, versionAt, booleanAt}
+use Rattle.walking.specs.Walk.{ended, versionAt, Sight, booleanAt}
+use Rattle.walking.specs.Sees.{Sees}
 use Rattle.walking.specs.Declared.{Declared, declaredAll, rowsOf, contextsAt}
 use Rattle.walking.proofs.Link.{past, boolean-walk}
+use Rattle.walking.proofs.Due.{all-lent}
 use Rattle.walking.proofs.Sites.{All, Holds, all-sites, contexts-rows}
 use Rattle.walking.proofs.Stray.{never-stray}
 use Rattle.walking.proofs.Typed.{typed}
 use Rattle.walking.proofs.Decoded.{decoded}
 
-at-index : {A : Type 0} (P : A → Type 0) (l : List A) (n : ℕ) (x : A) → All P l → getElem? l n ≡ some x → P x
+pub at-index : {A : Type 0} (P : A → Type 0) (l : List A) (n : ℕ) (x : A) → All P l → getElem? l n ≡ some x → P x
 at-index P [] n x h e = absurd-eq (cc)
 at-index P (y ∷ l) zero x h e = let z : y ≡ x = cc in subst P z (h .0)
 at-index P (y ∷ l) (suc n) x h e = at-index P l n x (h .1) e
@@ -43,7 +45,7 @@ unfolding requestContextRows declarations
 rows-are rs t = contexts-rows rs (t .statements) outermost (statementsStart t)
 
 module _ (s d : List ℕ) (rs : List Relation) (t : Request) (a : Accepted s d rs t) (n : ℕ) (x : Condition) (c : Asked rs t n x) where
-  site : Holds s (environment rs t) (statementsStart t) (statementsStart t + length (statementsBytes (t .statements))) 32 [] (declarations rs t) x
+  pub site : Holds s (environment rs t) (statementsStart t) (statementsStart t + length (statementsBytes (t .statements))) 32 [] (declarations rs t) x
   unfolding requestConditions requestBytes declarations
   site =
       let ms = messagesBytes (t .messages) in
@@ -65,6 +67,10 @@ module _ (s d : List ℕ) (rs : List Relation) (t : Request) (a : Accepted s d r
   pub stands-after : statementsStart t ≤ x .place
   stands-after = site .after
 
+  -- the rules allow it where it stands
+  pub allowed-there : BooleanAllowed (environment rs t) (x .scope) (x .boolean)
+  allowed-there = site .allowed
+
   -- its last byte is one of the request's
   pub stands-within : x .place + booleanSize (x .boolean) ≤ length s
   unfolding requestBytes
@@ -80,21 +86,24 @@ module _ (s d : List ℕ) (rs : List Relation) (t : Request) (a : Accepted s d r
   pub scope-by-rows : x .scope .contexts ≡ contextsAt (x .place) (declarations rs t)
   scope-by-rows = site .scoped
 
-  module _ (images rows : List ℕ) where
-    pub means : meaning s d n images rows ≡ truthOf (t .version) (fetch (t .messages) (x .scope) images rows) (x .place) (x .boolean)
+  module _ (images rows runs : List ℕ) where
+    pub means : meaning s d n images rows runs ≡ truthOf (t .version) (around rs t x images rows runs) (x .place) (x .boolean)
     unfolding meaning
     means = rw (a .bytes, decoded t, house-is d rs (a .house), c)
 
-    -- the walk over the bytes from the condition's place on gives the meaning
-    pub walks : booleanAt (fetch (t .messages) (x .scope) images rows) 32 s (x .place) ≡ ended (meaning s d n images rows) (x .place + booleanSize (x .boolean))
-    walks =
-        boolean-walk s (fetch (t .messages) (x .scope) images rows) (x .boolean) 32 (x .place) (site .rest) (site .shallow) (site .stands)
-        ∙ ap (λ v. ended (truthOf v (fetch (t .messages) (x .scope) images rows) (x .place) (x .boolean)) (x .place + booleanSize (x .boolean))) first-version
+    -- the walk over the bytes from the condition's place on gives the meaning, wherever it is seen from
+    pub walks : {E : Type 0} (w : Sight E) (y : E) → Sees w y (around rs t x images rows runs) (x .boolean) (x .place) →
+        booleanAt w y 32 s (x .place) ≡ ended (meaning s d n images rows runs) (x .place + booleanSize (x .boolean))
+    walks w y h =
+        boolean-walk s w (x .boolean) y (around rs t x images rows runs) 32 (x .place) (site .rest) (site .shallow) (site .stands) h
+        ∙ ap (λ v. ended (truthOf v (around rs t x images rows runs) (x .place) (x .boolean)) (x .place + booleanSize (x .boolean))) first-version
         ∙ ap (λ z. ended z (x .place + booleanSize (x .boolean))) (sym means)
 
     -- "stray never occurs"
-    pub never : NotStray (meaning s d n images rows)
+    pub never : NotStray (meaning s d n images rows runs)
+    unfolding around fetchAround
     never =
+        let due = dueRuns rs (x .boolean) (x .place) in
         subst NotStray (sym means)
-        (never-stray (environment rs t) (x .scope) (fetch (t .messages) (x .scope) images rows) (typed (environment rs t) (x .scope) images rows)
-        (x .boolean) (x .place) (site .allowed))
+        (never-stray (environment rs t) images (lentRuns due runs) (λ sc more. typed (environment rs t) sc images more)
+        (x .boolean) (x .scope) rows (x .place) (site .allowed) (all-lent due runs))

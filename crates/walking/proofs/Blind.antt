@@ -1,6 +1,6 @@
 -- Two sets of records that differ only inside fields missing in both give the same values.
 use Prim.Native.Nat.{ℕ, zero, suc, _+_, _-_, _*_, _/_, _%_, _^_, _<_, _≤_, min}
-use mathlib.Core.Path.{_≡_, refl, sym, ap, ap₂, _∙_, fun-ext}
+use mathlib.Core.Path.{_≡_, refl, sym, ap, ap₂, _∙_}
 use mathlib.Core.Logic.{_⊎_, inl, inr, ⊎-elim}
 use mathlib.Core.Bool.{Bool, true, false, _||_}
 use mathlib.Core.List.{List, [], _∷_}
@@ -14,7 +14,6 @@ use lib.IntN.{pos}
 use Rattle.wire.specs.declared.codes.FieldType.{FieldType}
 use Rattle.wire.specs.declared.codes.FieldType.the-variants.{Plain, Reading}
 use Rattle.wire.specs.declared.codes.DataType.the-variants as Data
-use Rattle.wire.specs.declared.codes.Version.{Version}
 use Rattle.wire.specs.declared.codes.Width.the-variants.{Short, Long, Int64}
 use Rattle.meaning.specs.Data.{number, date, absent}
 use Rattle.wire.specs.Words.{byteAt, wordAt, longAt, int64At, signed}
@@ -24,11 +23,10 @@ use Rattle.dictionary.specs.Naming.{Name, fieldOf, formatOf, fieldFormat}
 use Rattle.records.specs.Record.{fieldCount, missingBytes, packed, offsetOf, recordLength, bitAt, fieldPlace, readingMissing, fieldMissing, presenceOf, fieldPresence, isMissing}
 use Rattle.records.specs.declared.missing.Presence.{Presence}
 use Rattle.records.specs.declared.missing.Presence.the-variants.{There, Missing}
-use Rattle.grammar.specs.Tree.{Message, Reference, field, parameter, parameter2, Boolean}
+use Rattle.grammar.specs.Tree.{Message, Reference, field, parameter, parameter2}
 use Rattle.grammar.specs.Environment.{Context, Scope}
 use Rattle.grammar.proofs.StepLaws.{absurd-eq}
-use Rattle.meaning.specs.Meaning.{truthOf}
-use Rattle.meaning.specs.Inputs.{Fetched, value, onFound, lengthOf, recordPlace, fieldIn, fieldNamed, fieldValue, valueAt, typeValue, textIn, unlessMissing, fetch}
+use Rattle.meaning.specs.Inputs.{value, onFound, lengthOf, recordPlace, fieldIn, fieldNamed, fieldValue, valueAt, typeValue, textIn, unlessMissing, fetch}
 use Rattle.walking.proofs.Alike.{InsideMissing, Alike}
 
 -- ---- where records and fields stand
@@ -68,15 +66,15 @@ module _ (r : Relation) (i : ℕ) (f : Format) (e : formatOf r i ≡ some f) whe
   unfolding offsetOf formatOf
   before-field m l = let h = format-field (getElem? (r .fields) i) f e in let w = ap held (h .2) in omega (arith, w, next-field (r .fields) i m (h .0) (h .1) l)
 
-  in-record : offsetOf r i + held f ≤ recordLength r
+  pub in-record : offsetOf r i + held f ≤ recordLength r
   unfolding offsetOf recordLength formatOf
   in-record = let h = format-field (getElem? (r .fields) i) f e in let w = ap held (h .2) in let z = last-field (r .fields) i (h .0) (h .1) .0 in omega (arith, w, z)
 
-  few : i < fieldCount r
+  pub few : i < fieldCount r
   unfolding formatOf
   few = let h = format-field (getElem? (r .fields) i) f e in last-field (r .fields) i (h .0) (h .1) .1
 
-after-bits : (r : Relation) (i : ℕ) → 6 + missingBytes r ≤ offsetOf r i
+pub after-bits : (r : Relation) (i : ℕ) → 6 + missingBytes r ≤ offsetOf r i
 unfolding offsetOf
 after-bits r i = omega arith
 
@@ -304,7 +302,3 @@ unfolding fetch
 same-references ms sc images rows rows′ w (field c n) = same-fields (sc .contexts) rows rows′ w c n
 same-references ms sc images rows rows′ w (parameter m i) = refl
 same-references ms sc images rows rows′ w (parameter2 m i flag) = refl
-
-pub blind : (v : Version) (ms : List Message) (sc : Scope) (images rows rows′ : List ℕ) → Alike (sc .contexts) rows rows′ → (p : ℕ) (b : Boolean) →
-    truthOf v (fetch ms sc images rows) p b ≡ truthOf v (fetch ms sc images rows′) p b
-blind v ms sc images rows rows′ w p b = ap (λ (g : Reference → Fetched). truthOf v g p b) (fun-ext (same-references ms sc images rows rows′ w))

@@ -18,11 +18,11 @@ use Rattle.wire.specs.declared.codes.Width.{Width}
 use Rattle.wire.specs.declared.codes.Width.the-variants.{Short, Long, Int64}
 use Rattle.dictionary.specs.Naming.{Name, named, numbered}
 use Rattle.grammar.specs.Tree as Tree
-use Rattle.grammar.specs.Tree.{Descriptor, Message, Stream, Heading, loop, modify, handler, receive, send, store, label, Keys, noKeys, key, Clauses, noClauses, such, sorted, Rse, rse, Statement, assignment, begin, erase, for, headed, leave, if, ifElse, select, Statements, none as nothing, Receives, last, more, Request, Literal, Reference, field, parameter, parameter2, Value, literal, reference, arithmetic, negate, Boolean, compare, search, between, connect, not, missing}
+use Rattle.grammar.specs.Tree.{Descriptor, Message, Stream, Heading, loop, modify, handler, receive, send, store, label, Keys, noKeys, key, Clauses, noClauses, such, sorted, Rse, rse, Statement, assignment, begin, erase, for, headed, leave, if, ifElse, select, Statements, none as nothing, Receives, last, more, Request, Literal, Reference, field, parameter, parameter2, Value, literal, reference, arithmetic, negate, Boolean, compare, search, between, connect, not, missing, quantify}
 use Rattle.grammar.specs.Bytes as Bytes
 use Rattle.grammar.specs.Bytes.{widthCode, operatorCode, comparisonCode, searchCode, connectiveCode, directionCode, textCode, numberBytes, descriptorBytes, descriptorsBytes, messageBytes, messagesBytes, streamBytes, streamsBytes, literalBytes, referenceBytes, headingBytes, valueBytes, booleanBytes, keyCount, keysBytes, clausesBytes, headBytes, rseBytes, statementBytes, statementsBytes, receivesBytes, requestBytes}
 use Rattle.grammar.specs.Sizes.{valueDepth, booleanDepth, keysDepth, clausesDepth, rseDepth, statementDepth, statementsDepth, receivesDepth}
-use Rattle.grammar.proofs.Due.{width-due, text-due, number-due, operator-due, comparison-due, search-due, connective-due, direction-due}
+use Rattle.grammar.proofs.Due.{width-due, text-due, number-due, operator-due, comparison-due, search-due, connective-due, quantifier-due, direction-due}
 use Rattle.grammar.proofs.Found.{Other, other-first}
 use Rattle.grammar.proofs.Complete.{version-back}
 use Rattle.grammar.proofs.CompleteStatements.{statement-first}
@@ -99,31 +99,6 @@ value-back (arithmetic o v w) (suc l) post h =
 value-back (negate v) zero post h = absurd (omega arith)
 value-back (negate v) (suc l) post h = rw (value-back v l post (omega arith))
 
-pub boolean-back : (b : Boolean) (l : ℕ) (post : List ℕ) → booleanDepth b ≤ l → boolean l (booleanBytes b ++ post) ≡ some (b, post)
-unfolding booleanDepth booleanBytes boolean booleanUnder booleanClass classify coded byte
-boolean-back (compare c v w) zero post h = absurd (omega arith)
-boolean-back (compare c v w) (suc l) post h =
-    rw (comparison-due c, append-assoc (valueBytes v) (valueBytes w) post, value-back v l (valueBytes w ++ post) (omega arith), value-back w l post (omega arith))
-boolean-back (search t v w) zero post h = absurd (omega arith)
-boolean-back (search t v w) (suc l) post h =
-    rw (search-due t, append-assoc (valueBytes v) (valueBytes w) post, value-back v l (valueBytes w ++ post) (omega arith), value-back w l post (omega arith))
-boolean-back (between u v w) zero post h = absurd (omega arith)
-boolean-back (between u v w) (suc l) post h =
-    rw (
-      append-assoc (valueBytes u ++ valueBytes v) (valueBytes w) post,
-      append-assoc (valueBytes u) (valueBytes v) (valueBytes w ++ post),
-      value-back u l (valueBytes v ++ (valueBytes w ++ post)) (omega arith),
-      value-back v l (valueBytes w ++ post) (omega arith),
-      value-back w l post (omega arith),
-    )
-boolean-back (connect c a b) zero post h = absurd (omega arith)
-boolean-back (connect c a b) (suc l) post h =
-    rw (connective-due c, append-assoc (booleanBytes a) (booleanBytes b) post, boolean-back a l (booleanBytes b ++ post) (omega arith), boolean-back b l post (omega arith))
-boolean-back (not a) zero post h = absurd (omega arith)
-boolean-back (not a) (suc l) post h = rw (boolean-back a l post (omega arith))
-boolean-back (missing v) zero post h = absurd (omega arith)
-boolean-back (missing v) (suc l) post h = rw (value-back v l post (omega arith))
-
 -- ---- rses
 
 stream-back : (x : Stream) (post : List ℕ) → stream (streamBytes x ++ post) ≡ some (x, post)
@@ -150,30 +125,59 @@ clauseCount noClauses = 0
 clauseCount (such b cs) = suc (clauseCount cs)
 clauseCount (sorted ks cs) = suc (clauseCount cs)
 
-clauses-back : (cs : Clauses) (n l : ℕ) (post : List ℕ) → clausesDepth cs ≤ l → clauseCount cs < n →
-    clauses n (boolean l) (value l) (clausesBytes cs ++ post) ≡ some (cs, post)
-unfolding clausesDepth clauseCount clausesBytes clauses clausesUnder clauseClass classify coded byte
-clauses-back noClauses zero l post h k = absurd (omega arith)
-clauses-back noClauses (suc n) l post h k = refl
-clauses-back (such b cs) zero l post h k = absurd (omega arith)
-clauses-back (such b cs) (suc n) l post h k =
-    rw (append-assoc (booleanBytes b) (clausesBytes cs) post, boolean-back b l (clausesBytes cs ++ post) (omega arith), clauses-back cs n l post (omega arith) (omega arith))
-clauses-back (sorted ks cs) zero l post h k = absurd (omega arith)
-clauses-back (sorted ks cs) (suc n) l post h k =
-    rw (append-assoc (keysBytes ks) (clausesBytes cs) post, keys-back ks l (clausesBytes cs ++ post) (omega arith), clauses-back cs n l post (omega arith) (omega arith))
-
 clauses-few : (cs : Clauses) → clauseCount cs < length (clausesBytes cs)
 unfolding clauseCount clausesBytes
 clauses-few noClauses = omega arith
 clauses-few (such b cs) = omega (arith, clauses-few cs, length-append (booleanBytes b) (clausesBytes cs))
 clauses-few (sorted ks cs) = omega (arith, clauses-few cs, length-append (keysBytes ks) (clausesBytes cs))
 
-rse-back : (r : Rse) (n l : ℕ) (post : List ℕ) → rseDepth r ≤ l → length (rseBytes r) ≤ n → rseOf n (boolean l) (value l) (rseBytes r ++ post) ≡ some (r, post)
-unfolding rseDepth rseBytes headBytes rseOf code byte
-rse-back (rse ss cs) n l post h k =
-    let z = clauses-few cs in
-    let y = length-append (streamsBytes ss) (clausesBytes cs) in
-    rw (append-assoc (streamsBytes ss) (clausesBytes cs) post, streams-back ss (clausesBytes cs ++ post), clauses-back cs n l post h (omega (arith, z, y, k)))
+-- ---- booleans, clauses and rses; n bounds the clauses of each rse
+
+mutual
+  unfolding booleanDepth booleanBytes boolean booleanUnder booleanClass clausesDepth clauseCount clausesBytes clauses clausesUnder clauseClass rseDepth rseBytes headBytes rseOf code classify coded byte
+
+  pub boolean-back : (b : Boolean) (n l : ℕ) (post : List ℕ) → booleanDepth b ≤ l → length (booleanBytes b) ≤ n → boolean n l (booleanBytes b ++ post) ≡ some (b, post)
+  boolean-back (compare c v w) n zero post h k = absurd (omega arith)
+  boolean-back (compare c v w) n (suc l) post h k =
+      rw (comparison-due c, append-assoc (valueBytes v) (valueBytes w) post, value-back v l (valueBytes w ++ post) (omega arith), value-back w l post (omega arith))
+  boolean-back (search t v w) n zero post h k = absurd (omega arith)
+  boolean-back (search t v w) n (suc l) post h k =
+      rw (search-due t, append-assoc (valueBytes v) (valueBytes w) post, value-back v l (valueBytes w ++ post) (omega arith), value-back w l post (omega arith))
+  boolean-back (between u v w) n zero post h k = absurd (omega arith)
+  boolean-back (between u v w) n (suc l) post h k =
+      rw (
+        append-assoc (valueBytes u ++ valueBytes v) (valueBytes w) post,
+        append-assoc (valueBytes u) (valueBytes v) (valueBytes w ++ post),
+        value-back u l (valueBytes v ++ (valueBytes w ++ post)) (omega arith),
+        value-back v l (valueBytes w ++ post) (omega arith),
+        value-back w l post (omega arith),
+      )
+  boolean-back (connect c a b) n zero post h k = absurd (omega arith)
+  boolean-back (connect c a b) n (suc l) post h k =
+      rw (connective-due c, append-assoc (booleanBytes a) (booleanBytes b) post, boolean-back a n l (booleanBytes b ++ post) (omega arith) (omega (arith, length-append (booleanBytes a) (booleanBytes b))), boolean-back b n l post (omega arith) (omega (arith, length-append (booleanBytes a) (booleanBytes b))))
+  boolean-back (not a) n zero post h k = absurd (omega arith)
+  boolean-back (not a) n (suc l) post h k = rw (boolean-back a n l post (omega arith) (omega arith))
+  boolean-back (missing v) n zero post h k = absurd (omega arith)
+  boolean-back (missing v) n (suc l) post h k = rw (value-back v l post (omega arith))
+  boolean-back (quantify q r) n zero post h k = absurd (omega arith)
+  boolean-back (quantify q r) n (suc l) post h k = rw (quantifier-due q, rse-back r n l post (omega arith) (omega arith))
+
+  clauses-back : (cs : Clauses) (m n l : ℕ) (post : List ℕ) → clausesDepth cs ≤ l → length (clausesBytes cs) ≤ n → clauseCount cs < m →
+      clauses m (boolean n l) (value l) (clausesBytes cs ++ post) ≡ some (cs, post)
+  clauses-back noClauses zero n l post h i k = absurd (omega arith)
+  clauses-back noClauses (suc m) n l post h i k = refl
+  clauses-back (such b cs) zero n l post h i k = absurd (omega arith)
+  clauses-back (such b cs) (suc m) n l post h i k =
+      rw (append-assoc (booleanBytes b) (clausesBytes cs) post, boolean-back b n l (clausesBytes cs ++ post) (omega arith) (omega (arith, length-append (booleanBytes b) (clausesBytes cs))), clauses-back cs m n l post (omega arith) (omega (arith, length-append (booleanBytes b) (clausesBytes cs))) (omega arith))
+  clauses-back (sorted ks cs) zero n l post h i k = absurd (omega arith)
+  clauses-back (sorted ks cs) (suc m) n l post h i k =
+      rw (append-assoc (keysBytes ks) (clausesBytes cs) post, keys-back ks l (clausesBytes cs ++ post) (omega arith), clauses-back cs m n l post (omega arith) (omega (arith, length-append (keysBytes ks) (clausesBytes cs))) (omega arith))
+
+  rse-back : (r : Rse) (n l : ℕ) (post : List ℕ) → rseDepth r ≤ l → length (rseBytes r) ≤ n → rseOf n (boolean n l) (value l) (rseBytes r ++ post) ≡ some (r, post)
+  rse-back (rse ss cs) n l post h k =
+      let z = clauses-few cs in
+      let y = length-append (streamsBytes ss) (clausesBytes cs) in
+      rw (append-assoc (streamsBytes ss) (clausesBytes cs) post, streams-back ss (clausesBytes cs ++ post), clauses-back cs n n l post h (omega (arith, y, k)) (omega (arith, z, y, k)))
 
 -- ---- statements
 
@@ -212,7 +216,7 @@ heading-back (label m) n inner bs vs t post e = rw e
 module _ (n : ℕ) where
   -- what stands under a statement's code, with so many levels below it
   under : ℕ → Decoder Statement
-  under l = coded statementClass >>= (λ c. statementUnder n (statement n l) (boolean l) (value l) c)
+  under l = coded statementClass >>= (λ c. statementUnder n (statement n l) (boolean n l) (value l) c)
 
   level : (l : ℕ) (s : List ℕ) → 0 < l → statement n l s ≡ under (l - 1) s
   unfolding statement under
@@ -243,7 +247,7 @@ module _ (n : ℕ) where
     statement-back (headed x t) l post h k =
         let z = length-append (headingBytes x) (statementBytes t) in
         level l _ (omega arith) ∙
-        heading-back x n (statement n (l - 1)) (boolean (l - 1)) (value (l - 1)) t post (statement-back t (l - 1) post (omega arith) (omega (arith, z)))
+        heading-back x n (statement n (l - 1)) (boolean n (l - 1)) (value (l - 1)) t post (statement-back t (l - 1) post (omega arith) (omega (arith, z)))
     statement-back (leave m) l post h k = level l _ (omega arith)
     statement-back (if b t) l post h k =
         let z = length-append (booleanBytes b ++ statementBytes t) (blr.end ∷ []) in
@@ -252,7 +256,7 @@ module _ (n : ℕ) where
         rw (
           append-assoc (booleanBytes b ++ statementBytes t) (blr.end ∷ []) post,
           append-assoc (booleanBytes b) (statementBytes t) (blr.end ∷ post),
-          boolean-back b (l - 1) (statementBytes t ++ (blr.end ∷ post)) (omega arith),
+          boolean-back b n (l - 1) (statementBytes t ++ (blr.end ∷ post)) (omega arith) (omega (arith, z, y)),
           statement-back t (l - 1) (blr.end ∷ post) (omega arith) (omega (arith, z, y)),
           end-done (if b t) _ post,
         )
@@ -263,7 +267,7 @@ module _ (n : ℕ) where
         rw (
           append-assoc (booleanBytes b ++ statementBytes t) (statementBytes u) post,
           append-assoc (booleanBytes b) (statementBytes t) (statementBytes u ++ post),
-          boolean-back b (l - 1) (statementBytes t ++ (statementBytes u ++ post)) (omega arith),
+          boolean-back b n (l - 1) (statementBytes t ++ (statementBytes u ++ post)) (omega arith) (omega (arith, z, y)),
           statement-back t (l - 1) (statementBytes u ++ post) (omega arith) (omega (arith, z, y)),
           end-other (if b t) (one (ifElse b t) (statement n (l - 1))) (statementBytes u ++ post) (not-end u post),
           statement-back u (l - 1) post (omega arith) (omega (arith, z, y)),
@@ -353,30 +357,31 @@ value-few (reference (parameter2 m i flag)) = omega arith
 value-few (arithmetic o v w) = omega (arith, value-few v, value-few w, length-append (valueBytes v) (valueBytes w))
 value-few (negate v) = omega (arith, value-few v)
 
-boolean-few : (b : Boolean) → booleanDepth b ≤ length (booleanBytes b)
-unfolding booleanDepth booleanBytes
-boolean-few (compare c v w) = omega (arith, value-few v, value-few w, length-append (valueBytes v) (valueBytes w))
-boolean-few (search t v w) = omega (arith, value-few v, value-few w, length-append (valueBytes v) (valueBytes w))
-boolean-few (between u v w) =
-    omega (arith, value-few u, value-few v, value-few w, length-append (valueBytes u ++ valueBytes v) (valueBytes w), length-append (valueBytes u) (valueBytes v))
-boolean-few (connect c a b) = omega (arith, boolean-few a, boolean-few b, length-append (booleanBytes a) (booleanBytes b))
-boolean-few (not a) = omega (arith, boolean-few a)
-boolean-few (missing v) = omega (arith, value-few v)
-
 keys-few : (ks : Keys) → keysDepth ks ≤ length (keysBytes ks)
 unfolding keysDepth keysBytes
 keys-few noKeys = omega arith
 keys-few (key d v ks) = omega (arith, value-few v, keys-few ks, length-append (valueBytes v) (keysBytes ks))
 
-clauses-deep : (cs : Clauses) → clausesDepth cs ≤ length (clausesBytes cs)
-unfolding clausesDepth clausesBytes
-clauses-deep noClauses = omega arith
-clauses-deep (such b cs) = omega (arith, boolean-few b, clauses-deep cs, length-append (booleanBytes b) (clausesBytes cs))
-clauses-deep (sorted ks cs) = omega (arith, keys-few ks, clauses-deep cs, length-append (keysBytes ks) (clausesBytes cs))
+mutual
+  unfolding booleanDepth booleanBytes clausesDepth clausesBytes rseDepth rseBytes
 
-rse-few : (r : Rse) → rseDepth r ≤ length (rseBytes r)
-unfolding rseDepth rseBytes
-rse-few (rse ss cs) = omega (arith, clauses-deep cs, length-append (headBytes ss) (clausesBytes cs))
+  boolean-few : (b : Boolean) → booleanDepth b ≤ length (booleanBytes b)
+  boolean-few (compare c v w) = omega (arith, value-few v, value-few w, length-append (valueBytes v) (valueBytes w))
+  boolean-few (search t v w) = omega (arith, value-few v, value-few w, length-append (valueBytes v) (valueBytes w))
+  boolean-few (between u v w) =
+      omega (arith, value-few u, value-few v, value-few w, length-append (valueBytes u ++ valueBytes v) (valueBytes w), length-append (valueBytes u) (valueBytes v))
+  boolean-few (connect c a b) = omega (arith, boolean-few a, boolean-few b, length-append (booleanBytes a) (booleanBytes b))
+  boolean-few (not a) = omega (arith, boolean-few a)
+  boolean-few (missing v) = omega (arith, value-few v)
+  boolean-few (quantify q r) = omega (arith, rse-few r)
+
+  clauses-deep : (cs : Clauses) → clausesDepth cs ≤ length (clausesBytes cs)
+  clauses-deep noClauses = omega arith
+  clauses-deep (such b cs) = omega (arith, boolean-few b, clauses-deep cs, length-append (booleanBytes b) (clausesBytes cs))
+  clauses-deep (sorted ks cs) = omega (arith, keys-few ks, clauses-deep cs, length-append (keysBytes ks) (clausesBytes cs))
+
+  rse-few : (r : Rse) → rseDepth r ≤ length (rseBytes r)
+  rse-few (rse ss cs) = omega (arith, clauses-deep cs, length-append (headBytes ss) (clausesBytes cs))
 
 heading-long : (h : Heading) → 1 ≤ length (headingBytes h)
 unfolding headingBytes

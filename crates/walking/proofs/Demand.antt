@@ -1,4 +1,4 @@
--- Demand 3, from what evaluation promises: for a condition of an accepted request, messages of its sizes and proper records.
+-- Demand 3, from what evaluation promises: for a condition of an accepted request, messages of its sizes, proper records and proper runs.
 use Prim.Native.Nat.{ℕ, _+_}
 use mathlib.Core.Path.{_≡_, refl, sym, ap, _∙_}
 use mathlib.Core.List.{List, [], _∷_, _++_}
@@ -7,22 +7,24 @@ use lib.ListN.{length, length-append}
 use borrow.Author.Tests.{eq-eqb}
 use Rattle.wire.specs.Lists.{sumOf}
 use Rattle.dictionary.specs.Dictionary.{Relation}
-use Rattle.grammar.specs.declared.Refusal.{Refusal}
 use Rattle.grammar.specs.Tree.{Message, Request}
 use Rattle.grammar.specs.Sizes.{messageSize}
+use Rattle.grammar.specs.Rules.{environment}
 use Rattle.grammar.specs.Conditions.{Condition}
 use Rattle.grammar.proofs.StepLaws.{absurd-eq}
 use Rattle.grammar.proofs.Complete.{reading-complete}
-use Rattle.meaning.specs.declared.Truth.{Truth}
 use Rattle.meaning.specs.declared.Evaluation.{Evaluation}
 use Rattle.meaning.specs.declared.Evaluation.the-variants.{Is, Refused}
-use Rattle.meaning.specs.Meaning.{meaning}
+use Rattle.meaning.specs.Runs.{DueRun, dueRuns, lentRuns}
+use Rattle.meaning.specs.Meaning.{meaning, booleanSize, around}
 use Rattle.meaning.specs.Evaluation.{outcome, evaluation}
 use Rattle.meaning.specs.Evaluated.{outcomeOf, Evaluated}
-use Rattle.meaning.specs.Demand.{Accepted, Asked, Images, noImage, image, Records, placedFrom, Alike, AsMeant, SameAnswer}
-use Rattle.walking.proofs.Proper.{is-due, related}
-use Rattle.walking.proofs.Alike.{by-places}
-use Rattle.walking.proofs.Blind.{blind}
+use Rattle.meaning.specs.Demand.{Accepted, Asked, Images, noImage, image, Records, Runs, placedFrom, placedRuns, Alike, AsMeant, SameAnswer}
+use Rattle.walking.proofs.Due.{due-grow}
+use Rattle.walking.proofs.Proper.{is-due}
+use Rattle.walking.proofs.ProperRuns.{all-due}
+use Rattle.walking.proofs.SameRuns.{same-runs}
+use Rattle.walking.proofs.SameTruth.{same-records, same-truth}
 use Rattle.walking.proofs.Asked.{means, never}
 
 -- the images have the exact total
@@ -39,29 +41,40 @@ one-answer (Refused x p) (Is u) e = absurd-eq (cc)
 one-answer (Refused x p) (Refused y q) e = let a : x ≡ y = cc in let b : p ≡ q = cc in λ i. Refused (a i) (b i)
 
 module _ (s d : List ℕ) (rs : List Relation) (t : Request) (a : Accepted s d rs t) (n : ℕ) (x : Condition) (c : Asked rs t n x) where
-  module _ (images rows : List ℕ) (i : Images (t .messages) images) (k : Records (x .scope .contexts) rows) where
-    evaluates : evaluation s d n images rows ≡ outcome (meaning s d n images rows)
+  -- the runs that are due for the condition
+  abbrev due : List DueRun
+  due = dueRuns rs (x .boolean) (x .place)
+
+  module _ (images rows runs : List ℕ) (i : Images (t .messages) images) (k : Records (x .scope .contexts) rows) (l : Runs due runs) where
+    evaluates : evaluation s d n images rows runs ≡ outcome (meaning s d n images rows runs)
     unfolding evaluation
     evaluates =
         let w = reading-complete s d rs (a .house) t (a .allowed) (a .bytes) in
         let e = eq-eqb (length images) (sumOf messageSize (t .messages)) (exact (t .messages) images i) in
-        rw (w .1, a .house, c, e, is-due (x .scope .contexts) rows k)
+        rw (w .1, a .house, c, e, is-due (x .scope .contexts) rows k, all-due due runs l)
 
     -- the answer is the meaning's, and the meaning is never stray
-    pub as-meant : (r : Evaluation) → Evaluated s d n images rows r → AsMeant s d n images rows r
-    as-meant r h = record { meant = h .answered ∙ evaluates; not-stray = never s d rs t a n x c images rows }
+    pub as-meant : (r : Evaluation) → Evaluated s d n images rows runs r → AsMeant s d n images rows runs r
+    as-meant r h = record { meant = h .answered ∙ evaluates; not-stray = never s d rs t a n x c images rows runs }
 
-  -- two sets of records that differ only inside fields missing in both get the same answer
-  pub same-answer :
-      (images rows rows′ : List ℕ) → Images (t .messages) images → Records (x .scope .contexts) rows → Records (x .scope .contexts) rows′ →
-      Alike (placedFrom (x .scope .contexts) 0) rows rows′ → (r r′ : Evaluation) → Evaluated s d n images rows r → Evaluated s d n images rows′ r′ →
-      SameAnswer s d n images rows rows′ r r′
-  same-answer images rows rows′ i k k′ w r r′ h h′ =
-      let v = by-places (x .scope .contexts) rows rows′ (related (x .scope .contexts) rows k) w in
-      let m : meaning s d n images rows ≡ meaning s d n images rows′ =
-      means s d rs t a n x c images rows ∙ blind (t .version) (t .messages) (x .scope) images rows rows′ v (x .place) (x .boolean)
-      ∙ sym (means s d rs t a n x c images rows′) in
-      record {
-        same-meaning = m;
-        same-answer = one-answer r r′ (h .answered ∙ evaluates images rows i k ∙ ap outcome m ∙ sym (evaluates images rows′ i k′) ∙ sym (h′ .answered));
-      }
+  module _ (images rows rows′ runs runs′ : List ℕ) (i : Images (t .messages) images) (k : Records (x .scope .contexts) rows)
+      (k′ : Records (x .scope .contexts) rows′) (l : Runs due runs) (l′ : Runs due runs′) (w : Alike (placedFrom (x .scope .contexts) 0) rows rows′)
+      (v : Alike (placedRuns due runs 0) runs runs′) where
+    same-meaning : meaning s d n images rows runs ≡ meaning s d n images rows′ runs′
+    unfolding around
+    same-meaning =
+        let u = same-runs (x .place) (x .place + booleanSize (x .boolean)) due runs runs′ (due-grow rs (x .boolean) (x .place)) l l′ v in
+        means s d rs t a n x c images rows runs
+        ∙ same-truth (environment rs t) images (lentRuns due runs) (lentRuns due runs′) (x .boolean) (x .scope) rows rows′ (x .place)
+        (same-records (x .scope .contexts) rows rows′ k w) u
+        ∙ sym (means s d rs t a n x c images rows′ runs′)
+
+    -- two sets of records, those of the runs among them, that differ only inside fields missing in both get the same answer
+    pub same-answer : (r r′ : Evaluation) → Evaluated s d n images rows runs r → Evaluated s d n images rows′ runs′ r′ →
+        SameAnswer s d n images rows rows′ runs runs′ r r′
+    same-answer r r′ h h′ =
+        record {
+          same-meaning = same-meaning;
+          same-answer = one-answer r r′
+              (h .answered ∙ evaluates images rows runs i k l ∙ ap outcome same-meaning ∙ sym (evaluates images rows′ runs′ i k′ l′) ∙ sym (h′ .answered));
+        }

@@ -13,7 +13,7 @@ use Rattle.wire.specs.declared.codes.BooleanCode.{BooleanCode}
 use Rattle.grammar.specs.Tree.{Reference}
 use Rattle.grammar.proofs.StepLaws.{absurd-eq}
 use Rattle.meaning.specs.Inputs.{Fetched}
-use Rattle.walking.specs.Walk.{Walked, at, fault, astray, _▷_, onClass, valueUnder, valueAt, booleanUnder, booleanAt}
+use Rattle.walking.specs.Walk.{Walked, at, fault, astray, _▷_, onClass, valueUnder, valueAt, Sight, overAt, booleanUnder, booleanAt}
 
 -- what follows the first is worked out from where the first ends
 pub second-after : {A B C : Type 0} (x : Walked A) (y : Walked B) (next : ℕ → Walked B) (k : A → B → ℕ → Walked C) →
@@ -65,18 +65,22 @@ module _ (g : Reference → Fetched) (s : List ℕ) where
       let n : length s ≤ p → ⊥ = λ h. let z = ap valueClass (past s p h) in let y = zero-value in absurd-eq (cc) in
       omega (arith, n)
 
-  pub boolean-level : (p : ℕ) → booleanAt g 0 s p ≡ astray
+module _ {E : Type 0} (w : Sight E) (x : E) (s : List ℕ) where
+  pub boolean-level : (p : ℕ) → booleanAt w x 0 s p ≡ astray
   unfolding booleanAt
   boolean-level p = refl
 
   pub boolean-by : (l p : ℕ) (c : Class BooleanCode) → (l ≡ 0 → ⊥) → c ≡ booleanClass (byteAt s p) →
-      booleanAt g l s p ≡ onClass c (λ k. booleanUnder (λ q. valueAt g (l - 1) s q) (λ q. booleanAt g (l - 1) s q) p k)
+      booleanAt w x l s p ≡
+      onClass c (λ k. booleanUnder (λ q. valueAt (w .fetch x) (l - 1) s q) (λ q. booleanAt w x (l - 1) s q)
+      (λ q. overAt q (w .over x p) (λ y z. booleanAt w y (l - 1) s z)) p k)
   unfolding booleanAt
   boolean-by zero p c h e = absurd (h refl)
   boolean-by (suc l) p c h e = let z : suc l - 1 ≡ l = omega arith in rw (e, z)
 
-  pub boolean-past : (l p : ℕ) → length s ≤ p → booleanAt g l s p ≡ astray
+  pub boolean-past : (l p : ℕ) → length s ≤ p → booleanAt w x l s p ≡ astray
   unfolding booleanAt
   boolean-past zero p h = refl
   boolean-past (suc l) p h =
-      ap (λ c. onClass c (λ k. booleanUnder (λ q. valueAt g l s q) (λ q. booleanAt g l s q) p k)) (ap booleanClass (sym (past s p h)) ∙ zero-boolean)
+      ap (λ c. onClass c (λ k. booleanUnder (λ q. valueAt (w .fetch x) l s q) (λ q. booleanAt w x l s q)
+      (λ q. overAt q (w .over x p) (λ y z. booleanAt w y l s z)) p k)) (ap booleanClass (sym (past s p h)) ∙ zero-boolean)

@@ -4,10 +4,15 @@ pub mod Link
 pub mod Stray
 pub mod Typed
 pub mod Sites
+pub mod Due
 pub mod Decoded
 pub mod Proper
+pub mod ProperRuns
 pub mod Alike
 pub mod Blind
+pub mod Seams
+pub mod SameRuns
+pub mod SameTruth
 pub mod Asked
 pub mod Demand
 pub mod Within

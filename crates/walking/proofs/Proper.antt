@@ -30,7 +30,7 @@ module _ (s : List ℕ) (p n : ℕ) where
   entry-byte : (i : ℕ) → i < n → byteAt (take n (drop p s)) i ≡ byteAt s (p + i)
   entry-byte i h = getD-take n (drop p s) i 0 h ∙ getD-drop p s i 0
 
-  entry-word : (i : ℕ) → i + 1 < n → wordAt (take n (drop p s)) i ≡ wordAt s (p + i)
+  pub entry-word : (i : ℕ) → i + 1 < n → wordAt (take n (drop p s)) i ≡ wordAt s (p + i)
   entry-word i h =
       let e : p + (i + 1) ≡ p + i + 1 = omega arith in
       ap₂ (λ x y. x + 256 * y) (entry-byte i (omega arith)) (entry-byte (i + 1) h ∙ ap (byteAt s) e)

@@ -10,8 +10,8 @@ use lib.ListN.{length, drop, length-append}
 use borrow.Author.Tests.{lt-ltb, le-leb, lt-leb, le-ltb}
 use Rattle.wire.specs.Codes as blr
 use Rattle.dictionary.specs.Dictionary.{Relation}
-use Rattle.grammar.specs.Tree.{Value, literal, reference, arithmetic, negate, Boolean, compare, search, between, connect, not, missing, Keys, noKeys, key, Clauses, noClauses, such, sorted, Stream, Heading, loop, modify, handler, receive, send, store, label, Rse, rse, Statement, assignment, begin, erase, for, headed, leave, if, ifElse, select, Statements, none as nothing, _then_, Receives, last, more, Request}
-use Rattle.grammar.specs.Bytes.{streamBytes, streamsBytes, headBytes, rseBytes, keysBytes, clausesBytes, headingBytes, referenceBytes, valueBytes, booleanBytes, statementBytes, statementsBytes, receivesBytes}
+use Rattle.grammar.specs.Tree.{Value, literal, reference, arithmetic, negate, Boolean, compare, search, between, connect, not, missing, quantify, Keys, noKeys, key, Clauses, noClauses, such, sorted, Stream, Heading, loop, modify, handler, receive, send, store, label, Rse, rse, Statement, assignment, begin, erase, for, headed, leave, if, ifElse, select, Statements, none as nothing, _then_, Receives, last, more, Request}
+use Rattle.grammar.specs.Bytes.{quantifierCode, streamBytes, streamsBytes, headBytes, rseBytes, keysBytes, clausesBytes, headingBytes, referenceBytes, valueBytes, booleanBytes, statementBytes, statementsBytes, receivesBytes}
 use Rattle.grammar.specs.Environment.{Environment, Context, Scope, streamContext, modifyContext, underStreams, underRse, underHeading}
 use Rattle.grammar.specs.Sizes.{booleanDepth, clausesDepth, rseDepth, statementDepth, statementsDepth, receivesDepth}
 use Rattle.grammar.specs.Rules.{BooleanAllowed, ClausesAllowed, RseAllowed, StatementAllowed, StatementsAllowed, ReceivesAllowed}
@@ -28,10 +28,10 @@ rows-append [] b = refl
 rows-append (x ∷ a) b = ap (λ z. contextRow (x .context) (x .place) (x .start) (x .end) ++ z) (rows-append a b)
 
 module _ (d : List Relation) where
-  stream-rows : (ss : List Stream) (p start end : ℕ) → streamRows d ss p start end ≡ rowsOf (streamsDeclared d ss p start end)
+  stream-rows : (o : ℕ) (ss : List Stream) (p start end : ℕ) → streamRows d o ss p start end ≡ rowsOf (streamsDeclared d o ss p start end)
   unfolding streamRows streamsDeclared rowsOf
-  stream-rows [] p start end = refl
-  stream-rows (s ∷ ss) p start end = ap (λ z. contextRow (streamContext d blr.for s) p start end ++ z) (stream-rows ss (p + length (streamBytes s)) start end)
+  stream-rows o [] p start end = refl
+  stream-rows o (s ∷ ss) p start end = ap (λ z. contextRow (streamContext d o s) p start end ++ z) (stream-rows o ss (p + length (streamBytes s)) start end)
 
   -- two parts one after another
   both-rows : (x y : List ℕ) (a b : List Declared) → x ≡ rowsOf a → y ≡ rowsOf b → x ++ y ≡ rowsOf (a ++ b)
@@ -60,6 +60,7 @@ module _ (d : List Relation) where
         both-rows _ _ (booleanDeclared d sc a (p + 1)) _ (boolean-rows a sc (p + 1)) (boolean-rows b sc (p + 1 + length (booleanBytes a)))
     boolean-rows (not a) sc p = boolean-rows a sc (p + 1)
     boolean-rows (missing v) sc p = value-rows v sc (p + 1)
+    boolean-rows (quantify q r) sc p = rse-rows (quantifierCode q) r sc (p + 1) (p + 1 + length (rseBytes r))
 
     keys-rows : (ks : Keys) (sc : Scope) (p : ℕ) → keysRows d sc ks p ≡ rowsOf (keysDeclared d sc ks p)
     keys-rows noKeys sc p = refl
@@ -73,10 +74,10 @@ module _ (d : List Relation) where
     clauses-rows (sorted ks cs) sc p =
         both-rows _ _ (keysDeclared d sc ks (p + 2)) _ (keys-rows ks sc (p + 2)) (clauses-rows cs sc (p + 2 + length (keysBytes ks)))
 
-    rse-rows : (r : Rse) (sc : Scope) (p end : ℕ) → rseRows d sc r p end ≡ rowsOf (rseDeclared d sc r p end)
-    rse-rows (rse ss cs) sc p end =
+    rse-rows : (o : ℕ) (r : Rse) (sc : Scope) (p end : ℕ) → rseRows d o sc r p end ≡ rowsOf (rseDeclared d o sc r p end)
+    rse-rows o (rse ss cs) sc p end =
         let q = p + length (headBytes ss) in
-        both-rows _ _ (streamsDeclared d ss (p + 2) q end) _ (stream-rows ss (p + 2) q end) (clauses-rows cs (underStreams d sc ss) q)
+        both-rows _ _ (streamsDeclared d o ss (p + 2) q end) _ (stream-rows o ss (p + 2) q end) (clauses-rows cs (underStreams d o sc ss) q)
 
   heading-rows : (sc : Scope) (h : Heading) (p end : ℕ) → headingRows d sc h p end ≡ rowsOf (headingDeclared d sc h p end)
   unfolding headingRows headingDeclared rowsOf
@@ -96,7 +97,7 @@ module _ (d : List Relation) where
     context-rows (begin ss) sc p = contexts-rows ss sc (p + 1)
     context-rows (erase c) sc p = refl
     context-rows (for r s) sc p =
-        both-rows _ _ (rseDeclared d sc r (p + 1) (p + size (for r s))) _ (rse-rows r sc (p + 1) (p + size (for r s)))
+        both-rows _ _ (rseDeclared d blr.for sc r (p + 1) (p + size (for r s))) _ (rse-rows blr.for r sc (p + 1) (p + size (for r s)))
         (context-rows s (underRse d sc r) (p + 1 + length (rseBytes r)))
     context-rows (headed h s) sc p =
         both-rows _ _ (headingDeclared d sc h p (p + size (headed h s))) _ (heading-rows sc h p (p + size (headed h s)))
@@ -163,17 +164,17 @@ none-after q lo hi (x ∷ a) b h =
     drops false e = e
 
 module _ (d : List Relation) where
-  streams-hold : (q start end : ℕ) → start ≤ q → q < end → (ss : List Stream) (p : ℕ) →
-      contextsAt q (streamsDeclared d ss p start end) ≡ map (streamContext d blr.for) ss
+  streams-hold : (o q start end : ℕ) → start ≤ q → q < end → (ss : List Stream) (p : ℕ) →
+      contextsAt q (streamsDeclared d o ss p start end) ≡ map (streamContext d o) ss
   unfolding contextsAt streamsDeclared
-  streams-hold q start end h k [] p = refl
-  streams-hold q start end h k (s ∷ ss) p =
-      rw (le-leb start q h, lt-ltb q end k) (ap (λ z. streamContext d blr.for s ∷ z) (streams-hold q start end h k ss (p + length (streamBytes s))))
+  streams-hold o q start end h k [] p = refl
+  streams-hold o q start end h k (s ∷ ss) p =
+      rw (le-leb start q h, lt-ltb q end k) (ap (λ z. streamContext d o s ∷ z) (streams-hold o q start end h k ss (p + length (streamBytes s))))
 
-  streams-between : (lo start end : ℕ) → lo ≤ start → (ss : List Stream) (p : ℕ) → Between lo end (streamsDeclared d ss p start end)
+  streams-between : (o lo start end : ℕ) → lo ≤ start → (ss : List Stream) (p : ℕ) → Between lo end (streamsDeclared d o ss p start end)
   unfolding streamsDeclared
-  streams-between lo start end h [] p = tt
-  streams-between lo start end h (s ∷ ss) p = (h, omega arith, streams-between lo start end h ss (p + length (streamBytes s)))
+  streams-between o lo start end h [] p = tt
+  streams-between o lo start end h (s ∷ ss) p = (h, omega arith, streams-between o lo start end h ss (p + length (streamBytes s)))
 
   -- two parts one after another
   both-between : (lo hi lo₂ hi₂ lo′ hi′ : ℕ) (a b : List Declared) → lo′ ≤ lo → hi ≤ hi′ → lo′ ≤ lo₂ → hi₂ ≤ hi′ → Between lo hi a →
@@ -229,6 +230,10 @@ module _ (d : List Relation) where
     boolean-between (missing v) sc p =
         between-widen (p + 1) (p + 1 + length (valueBytes v)) (p + 1) (p + length (booleanBytes (missing v))) (valueDeclared d sc v (p + 1))
         (omega arith) (omega arith) (value-between v sc (p + 1))
+    boolean-between (quantify q r) sc p =
+        let end = p + 1 + length (rseBytes r) in
+        between-widen (p + 1) end (p + 1) (p + length (booleanBytes (quantify q r))) (rseDeclared d (quantifierCode q) sc r (p + 1) end) (omega arith)
+        (omega arith) (rse-between (quantifierCode q) r sc (p + 1) end (omega arith))
 
     keys-between : (ks : Keys) (sc : Scope) (p : ℕ) → Between p (p + length (keysBytes ks)) (keysDeclared d sc ks p)
     keys-between noKeys sc p = tt
@@ -251,12 +256,12 @@ module _ (d : List Relation) where
         both-between (p + 2) q q (q + length (clausesBytes cs)) p (p + length (clausesBytes (sorted ks cs))) (keysDeclared d sc ks (p + 2)) _
         (omega arith) (omega (arith, z)) (omega arith) (omega (arith, z)) (keys-between ks sc (p + 2)) (clauses-between cs sc q)
 
-    rse-between : (r : Rse) (sc : Scope) (p end : ℕ) → p + length (rseBytes r) ≤ end → Between p end (rseDeclared d sc r p end)
-    rse-between (rse ss cs) sc p end h =
+    rse-between : (o : ℕ) (r : Rse) (sc : Scope) (p end : ℕ) → p + length (rseBytes r) ≤ end → Between p end (rseDeclared d o sc r p end)
+    rse-between o (rse ss cs) sc p end h =
         let q = p + length (headBytes ss) in
         let z = length-append (headBytes ss) (clausesBytes cs) in
-        both-between p end q (q + length (clausesBytes cs)) p end (streamsDeclared d ss (p + 2) q end) _ (omega arith) (omega arith) (omega arith)
-        (omega (arith, z, h)) (streams-between p q end (omega arith) ss (p + 2)) (clauses-between cs (underStreams d sc ss) q)
+        both-between p end q (q + length (clausesBytes cs)) p end (streamsDeclared d o ss (p + 2) q end) _ (omega arith) (omega arith) (omega arith)
+        (omega (arith, z, h)) (streams-between o p q end (omega arith) ss (p + 2)) (clauses-between cs (underStreams d o sc ss) q)
 
   heading-between : (sc : Scope) (h : Heading) (p end : ℕ) → Between (p + 1) end (headingDeclared d sc h p end)
   unfolding headingDeclared
@@ -292,8 +297,8 @@ module _ (d : List Relation) where
     declared-between (erase c) sc p = tt
     declared-between (for r s) sc p =
         let z : size (for r s) ≡ 1 + length (rseBytes r) + size s = omega (arith, length-append (rseBytes r) (statementBytes s)) in
-        between-append (p + 1) (p + size (for r s)) (rseDeclared d sc r (p + 1) (p + size (for r s))) _
-        (rse-between r sc (p + 1) (p + size (for r s)) (omega (arith, z)))
+        between-append (p + 1) (p + size (for r s)) (rseDeclared d blr.for sc r (p + 1) (p + size (for r s))) _
+        (rse-between blr.for r sc (p + 1) (p + size (for r s)) (omega (arith, z)))
         (between-widen (p + 1 + length (rseBytes r) + 1) (p + 1 + length (rseBytes r) + size s) (p + 1) (p + size (for r s))
         (declared d (underRse d sc r) s (p + 1 + length (rseBytes r))) (omega arith) (omega (arith, z))
         (declared-between s (underRse d sc r) (p + 1 + length (rseBytes r))))
@@ -367,6 +372,7 @@ boolean-size (Boolean.between v w x) = omega arith
 boolean-size (Boolean.connect c a b) = omega arith
 boolean-size (Boolean.not a) = omega arith
 boolean-size (Boolean.missing v) = omega arith
+boolean-size (Boolean.quantify q r) = omega arith
 
 module _ (s : List ℕ) (e : Environment) where
   abbrev d : List Relation
@@ -493,26 +499,26 @@ module _ (s : List ℕ) (e : Environment) where
         let m = p + 1 + length (headBytes ss) in
         let o = p + 1 + length (rseBytes r) in
         let inner = declared d (underRse d sc r) t o in
-        let streams = streamsDeclared d ss (p + 1 + 2) m end in
-        let below = clausesDeclared d (underStreams d sc ss) cs m in
+        let streams = streamsDeclared d blr.for ss (p + 1 + 2) m end in
+        let below = clausesDeclared d (underStreams d blr.for sc ss) cs m in
         let f0 : drop (p + 1) s ≡ rseBytes r ++ (statementBytes t ++ post) = past s p (7 ∷ []) _ f ∙ append-assoc (rseBytes r) (statementBytes t) post in
         let f1 : drop (p + 1) s ≡ headBytes ss ++ (clausesBytes cs ++ (statementBytes t ++ post)) = f0 ∙ append-assoc (headBytes ss) (clausesBytes cs) (statementBytes t ++ post) in
         let in-clauses : (q : ℕ) → m + 1 ≤ q → q < m + length (clausesBytes cs) →
-        (underStreams d sc ss) .contexts ++ contextsAt q below ≡ sc .contexts ++ contextsAt q (streams ++ below ++ inner) =
-        λ q i j. under q (sc .contexts) ((underStreams d sc ss) .contexts) streams below
-        (ap (λ z. sc .contexts ++ z) (sym (streams-hold d q m end (omega (arith, i)) (omega (arith, j, y, z)) ss (p + 1 + 2))))
+        (underStreams d blr.for sc ss) .contexts ++ contextsAt q below ≡ sc .contexts ++ contextsAt q (streams ++ below ++ inner) =
+        λ q i j. under q (sc .contexts) ((underStreams d blr.for sc ss) .contexts) streams below
+        (ap (λ z. sc .contexts ++ z) (sym (streams-hold d blr.for q m end (omega (arith, i)) (omega (arith, j, y, z)) ss (p + 1 + 2))))
         ∙ first-part q (o + 1) (o + size t) (sc .contexts) (streams ++ below) inner (declared-between d t (underRse d sc r) o) (omega (arith, j, y)) in
         let in-body : (q : ℕ) → o + 1 ≤ q → q < o + size t →
         (underRse d sc r) .contexts ++ contextsAt q inner ≡ sc .contexts ++ contextsAt q (streams ++ below ++ inner) =
         λ q i j. under q (sc .contexts) ((underRse d sc r) .contexts) (streams ++ below) inner
-        (ap (λ z. sc .contexts ++ z) (sym (streams-hold d q m end (omega (arith, i, y)) (omega (arith, j, z)) ss (p + 1 + 2)))
+        (ap (λ z. sc .contexts ++ z) (sym (streams-hold d blr.for q m end (omega (arith, i, y)) (omega (arith, j, z)) ss (p + 1 + 2)))
         ∙ ap (λ z. sc .contexts ++ z) (sym (contexts-append q streams below ∙ ap (λ z. contextsAt q streams ++ z)
-        (none-after q m (m + length (clausesBytes cs)) below (clauses-between d cs (underStreams d sc ss) m) (omega (arith, i, y))) ∙ append-nil _))) in
+        (none-after q m (m + length (clausesBytes cs)) below (clauses-between d cs (underStreams d blr.for sc ss) m) (omega (arith, i, y))) ∙ append-nil _))) in
         all-append _ (rseConditions d sc r (p + 1)) _
-        (all-map (Holds (m + 1) (m + length (clausesBytes cs)) n ((underStreams d sc ss) .contexts) below) _ (rseConditions d sc r (p + 1))
-        (widen (m + 1) (m + length (clausesBytes cs)) n (p + 1) end n ((underStreams d sc ss) .contexts) (sc .contexts) below (streams ++ below ++ inner)
+        (all-map (Holds (m + 1) (m + length (clausesBytes cs)) n ((underStreams d blr.for sc ss) .contexts) below) _ (rseConditions d sc r (p + 1))
+        (widen (m + 1) (m + length (clausesBytes cs)) n (p + 1) end n ((underStreams d blr.for sc ss) .contexts) (sc .contexts) below (streams ++ below ++ inner)
         (omega arith) (omega (arith, y, z)) (omega arith) in-clauses)
-        (clauses-sites cs (underStreams d sc ss) m n _ (omega arith) (a .0 .3) (past s (p + 1) (headBytes ss) _ f1)))
+        (clauses-sites cs (underStreams d blr.for sc ss) m n _ (omega arith) (a .0 .3) (past s (p + 1) (headBytes ss) _ f1)))
         (all-map (Holds (o + 1) (o + size t) n ((underRse d sc r) .contexts) inner) _ (conditions d (underRse d sc r) t o)
         (widen (o + 1) (o + size t) n (p + 1) end n ((underRse d sc r) .contexts) (sc .contexts) inner (streams ++ below ++ inner)
         (omega arith) (omega (arith, z)) (omega arith) in-body)

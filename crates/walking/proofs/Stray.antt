@@ -2,7 +2,10 @@
 use Prim.Native.Nat.{ℕ, _+_}
 use mathlib.Core.Path.{_≡_, refl, sym, ap, _∙_}
 use mathlib.Core.Bool.{Bool, true, false, cond, _&&_}
+use mathlib.Core.List.{List, [], _∷_, _++_, map}
 use mathlib.Core.Option.{Option, none, some}
+use native.Mathlib.Omega.{arith}
+use lib.ListN.{length}
 use lib.IntN.{ℤ, pos, negsuc}
 use lib.Signed.{leZ}
 use Rattle.wire.specs.Lists.{isSome}
@@ -11,14 +14,17 @@ use Rattle.wire.specs.declared.codes.Operator.{Operator}
 use Rattle.wire.specs.declared.codes.Comparison.{Comparison}
 use Rattle.wire.specs.declared.codes.Comparison.the-variants.{Geq, Leq}
 use Rattle.wire.specs.declared.codes.TextSearch.{TextSearch}
+use Rattle.wire.specs.declared.codes.Quantifier.{Quantifier}
 use Rattle.decimal.specs.declared.Computed.{Computed}
 use Rattle.decimal.specs.declared.Computed.the-variants as Computed
 use Rattle.decimal.specs.Number.{computed, negated}
 use Rattle.grammar.specs.Kind as Scaled
-use Rattle.grammar.specs.Tree.{Literal, Reference, Value, literal, reference, arithmetic, negate, Boolean, compare, search, between, connect, not, missing}
-use Rattle.grammar.specs.Environment.{Environment, Scope}
+use Rattle.grammar.specs.Tree.{Stream, Literal, Reference, Value, literal, reference, arithmetic, negate, Boolean, compare, search, between, connect, not, missing, quantify, Clauses, noClauses, such, sorted, Rse, rse}
+use Rattle.grammar.specs.Bytes.{quantifierCode, keysBytes, headBytes}
+use Rattle.grammar.specs.Environment.{Environment, Scope, underStreams}
 use Rattle.grammar.specs.Kinds.{kindOf, referenceKind, literalKind, alike, oneKind, bothText, allOneKind, resultScale, arithmeticKind, negatedKind}
-use Rattle.grammar.specs.Rules.{ValueAllowed, BooleanAllowed}
+use Rattle.grammar.specs.Sizes.{OneStream}
+use Rattle.grammar.specs.Rules.{ValueAllowed, BooleanAllowed, ClausesAllowed, RseAllowed}
 use Rattle.grammar.proofs.StepLaws.{absurd-eq}
 use Rattle.meaning.specs.declared.Truth.{Truth}
 use Rattle.meaning.specs.declared.Kind.{Kind}
@@ -26,7 +32,10 @@ use Rattle.meaning.specs.declared.Kind.the-variants as Kind
 use Rattle.meaning.specs.Data.{Result, is, refused, stray, _>>=_, Datum, number, text, date, absent, kind, sameKind, pair, arithmeticOf, result, negateOf, compareOf, searchOf, betweenOf, missingOf}
 use Rattle.meaning.specs.Inputs.{Fetched, value, malformed, nothing, literalValue}
 use Rattle.meaning.specs.Demand.{NotStray}
-use Rattle.meaning.specs.Meaning.{fetchedAt, size, booleanSize, valueOf, truthOf}
+use Rattle.meaning.specs.Runs.{dueRun, dueRuns, rseRuns, clausesRuns, LentRun, Around, fetchAround, within, withinEach}
+use Rattle.meaning.specs.Meaning.{fetchedAt, size, booleanSize, valueOf, keptOf, overRun, truthOf, rseTruth, clausesTruth}
+use Rattle.walking.proofs.Sites.{All}
+use Rattle.walking.proofs.Due.{all-first, all-second, Lent}
 
 -- the kind that the rules give a value, its scale aside
 abbrev pub unscaled : Scaled.Kind → Kind
@@ -58,7 +67,7 @@ on-truth k (is x) f h n = n x h
 on-truth k (refused r p) f h n = tt
 on-truth k stray f h n = absurd h
 
-and-then : (m : Result Truth) (f : Truth → Result Truth) → NotStray m → ((x : Truth) → NotStray (f x)) → NotStray (m >>= f)
+and-then : {A B : Type 0} (m : Result A) (f : A → Result B) → NotStray m → ((x : A) → NotStray (f x)) → NotStray (m >>= f)
 and-then (is x) f h n = n x
 and-then (refused r p) f h n = tt
 and-then stray f h n = absurd h
@@ -243,15 +252,20 @@ module _ (e : Environment) (sc : Scope) (g : Reference → Fetched)
       let z : i .second ≡ Scaled.Text = let y = i .second-is in cc in
       rw (sym (i .same ∙ ap unscaled z)) (value-kind v p (i .first) (i .first-is))
 
-  pub never-stray : (b : Boolean) (p : ℕ) → BooleanAllowed e sc b → NotStray (truthOf (e .version) g p b)
-  unfolding truthOf bothText allOneKind
-  never-stray (compare c v w) p a = two-met v w (p + 1) (one-kind (kindOf e sc v) (kindOf e sc w) (a .2)) (compareOf c) (compare-met c)
-  never-stray (search t v w) p a =
-      let u = both-true (oneKind (kindOf e sc v) (some Scaled.Text)) (oneKind (kindOf e sc w) (some Scaled.Text)) (a .2) in
+  search-never : (t : TextSearch) (v w : Value) (p : ℕ) → bothText (kindOf e sc v) (kindOf e sc w) ≡ true →
+      NotStray (valueOf (e .version) g (p + 1) v >>= (λ x. valueOf (e .version) g (p + 1 + size v) w >>= (λ y. searchOf t x y)))
+  unfolding bothText
+  search-never t v w p a =
+      let u = both-true (oneKind (kindOf e sc v) (some Scaled.Text)) (oneKind (kindOf e sc w) (some Scaled.Text)) a in
       on-truth Kind.Text (valueOf (e .version) g (p + 1) v) _ (text-value v (p + 1) (u .0)) (λ x hx.
       on-truth Kind.Text (valueOf (e .version) g (p + 1 + size v) w) _ (text-value w (p + 1 + size v) (u .1)) (λ y hy. search-met t x y hx hy))
-  never-stray (between u v w) p a =
-      let q = both-true (oneKind (kindOf e sc u) (kindOf e sc v)) (oneKind (kindOf e sc u) (kindOf e sc w)) (a .3) in
+
+  between-never : (u v w : Value) (p : ℕ) → allOneKind (kindOf e sc u) (kindOf e sc v) (kindOf e sc w) ≡ true →
+      NotStray (valueOf (e .version) g (p + 1) u >>= (λ x. valueOf (e .version) g (p + 1 + size u) v >>= (λ y.
+      valueOf (e .version) g (p + 1 + size u + size v) w >>= (λ z. betweenOf x y z))))
+  unfolding allOneKind
+  between-never u v w p a =
+      let q = both-true (oneKind (kindOf e sc u) (kindOf e sc v)) (oneKind (kindOf e sc u) (kindOf e sc w)) a in
       let i = one-kind (kindOf e sc u) (kindOf e sc v) (q .0) in
       let j = one-kind (kindOf e sc u) (kindOf e sc w) (q .1) in
       let same : j .first ≡ i .first = let z = i .first-is in let y = j .first-is in cc in
@@ -259,9 +273,72 @@ module _ (e : Environment) (sc : Scope) (g : Reference → Fetched)
       on-truth (unscaled (i .second)) (valueOf (e .version) g (p + 1 + size u) v) _ (value-kind v (p + 1 + size u) (i .second) (i .second-is)) (λ y hy.
       on-truth (unscaled (j .second)) (valueOf (e .version) g (p + 1 + size u + size v) w) _ (value-kind w (p + 1 + size u + size v) (j .second) (j .second-is)) (λ z hz.
       between-met x y z (hx ∙ i .same ∙ sym hy) (hx ∙ ap unscaled (sym same) ∙ j .same ∙ sym hz))))
-  never-stray (connect c a b) p w =
-      and-then (truthOf (e .version) g (p + 1) a) _ (never-stray a (p + 1) (w .0)) (λ x.
-      and-then (truthOf (e .version) g (p + 1 + booleanSize a) b) _ (never-stray b (p + 1 + booleanSize a) (w .1)) (λ y. tt))
-  never-stray (not a) p w = and-then (truthOf (e .version) g (p + 1) a) _ (never-stray a (p + 1) w) (λ x. tt)
-  never-stray (missing v) p w =
+
+  missing-never : (v : Value) (p : ℕ) → ValueAllowed e sc v → NotStray (valueOf (e .version) g (p + 1) v >>= (λ x. is (missingOf x)))
+  missing-never v p w =
       let i = any-kind v (p + 1) (allowed-some v w) in on-truth (i .0) (valueOf (e .version) g (p + 1) v) _ (i .1) (λ x hx. tt)
+
+-- ---- any and unique
+
+kept-met : {A B : Type 0} (f : A → B) (test : B → Result Truth) → ((x : A) → NotStray (test (f x))) → (l : List A) → NotStray (keptOf test (map f l))
+unfolding keptOf
+kept-met f test h [] = tt
+kept-met f test h (x ∷ l) = and-then (test (f x)) _ (h x) (λ t. and-then (keptOf test (map f l)) _ (kept-met f test h l) (λ n. tt))
+
+over-met : {A B : Type 0} (q : Quantifier) (f : A → B) (test : B → Result Truth) → ((x : A) → NotStray (test (f x))) → (l : List A) →
+    NotStray (overRun q (some (map f l)) test)
+over-met q f test h l = and-then (keptOf test (map f l)) _ (kept-met f test h l) (λ n. tt)
+
+-- ---- booleans, with the messages of an environment and runs; the scope and the records change inside an any
+
+module _ (e : Environment) (images : List ℕ) (runs : List LentRun) where
+  -- what stands around
+  abbrev pub standing : Scope → List ℕ → Around
+  standing sc rows =
+      record { relations = e .relations; messages = e .messages; images = images; scope = sc; records = rows; runs = runs }
+
+  -- one stream, whose run is there
+  rse-met : (ss : List Stream) (q : Quantifier) (sc : Scope) (rows : List ℕ) (p : ℕ) → length ss ≡ 1 → All (Lent runs) (dueRun (e .relations) ss p) →
+      (test : Around → Result Truth) → ((more : List ℕ) → NotStray (test (standing (underStreams (e .relations) (quantifierCode q) sc ss) more))) →
+      NotStray (overRun q (withinEach (standing sc rows) p q ss) test)
+  unfolding withinEach within
+  rse-met [] q sc rows p one l test h = absurd-eq (cc)
+  rse-met (s ∷ []) q sc rows p one l test h =
+      rw (l .0 .1) (over-met q (within (standing sc rows) q s) test (λ x. h (rows ++ x)) (l .0 .0 .records))
+  rse-met (s ∷ t ∷ ss) q sc rows p one l test h = absurd (omega (arith, one))
+
+  module _ (typed : (sc : Scope) (rows : List ℕ) (r : Reference) (k : Scaled.Kind) → referenceKind e sc r ≡ some k →
+      FetchedOf (unscaled k) (fetchAround (standing sc rows) r)) where
+    mutual
+      unfolding truthOf rseTruth clausesTruth dueRuns rseRuns clausesRuns
+
+      pub never-stray : (b : Boolean) (sc : Scope) (rows : List ℕ) (p : ℕ) → BooleanAllowed e sc b → All (Lent runs) (dueRuns (e .relations) b p) →
+          NotStray (truthOf (e .version) (standing sc rows) p b)
+      never-stray (compare c v w) sc rows p a l =
+          two-met e sc (fetchAround (standing sc rows)) (typed sc rows) v w (p + 1) (one-kind (kindOf e sc v) (kindOf e sc w) (a .2)) (compareOf c) (compare-met c)
+      never-stray (search t v w) sc rows p a l = search-never e sc (fetchAround (standing sc rows)) (typed sc rows) t v w p (a .2)
+      never-stray (between u v w) sc rows p a l = between-never e sc (fetchAround (standing sc rows)) (typed sc rows) u v w p (a .3)
+      never-stray (connect c a b) sc rows p w l =
+          let n = p + 1 + booleanSize a in
+          and-then (truthOf (e .version) (standing sc rows) (p + 1) a) _
+          (never-stray a sc rows (p + 1) (w .0) (all-first _ (dueRuns (e .relations) a (p + 1)) (dueRuns (e .relations) b n) l)) (λ x.
+          and-then (truthOf (e .version) (standing sc rows) n b) _
+          (never-stray b sc rows n (w .1) (all-second _ (dueRuns (e .relations) a (p + 1)) (dueRuns (e .relations) b n) l)) (λ y. tt))
+      never-stray (not a) sc rows p w l = and-then (truthOf (e .version) (standing sc rows) (p + 1) a) _ (never-stray a sc rows (p + 1) w l) (λ x. tt)
+      never-stray (missing v) sc rows p w l = missing-never e sc (fetchAround (standing sc rows)) (typed sc rows) v p w
+      never-stray (quantify q r) sc rows p w l = never-rse r q sc rows p (w .0) (w .1) l
+
+      never-rse : (r : Rse) (q : Quantifier) (sc : Scope) (rows : List ℕ) (p : ℕ) → OneStream r → RseAllowed e (quantifierCode q) sc r →
+          All (Lent runs) (rseRuns (e .relations) r p) → NotStray (rseTruth (e .version) (standing sc rows) p q r)
+      never-rse (rse ss cs) q sc rows p one a l =
+          let n = p + 1 + length (headBytes ss) in
+          rse-met ss q sc rows p one (all-first _ (dueRun (e .relations) ss p) (clausesRuns (e .relations) cs n) l) _ (λ more.
+          never-clauses cs (underStreams (e .relations) (quantifierCode q) sc ss) more n (a .3)
+          (all-second _ (dueRun (e .relations) ss p) (clausesRuns (e .relations) cs n) l))
+
+      never-clauses : (cs : Clauses) (sc : Scope) (rows : List ℕ) (p : ℕ) → ClausesAllowed e sc cs → All (Lent runs) (clausesRuns (e .relations) cs p) →
+          NotStray (clausesTruth (e .version) (standing sc rows) p cs)
+      never-clauses noClauses sc rows p a l = tt
+      never-clauses (such b cs) sc rows p a l =
+          never-stray b sc rows (p + 1) (a .0) (all-first _ (dueRuns (e .relations) b (p + 1)) (clausesRuns (e .relations) cs (p + 1 + booleanSize b)) l)
+      never-clauses (sorted ks cs) sc rows p a l = never-clauses cs sc rows (p + 2 + length (keysBytes ks)) (a .2) l

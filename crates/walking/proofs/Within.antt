@@ -1,7 +1,8 @@
 -- Where the refusals of a meaning stand: inside the condition.
-use Prim.Native.Nat.{ℕ, _+_, _<_, _≤_}
+use Prim.Native.Nat.{ℕ, suc, _+_, _<_, _≤_}
 use mathlib.Core.Path.{_≡_, refl}
-use mathlib.Core.List.{List, _++_}
+use mathlib.Core.List.{List, [], _∷_, _++_}
+use mathlib.Core.Option.{Option, none, some}
 use native.Mathlib.Omega.{arith}
 use lib.ListN.{length, length-append}
 use Rattle.wire.specs.declared.codes.Version.{Version}
@@ -9,18 +10,20 @@ use Rattle.wire.specs.declared.codes.Operator.{Operator}
 use Rattle.wire.specs.declared.codes.Comparison.{Comparison}
 use Rattle.wire.specs.declared.codes.Comparison.the-variants.{Geq, Leq}
 use Rattle.wire.specs.declared.codes.TextSearch.{TextSearch}
+use Rattle.wire.specs.declared.codes.Quantifier.{Quantifier}
 use Rattle.decimal.specs.declared.Computed.{Computed}
 use Rattle.decimal.specs.declared.Computed.the-variants as Computed
 use Rattle.decimal.specs.Number.{computed, negated}
 use Rattle.dictionary.specs.Naming.{named, numbered}
-use Rattle.grammar.specs.Tree.{Reference, field, parameter, parameter2, Value, literal, reference, arithmetic, negate, Boolean, compare, search, between, connect, not, missing}
-use Rattle.grammar.specs.Bytes.{referenceBytes, valueBytes, booleanBytes}
+use Rattle.grammar.specs.Tree.{Reference, field, parameter, parameter2, Value, literal, reference, arithmetic, negate, Boolean, compare, search, between, connect, not, missing, quantify, Clauses, noClauses, such, sorted, Rse, rse}
+use Rattle.grammar.specs.Bytes.{referenceBytes, valueBytes, booleanBytes, keysBytes, clausesBytes, headBytes, rseBytes}
 use Rattle.meaning.specs.declared.Truth.{Truth}
 use Rattle.meaning.specs.declared.Kind.the-variants as Kind
 use Rattle.meaning.specs.declared.Fault.{Fault}
 use Rattle.meaning.specs.Data.{Result, is, refused, stray, _>>=_, Datum, number, text, date, absent, Pair, numbers, texts, dates, lacking, unfit, pair, result, arithmeticPair, arithmeticOf, negateOf, comparePair, compareOf, searchPair, searchOf, betweenOf}
 use Rattle.meaning.specs.Inputs.{Fetched, value, malformed, nothing}
-use Rattle.meaning.specs.Meaning.{fetchedAt, size, booleanSize, valueOf, truthOf}
+use Rattle.meaning.specs.Runs.{Around, fetchAround, withinEach}
+use Rattle.meaning.specs.Meaning.{fetchedAt, size, booleanSize, valueOf, keptOf, overRun, truthOf, rseTruth, clausesTruth}
 
 -- a refusal's place is from lo on and before hi
 abbrev pub Within : {A : Type 0} → ℕ → ℕ → Result A → Type 0
@@ -133,27 +136,62 @@ module _ (e : Version) (g : Reference → Fetched) where
       Within p hi (valueOf e g q v >>= f)
   below v q p hi f a b n = onward p hi (valueOf e g q v) f (widen _ _ p hi (valueOf e g q v) a b (value-within v q)) n
 
-  pub truth-within : (b : Boolean) (p : ℕ) → Within p (p + booleanSize b) (truthOf e g p b)
-  unfolding truthOf booleanBytes
-  truth-within (compare c v w) p =
-      let l = length-append (valueBytes v) (valueBytes w) in
-      below v (p + 1) p _ _ (omega arith) (omega (arith, l)) (λ x. below w (p + 1 + size v) p _ _ (omega arith) (omega (arith, l)) (λ y. compare-within _ _ c x y))
-  truth-within (search t v w) p =
-      let l = length-append (valueBytes v) (valueBytes w) in
-      below v (p + 1) p _ _ (omega arith) (omega (arith, l)) (λ x. below w (p + 1 + size v) p _ _ (omega arith) (omega (arith, l)) (λ y. search-within _ _ t x y))
-  truth-within (between u v w) p =
-      let l = length-append (valueBytes u ++ valueBytes v) (valueBytes w) in
-      let k = length-append (valueBytes u) (valueBytes v) in
-      below u (p + 1) p _ _ (omega arith) (omega (arith, l, k)) (λ x.
-      below v (p + 1 + size u) p _ _ (omega arith) (omega (arith, l, k)) (λ y.
-      below w (p + 1 + size u + size v) p _ _ (omega arith) (omega (arith, l, k)) (λ z. between-within _ _ x y z)))
-  truth-within (connect c a b) p =
-      let l = length-append (booleanBytes a) (booleanBytes b) in
-      let hi = p + booleanSize (connect c a b) in
-      onward p hi (truthOf e g (p + 1) a) _ (widen _ _ p hi (truthOf e g (p + 1) a) (omega arith) (omega (arith, l)) (truth-within a (p + 1))) (λ x.
-      onward p hi (truthOf e g (p + 1 + booleanSize a) b) _
-      (widen _ _ p hi (truthOf e g (p + 1 + booleanSize a) b) (omega arith) (omega (arith, l)) (truth-within b (p + 1 + booleanSize a))) (λ y. tt))
-  truth-within (not a) p =
-      let hi = p + booleanSize (not a) in
-      onward p hi (truthOf e g (p + 1) a) _ (widen _ _ p hi (truthOf e g (p + 1) a) (omega arith) (omega arith) (truth-within a (p + 1))) (λ x. tt)
-  truth-within (missing v) p = below v (p + 1) p _ _ (omega arith) (omega arith) (λ x. tt)
+-- a run refuses only where its test does
+kept-within : {A : Type 0} (lo hi : ℕ) (test : A → Result Truth) → ((x : A) → Within lo hi (test x)) → (l : List A) → Within lo hi (keptOf test l)
+unfolding keptOf
+kept-within lo hi test h [] = tt
+kept-within lo hi test h (x ∷ l) = onward lo hi (test x) _ (h x) (λ t. onward lo hi (keptOf test l) _ (kept-within lo hi test h l) (λ n. tt))
+
+over-within : {A : Type 0} (lo hi : ℕ) (q : Quantifier) (run : Option (List A)) (test : A → Result Truth) → ((x : A) → Within lo hi (test x)) →
+    Within lo hi (overRun q run test)
+over-within lo hi q none test h = tt
+over-within lo hi q (some l) test h = onward lo hi (keptOf test l) _ (kept-within lo hi test h l) (λ n. tt)
+
+module _ (e : Version) where
+  mutual
+    unfolding truthOf rseTruth clausesTruth booleanBytes rseBytes clausesBytes
+
+    pub truth-within : (a : Around) (b : Boolean) (p : ℕ) → Within p (p + booleanSize b) (truthOf e a p b)
+    truth-within a (compare c v w) p =
+        let l = length-append (valueBytes v) (valueBytes w) in
+        let g = fetchAround a in
+        below e g v (p + 1) p _ _ (omega arith) (omega (arith, l)) (λ x. below e g w (p + 1 + size v) p _ _ (omega arith) (omega (arith, l)) (λ y. compare-within _ _ c x y))
+    truth-within a (search t v w) p =
+        let l = length-append (valueBytes v) (valueBytes w) in
+        let g = fetchAround a in
+        below e g v (p + 1) p _ _ (omega arith) (omega (arith, l)) (λ x. below e g w (p + 1 + size v) p _ _ (omega arith) (omega (arith, l)) (λ y. search-within _ _ t x y))
+    truth-within a (between u v w) p =
+        let l = length-append (valueBytes u ++ valueBytes v) (valueBytes w) in
+        let k = length-append (valueBytes u) (valueBytes v) in
+        let g = fetchAround a in
+        below e g u (p + 1) p _ _ (omega arith) (omega (arith, l, k)) (λ x.
+        below e g v (p + 1 + size u) p _ _ (omega arith) (omega (arith, l, k)) (λ y.
+        below e g w (p + 1 + size u + size v) p _ _ (omega arith) (omega (arith, l, k)) (λ z. between-within _ _ x y z)))
+    truth-within a (connect c b d) p =
+        let l = length-append (booleanBytes b) (booleanBytes d) in
+        let hi = p + booleanSize (connect c b d) in
+        onward p hi (truthOf e a (p + 1) b) _ (widen _ _ p hi (truthOf e a (p + 1) b) (omega arith) (omega (arith, l)) (truth-within a b (p + 1))) (λ x.
+        onward p hi (truthOf e a (p + 1 + booleanSize b) d) _
+        (widen _ _ p hi (truthOf e a (p + 1 + booleanSize b) d) (omega arith) (omega (arith, l)) (truth-within a d (p + 1 + booleanSize b))) (λ y. tt))
+    truth-within a (not b) p =
+        let hi = p + booleanSize (not b) in
+        onward p hi (truthOf e a (p + 1) b) _ (widen _ _ p hi (truthOf e a (p + 1) b) (omega arith) (omega arith) (truth-within a b (p + 1))) (λ x. tt)
+    truth-within a (missing v) p = below e (fetchAround a) v (p + 1) p _ _ (omega arith) (omega arith) (λ x. tt)
+    truth-within a (quantify q r) p = rse-within a q r p
+
+    rse-within : (a : Around) (q : Quantifier) (r : Rse) (p : ℕ) → Within p (p + suc (length (rseBytes r))) (rseTruth e a p q r)
+    rse-within a q (rse ss cs) p =
+        let l = length-append (headBytes ss) (clausesBytes cs) in
+        let n = p + 1 + length (headBytes ss) in
+        over-within p _ q (withinEach a p q ss) _
+        (λ x. widen _ _ p _ (clausesTruth e x n cs) (omega arith) (omega (arith, l)) (clauses-within x cs n))
+
+    clauses-within : (a : Around) (cs : Clauses) (p : ℕ) → Within p (p + length (clausesBytes cs)) (clausesTruth e a p cs)
+    clauses-within a noClauses p = tt
+    clauses-within a (such b cs) p =
+        let l = length-append (booleanBytes b) (clausesBytes cs) in
+        widen _ _ p _ (truthOf e a (p + 1) b) (omega arith) (omega (arith, l)) (truth-within a b (p + 1))
+    clauses-within a (sorted ks cs) p =
+        let l = length-append (keysBytes ks) (clausesBytes cs) in
+        let n = p + 2 + length (keysBytes ks) in
+        widen _ _ p _ (clausesTruth e a n cs) (omega arith) (omega (arith, l)) (clauses-within a cs n)

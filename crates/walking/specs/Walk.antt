@@ -1,6 +1,7 @@
 -- How a condition is worked out on its bytes. `g` says what a reference gives; the operators are the meaning's own.
 use Prim.Native.Nat.{ℕ, zero, suc, _+_}
 use mathlib.Core.List.{List}
+use mathlib.Core.Option.{Option, none, some}
 use lib.ListN.{length, take, drop}
 use Rattle.wire.specs.Words.{byteAt, wordAt, longAt, int64At, signed}
 use Rattle.wire.specs.Classes.{Class, valueClass, booleanClass, literalClass}
@@ -16,16 +17,18 @@ use Rattle.wire.specs.declared.codes.ValueCode.{ValueCode}
 use Rattle.wire.specs.declared.codes.ValueCode.the-variants as Code
 use Rattle.wire.specs.declared.codes.BooleanCode.{BooleanCode}
 use Rattle.wire.specs.declared.codes.BooleanCode.the-variants as Boolean
+use Rattle.wire.specs.declared.codes.Quantifier.{Quantifier}
 use Rattle.dictionary.specs.Dictionary.{nameAt}
 use Rattle.dictionary.specs.Naming.{named, numbered}
 use Rattle.dictionary.specs.Format.{widthBytes}
 use Rattle.grammar.specs.Tree as Tree
 use Rattle.grammar.specs.Tree.{Reference, field, parameter, parameter2}
 use Rattle.meaning.specs.declared.Truth.{Truth}
+use Rattle.meaning.specs.declared.Truth.the-variants.{True}
 use Rattle.meaning.specs.declared.Fault.{Fault}
 use Rattle.meaning.specs.Data.{Result, is, refused, stray, Datum, arithmeticOf, negateOf, compareOf, searchOf, betweenOf, missingOf, connected, opposite}
 use Rattle.meaning.specs.Inputs.{Fetched, literalValue}
-use Rattle.meaning.specs.Meaning.{fetchedAt}
+use Rattle.meaning.specs.Meaning.{fetchedAt, overRun}
 
 -- a thing and the place after it; or the first refusal or stray met
 pub data Walked (A : Type 0) : Type 0 where
@@ -89,17 +92,53 @@ unfoldable pub valueAt : (Reference → Fetched) → ℕ → List ℕ → ℕ �
 valueAt g zero s p = astray
 valueAt g (suc l) s p = onClass (valueClass (byteAt s p)) (λ k. valueUnder g (λ q. valueAt g l s q) s p k)
 
--- what stands under a boolean's code at p; `values` gives the values and `inner` the booleans one level down
-unfoldable pub booleanUnder : (ℕ → Walked Datum) → (ℕ → Walked Truth) → ℕ → BooleanCode → Walked Truth
-booleanUnder values inner p (Boolean.Compare c) = values (p + 1) ▷ (λ x q. values q ▷ (λ y e. ended (compareOf c x y) e))
-booleanUnder values inner p (Boolean.Search t) = values (p + 1) ▷ (λ x q. values q ▷ (λ y e. ended (searchOf t x y) e))
-booleanUnder values inner p Boolean.Between =
-    values (p + 1) ▷ (λ x q. values q ▷ (λ y r. values r ▷ (λ z e. ended (betweenOf x y z) e)))
-booleanUnder values inner p (Boolean.Connect c) = inner (p + 1) ▷ (λ x q. inner q ▷ (λ y e. at (connected c x y) e))
-booleanUnder values inner p Boolean.Not = inner (p + 1) ▷ (λ x e. at (opposite x) e)
-booleanUnder values inner p Boolean.Missing = values (p + 1) ▷ (λ x e. at (missingOf x) e)
+-- ---- any and unique
 
-unfoldable pub booleanAt : (Reference → Fetched) → ℕ → List ℕ → ℕ → Walked Truth
-booleanAt g zero s p = astray
-booleanAt g (suc l) s p =
-    onClass (booleanClass (byteAt s p)) (λ k. booleanUnder (λ q. valueAt g l s q) (λ q. booleanAt g l s q) p k)
+-- the run of an any or a unique: where the condition of its rse stands, if it has one; the place after it; and what is seen with each
+-- record of the run in turn
+pub record Over (E : Type 0) : Type 0 where
+  pub such : Option ℕ
+  pub end : ℕ
+  pub each : List E
+
+-- what is seen from an E: what a reference gives, and the run of the code at a place
+pub record Sight (E : Type 0) : Type 0 where
+  pub fetch : E → Reference → Fetched
+  pub over : E → ℕ → Option (Over E)
+
+-- what was walked, its end aside
+abbrev pub resultOf : {A : Type 0} → Walked A → Result A
+resultOf (at a q) = is a
+resultOf (fault r p) = refused r p
+resultOf astray = stray
+
+-- the condition of an rse, with one record; 02, No. 4: "An rse without a condition keeps every record"
+abbrev pub suchAt : Option ℕ → (ℕ → Walked Truth) → Result Truth
+suchAt none test = is True
+suchAt (some c) test = resultOf (test c)
+
+-- over each record of a run, if there is one; `test` gives the boolean at a place, with one record
+abbrev pub overAt : {E : Type 0} → Quantifier → Option (Over E) → (E → ℕ → Walked Truth) → Walked Truth
+overAt q none test = astray
+overAt q (some o) test = ended (overRun q (some (o .each)) (λ x. suchAt (o .such) (test x))) (o .end)
+
+-- ---- booleans
+
+-- what stands under a boolean's code at p; `values` gives the values and `inner` the booleans one level down, and `runs` an any or a unique
+unfoldable pub booleanUnder : (ℕ → Walked Datum) → (ℕ → Walked Truth) → (Quantifier → Walked Truth) → ℕ → BooleanCode → Walked Truth
+booleanUnder values inner runs p (Boolean.Compare c) = values (p + 1) ▷ (λ x q. values q ▷ (λ y e. ended (compareOf c x y) e))
+booleanUnder values inner runs p (Boolean.Search t) = values (p + 1) ▷ (λ x q. values q ▷ (λ y e. ended (searchOf t x y) e))
+booleanUnder values inner runs p Boolean.Between =
+    values (p + 1) ▷ (λ x q. values q ▷ (λ y r. values r ▷ (λ z e. ended (betweenOf x y z) e)))
+booleanUnder values inner runs p (Boolean.Connect c) = inner (p + 1) ▷ (λ x q. inner q ▷ (λ y e. at (connected c x y) e))
+booleanUnder values inner runs p Boolean.Not = inner (p + 1) ▷ (λ x e. at (opposite x) e)
+booleanUnder values inner runs p Boolean.Missing = values (p + 1) ▷ (λ x e. at (missingOf x) e)
+booleanUnder values inner runs p (Boolean.Quantify q) = runs q
+
+-- a boolean at a place, with so many levels left, as it is seen from x
+unfoldable pub booleanAt : {E : Type 0} → Sight E → E → ℕ → List ℕ → ℕ → Walked Truth
+booleanAt w x zero s p = astray
+booleanAt w x (suc l) s p =
+    onClass (booleanClass (byteAt s p))
+    (λ k. booleanUnder (λ q. valueAt (w .fetch x) l s q) (λ q. booleanAt w x l s q)
+    (λ q. overAt q (w .over x p) (λ y c. booleanAt w y l s c)) p k)

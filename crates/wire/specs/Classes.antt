@@ -17,7 +17,8 @@ use Rattle.wire.specs.declared.codes.Comparison.the-variants.{Eql, Neq, 
 use Rattle.wire.specs.declared.codes.TextSearch.the-variants.{Containing, Matching, Starting}
 use Rattle.wire.specs.declared.codes.Connective.the-variants.{Or, And}
 use Rattle.wire.specs.declared.codes.BooleanCode.{BooleanCode}
-use Rattle.wire.specs.declared.codes.BooleanCode.the-variants.{Compare, Search, Between, Connect, Not, Missing}
+use Rattle.wire.specs.declared.codes.BooleanCode.the-variants.{Compare, Search, Between, Connect, Not, Missing, Quantify}
+use Rattle.wire.specs.declared.codes.Quantifier.the-variants.{Any, Unique}
 use Rattle.wire.specs.declared.codes.StreamCode.{StreamCode}
 use Rattle.wire.specs.declared.codes.StreamCode.the-variants.{Relation, Rid}
 use Rattle.wire.specs.declared.codes.ClauseCode.{ClauseCode}
@@ -74,15 +75,15 @@ targetClass =
     ((blr.field, Field) ∷ (blr.fid, Fid) ∷ (blr.parameter, Parameter) ∷ (blr.parameter2, Parameter2) ∷ [])
     []
 
--- 01: "Booleans: .."; left out: "booleans 60, 62, 63"
+-- 01: "Booleans: .."; left out: "booleans 60, 62, 63"; 02, No. 4: "Codes 60 and 62 leave refusal 7."
 unfoldable pub booleanClass : ℕ → Class BooleanCode
 booleanClass =
     classify
     ((blr.eql, Compare Eql) ∷ (blr.neq, Compare Neq) ∷ (blr.gtr, Compare Gtr) ∷ (blr.geq, Compare Geq) ∷
     (blr.lss, Compare Lss) ∷ (blr.leq, Compare Leq) ∷ (blr.containing, Search Containing) ∷ (blr.matching, Search Matching) ∷
     (blr.starting, Search Starting) ∷ (blr.between, Between) ∷ (blr.or, Connect Or) ∷ (blr.and, Connect And) ∷
-    (blr.not, Not) ∷ (blr.missing, Missing) ∷ [])
-    (blr.any ∷ blr.unique ∷ blr.like ∷ [])
+    (blr.not, Not) ∷ (blr.any, Quantify Any) ∷ (blr.missing, Missing) ∷ (blr.unique, Quantify Unique) ∷ [])
+    (blr.like ∷ [])
 
 -- 01: "Stream: relation 74, counted name, ctx; or rid 75, id word, ctx."; left out: "streams 76, 79"
 unfoldable pub streamClass : ℕ → Class StreamCode

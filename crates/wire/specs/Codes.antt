@@ -189,13 +189,14 @@ not = 59
 abbrev pub missing : ℕ
 missing = 61
 
--- Booleans left out.
+-- 02, No. 4: "any 60 and unique 62"
 abbrev pub any : ℕ
 any = 60
 
 abbrev pub unique : ℕ
 unique = 62
 
+-- Booleans left out.
 abbrev pub like : ℕ
 like = 63
 

@@ -25,6 +25,10 @@ dictionaryEntryKind = 4
 abbrev pub requestEntryKind : ℕ
 requestEntryKind = 5
 
+-- 02, No. 4: "each run wrapped in an entry of kind 7"
+abbrev pub runEntryKind : ℕ
+runEntryKind = 7
+
 -- the program `evaluate` also reads the number of a boolean, and message bytes
 abbrev pub numberEntryKind : ℕ
 numberEntryKind = 9

@@ -126,13 +126,13 @@ pub const AND: u8 = 58;
 
 pub const NOT: u8 = 59;
 
-pub const MISSING: u8 = 61;
-
-// Booleans left out.
 pub const ANY: u8 = 60;
+
+pub const MISSING: u8 = 61;
 
 pub const UNIQUE: u8 = 62;
 
+// Booleans left out.
 pub const LIKE: u8 = 63;
 
 // Rses, clauses and streams.

@@ -64,6 +64,12 @@ pub enum Connective {
     And,
 }
 
+// What is asked of the records of an rse.
+pub enum Quantifier {
+    Any,
+    Unique,
+}
+
 pub enum BooleanCode {
     Compare(Comparison),
     Search(TextSearch),
@@ -71,6 +77,7 @@ pub enum BooleanCode {
     Connect(Connective),
     Not,
     Missing,
+    Quantify(Quantifier),
 }
 
 pub enum StreamCode {

@@ -18,6 +18,9 @@ pub const DICTIONARY_ENTRY: u32 = 4;
 
 pub const REQUEST_ENTRY: u32 = 5;
 
+// "each run wrapped in an entry of kind 7"
+pub const RUN_ENTRY: u32 = 7;
+
 // The program `evaluate` also reads the number of a boolean, and message bytes.
 pub const NUMBER_ENTRY: u32 = 9;
 

@@ -74,6 +74,11 @@ pub fn for_loop(streams: &[&[u8]], clauses: &[u8], statement: &[u8]) -> Vec<u8> 
     [&head[..], &streams.concat(), clauses, &[END], statement].concat()
 }
 
+/// A code that goes over a run, with the rse of a stream and clauses.
+pub fn over(code: u8, stream: &[u8], clauses: &[u8]) -> Vec<u8> {
+    [&[code, RSE, 1], stream, clauses, &[END]].concat()
+}
+
 /// A for over relation 1 in context 0, with a statement.
 pub fn for_house(statement: &[u8]) -> Vec<u8> {
     for_loop(&[&rid(1, 0)], &[], statement)

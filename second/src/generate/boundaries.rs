@@ -1,13 +1,17 @@
 //! Each greatest size and range of document 01, on both sides.
 
-use super::assemble::{self, condition, for_loop, message, operator, rid, short, text, NOTHING};
+use super::assemble::{
+    self, condition, for_loop, message, operator, over, rid, short, text, NOTHING,
+};
+use super::data;
 use super::dictionaries::{self, field, house};
 use super::{Case, Size, TABLE_LENGTHS};
 use crate::dictionary::{Dictionary, Field, Relation};
 use crate::hex;
 use crate::wire::{
-    ASCENDING, BEGIN, CSTRING, DATE, DIVIDE, END, EOC, EQL, FIELD, INT64, LITERAL, LONG, MISSING,
-    MULTIPLY, NEGATE, NOT, READING, RELATION, SEND, SHORT, SORT, TEXT, VARYING, VERSION4, VERSION5,
+    AND, ANY, ASCENDING, BEGIN, BOOLEAN, CSTRING, DATE, DIVIDE, END, EOC, EQL, FIELD, IF, INT64,
+    LITERAL, LONG, MISSING, MULTIPLY, NEGATE, NOT, OR, READING, RELATION, RSE, SEND, SHORT, SORT,
+    TEXT, UNIQUE, VARYING, VERSION4, VERSION5,
 };
 use std::sync::OnceLock;
 
@@ -18,6 +22,7 @@ pub fn all() -> Vec<Case> {
         counts(),
         message_sizes(),
         context_counts(),
+        selections(),
         request_ranges(),
         ranges_of_type_16(),
         arithmetic_scales(),
@@ -27,6 +32,7 @@ pub fn all() -> Vec<Case> {
         dictionary_counts(),
         dictionary_ranges(),
         record_lengths(),
+        run_lengths(),
         lengths(),
     ];
     parts.into_iter().flatten().collect()
@@ -44,15 +50,16 @@ pub fn of(size: Size) -> &'static [Case] {
 
 /// The cases of the greatest sizes of a request, of which many are refused with 8.
 pub fn request_sizes(size: Size) -> Vec<Case> {
-    let parts = [depths(), counts(), message_sizes(), context_counts()];
+    let parts = [depths(), counts(), message_sizes(), context_counts(), selections()];
     let cases = parts.into_iter().flatten();
     cases.filter(|case| size == Size::Mixed || is_small(case)).collect()
 }
 
-/// Whether dictionary and request are short, or abbreviated to few digits.
+/// Whether dictionary and request are short, or abbreviated to few digits, and runs are short.
 fn is_small(case: &Case) -> bool {
     let (dictionary, request) = case.bytes();
-    hex::write(dictionary).len() < 500 && hex::write(request).len() < 420
+    let has_long_runs = matches!(case, Case::Evaluate { runs, .. } if runs.len() > 500);
+    hex::write(dictionary).len() < 500 && hex::write(request).len() < 420 && !has_long_runs
 }
 
 /// A reading beside the dictionary `house`.
@@ -134,6 +141,47 @@ fn context_counts() -> Vec<Case> {
         cases.push(read(assemble::request(&[&for_loop(&[&rid(1, 0)], &sort, &NOTHING)])));
     }
     cases
+}
+
+/// 0, 1, 2, 8 and 9 streams of any and unique, 32 and 33 context declarations with theirs, and 32
+/// and 33 levels below them.
+fn selections() -> Vec<Case> {
+    let test = operator(EQL, &[&short(0, 1), &short(0, 1)]);
+    let mut cases = Vec::new();
+    for code in [ANY, UNIQUE] {
+        for count in [0, 1, 2, 8, 9] {
+            let streams: Vec<Vec<u8>> = (1..=count).map(|context| rid(1, context)).collect();
+            let rse = [&[code, RSE, count], &streams.concat()[..], &[END]].concat();
+            cases.push(read(assemble::request(&[&condition(&rse)])));
+        }
+        // The for has a context, and each of these one more.
+        for count in [31, 32] {
+            let one = over(code, &rid(1, 7), &[]);
+            let all = [vec![AND; count - 1], one.repeat(count)].concat();
+            // And nests to the left, too deep from the 28th on.
+            let halves = balanced(&vec![one; count]);
+            cases.push(read(assemble::request(&[&condition(&halves)])));
+            cases.push(read(assemble::request(&[&condition(&all)])));
+        }
+        // Levels: begin, for, nots, any, eql, literal.
+        for nots in [27, 28] {
+            let inner = over(code, &rid(1, 7), &[&[BOOLEAN], &test[..]].concat());
+            let refuted = [vec![NOT; nots], inner].concat();
+            cases.push(read(assemble::request(&[&condition(&refuted)])));
+        }
+    }
+    cases
+}
+
+/// Booleans joined by and, in as few levels as may be.
+fn balanced(booleans: &[Vec<u8>]) -> Vec<u8> {
+    match booleans {
+        [one] => one.clone(),
+        _ => {
+            let (left, right) = booleans.split_at(booleans.len() / 2);
+            operator(AND, &[&balanced(left), &balanced(right)])
+        }
+    }
 }
 
 /// Text sizes and scales of descriptors and literals.
@@ -304,17 +352,30 @@ fn dictionary_ranges() -> Vec<Case> {
     cases
 }
 
+/// A relation of some texts of 255 bytes and one of another length.
+fn relation_of_texts(count: usize, last: u16) -> Relation {
+    let mut fields: Vec<Field> =
+        (0..count).map(|n| field(TEXT, 0, 255, &two_byte_name(n)[1..])).collect();
+    fields.push(field(TEXT, 0, last, b"Z"));
+    Relation { id: 1, name: b"R".to_vec(), fields }
+}
+
+/// A record of blanks.
+fn blank_record(relation: &Relation) -> Vec<u8> {
+    let length = relation.entry_length();
+    let bits = relation.fields.len().div_ceil(8);
+    let mut record = vec![b' '; length];
+    record[..2].copy_from_slice(&(length as u16).to_le_bytes());
+    record[2..6].copy_from_slice(&[3, 0, 1, 0]);
+    record[6..6 + bits].fill(0);
+    record
+}
+
 /// Record entries of 4,096 and 4,097 bytes: 16 texts of 255 bytes and one of 7 or 8.
 pub fn record_lengths() -> Vec<Case> {
     let case = |last: u16| {
-        let mut fields: Vec<Field> =
-            (0..16).map(|n| field(TEXT, 0, 255, &two_byte_name(n)[1..])).collect();
-        fields.push(field(TEXT, 0, last, b"Z"));
-        let relation = Relation { id: 1, name: b"R".to_vec(), fields };
-        let length = relation.entry_length();
-        let mut records = vec![b' '; length];
-        records[..2].copy_from_slice(&(length as u16).to_le_bytes());
-        records[2..9].copy_from_slice(&[3, 0, 1, 0, 0, 0, 0]);
+        let relation = relation_of_texts(16, last);
+        let records = blank_record(&relation);
         let test = operator(EQL, &[&assemble::fid(0, 16), &text(b" ")]);
         Case::Evaluate {
             dictionary: dictionaries::encode(&Dictionary { relations: vec![relation] }),
@@ -322,9 +383,56 @@ pub fn record_lengths() -> Vec<Case> {
             condition: 0,
             messages: Vec::new(),
             records,
+            runs: Vec::new(),
         }
     };
     vec![case(7), case(8)]
+}
+
+/// An evaluation of two codes over runs of one relation, joined by or.
+fn over_two_runs(relation: &Relation, codes: [u8; 2], runs: &[&[u8]]) -> Case {
+    let last = relation.fields.len() - 1;
+    let is_blank = operator(EQL, &[&assemble::fid(7, last as u8), &text(b" ")]);
+    let first = over(codes[0], &rid(1, 7), &[&[BOOLEAN], &is_blank[..]].concat());
+    let second = over(codes[1], &rid(1, 7), &[]);
+    let boolean = operator(OR, &[&first, &second]);
+    let statement = [&[IF], &boolean[..], &NOTHING, &[END]].concat();
+    Case::Evaluate {
+        dictionary: dictionaries::encode(&Dictionary { relations: vec![relation.clone()] }),
+        request: assemble::request(&[&statement]),
+        condition: 0,
+        messages: Vec::new(),
+        records: Vec::new(),
+        runs: runs.concat(),
+    }
+}
+
+/// Runs of 65,535 bytes, whole, cut, and with a byte more: 3,449 records of 19 bytes and 19 of 3,449.
+/// Runs of one record of 4,096 and of 4,097 bytes, and without one.
+pub fn run_lengths() -> Vec<Case> {
+    let none = data::run(&[]);
+    let mut cases = Vec::new();
+    for relation in [relation_of_texts(0, 12), relation_of_texts(13, 126)] {
+        let record = blank_record(&relation);
+        let run = data::run(&vec![record.clone(); 65_531 / record.len()]);
+        for codes in [[ANY, UNIQUE], [UNIQUE, ANY]] {
+            for runs in [[&run[..], &none], [&none, &run], [&run, &run]] {
+                cases.push(over_two_runs(&relation, codes, &runs));
+            }
+        }
+        let cut = &run[..65_534];
+        for runs in [[&run[..], cut], [cut, &none], [&run, &[4, 0, 7, 0, 4]]] {
+            cases.push(over_two_runs(&relation, [ANY, ANY], &runs));
+        }
+    }
+    for last in [7, 8] {
+        let relation = relation_of_texts(16, last);
+        let run = data::run(&[blank_record(&relation)]);
+        for runs in [[&none, &none], [&none, &run], [&run, &none]] {
+            cases.push(over_two_runs(&relation, [UNIQUE, UNIQUE], &runs.map(|run| &run[..])));
+        }
+    }
+    cases
 }
 
 /// Requests and dictionaries of 65,535 and 65,536 bytes.

@@ -5,6 +5,7 @@ use super::rng::Rng;
 use crate::datatype::DataType;
 use crate::dictionary::{Dictionary, Relation};
 use crate::reader::parsed::{Condition, Parsed};
+use crate::record::GREATEST_LENGTH;
 use crate::wire::{CSTRING, DATE, INT64, LONG, READING, SHORT, VARYING};
 
 /// Bytes of texts: few letters in both cases, so that texts are often equal, and what the tests
@@ -148,4 +149,30 @@ pub fn records(
         records.push(record(rng, relation, malformed));
     }
     records
+}
+
+/// A run: an entry of kind 7 with records.
+pub fn run(records: &[Vec<u8>]) -> Vec<u8> {
+    let body = records.concat();
+    let length = (body.len() + 4) as u16;
+    [&length.to_le_bytes()[..], &7u16.to_le_bytes(), &body].concat()
+}
+
+/// Proper runs for a condition, each apart. Of a relation with records too long a run is empty.
+pub fn runs(
+    rng: &mut Rng,
+    parsed: &Parsed,
+    dictionary: &Dictionary,
+    condition: &Condition,
+    malformed: usize,
+) -> Vec<Vec<u8>> {
+    let mut runs = Vec::new();
+    for context in &condition.runs {
+        let relation = &dictionary.relations[parsed.contexts[*context].relation];
+        let is_long = relation.entry_length() > GREATEST_LENGTH;
+        let count = if is_long { 0 } else { rng.pick(&[0, 1, 1, 2, 2, 3, 5]) };
+        let records: Vec<Vec<u8>> = (0..count).map(|_| record(rng, relation, malformed)).collect();
+        runs.push(run(&records));
+    }
+    runs
 }

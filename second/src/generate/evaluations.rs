@@ -11,14 +11,14 @@ use super::dictionaries::{self, house};
 use super::rng::Rng;
 use super::{Case, Size};
 use crate::dictionary::Dictionary;
-use crate::evaluator::{evaluate, Answer};
+use crate::evaluator::{evaluate_over, Answer, Lent};
 use crate::reader;
 use crate::reader::parsed::{Condition, Parsed, Role};
 use crate::record::Cause;
-use crate::refusal::Refusal;
+use crate::refusal::{Refusal, WRONG_RUNS};
 use crate::wire::{
-    ADD, BOOLEANS, CSTRING, DIVIDE, EQL, GEQ, MISSING, MULTIPLY, NEQ, PARAMETER2, SHORT, VALUES,
-    VARYING, VERSION4, VERSION5,
+    self, ADD, ANY, BOOLEANS, CSTRING, DIVIDE, EQL, GEQ, MISSING, MULTIPLY, NEQ, PARAMETER2, SHORT,
+    UNIQUE, VALUES, VARYING, VERSION4, VERSION5,
 };
 
 /// The causes of a missing answer.
@@ -30,15 +30,16 @@ pub type Outcome = Result<Answer, u32>;
 /// The outcome of an evaluation.
 pub fn outcome(case: &Case) -> Option<Outcome> {
     match case {
-        Case::Evaluate { dictionary, request, condition, messages, records } => {
-            let result = evaluate(request, dictionary, *condition, messages, records);
+        Case::Evaluate { dictionary, request, condition, messages, records, runs } => {
+            let lent = Lent { messages, records, runs };
+            let result = evaluate_over(request, dictionary, *condition, lent);
             Some(result.map_err(|refusal: Refusal| refusal.number))
         }
         Case::Read { .. } => None,
     }
 }
 
-/// The 24 codes of booleans and values, one after another, so that each is met.
+/// The codes of booleans and values, one after another, so that each is met.
 fn focus(turn: usize) -> Focus {
     let at = turn % (BOOLEANS.len() + VALUES.len());
     match BOOLEANS.get(at) {
@@ -74,14 +75,23 @@ fn proper(rng: &mut Rng, size: Size, focus: Focus, malformed: usize) -> Case {
     with_data(rng, &dictionary, request, malformed)
 }
 
-/// Messages and records for one of the conditions of a request.
+/// An evaluation whose request is likely to have an any or a unique.
+pub fn over_runs(rng: &mut Rng, size: Size) -> Case {
+    let focus = (Role::Boolean, rng.pick(&[ANY, UNIQUE]));
+    proper(rng, size, focus, 12)
+}
+
+/// Messages, records and runs for one of the conditions of a request.
 fn with_data(rng: &mut Rng, dictionary: &Dictionary, request: Vec<u8>, malformed: usize) -> Case {
     let encoded = dictionaries::encode(dictionary);
     let (parsed, _) = reader::parse(&request, &encoded).unwrap_or_default();
     let number = rng.below(parsed.conditions.len().max(1));
-    let records = match parsed.conditions.get(number) {
-        Some(condition) => data::records(rng, &parsed, dictionary, condition, malformed),
-        None => Vec::new(),
+    let (records, runs) = match parsed.conditions.get(number) {
+        Some(condition) => (
+            data::records(rng, &parsed, dictionary, condition, malformed),
+            data::runs(rng, &parsed, dictionary, condition, malformed),
+        ),
+        None => (Vec::new(), Vec::new()),
     };
     Case::Evaluate {
         dictionary: encoded,
@@ -89,16 +99,19 @@ fn with_data(rng: &mut Rng, dictionary: &Dictionary, request: Vec<u8>, malformed
         condition: number,
         messages: data::messages(rng, &parsed, malformed),
         records: records.concat(),
+        runs: runs.concat(),
     }
 }
 
-/// An evaluation that is refused with a number from 20 to 25.
+/// An evaluation that is refused with a number from 20 to 26.
 pub fn refused(rng: &mut Rng, size: Size, number: u32, turn: usize) -> Case {
     until(Err(number), || match number {
         20 => no_boolean(rng, size, turn),
         21 => wrong_messages(rng, size, turn),
         22 if size == Size::Mixed && turn % 8 == 7 => long_record(turn),
         22 => wrong_records(rng, size, turn),
+        26 if size == Size::Mixed && turn % 16 == 15 => long_run(turn),
+        26 => wrong_runs(rng, size, turn),
         23 if turn.is_multiple_of(2) => malformed_text(rng),
         23 => proper(rng, size, focus(turn), 1),
         24 | 25 if turn % 3 < 2 => edge(rng),
@@ -143,13 +156,10 @@ fn malformed_text(rng: &mut Rng) -> Case {
 /// 20: a condition number that is not there; messages and records may be wrong too.
 fn no_boolean(rng: &mut Rng, size: Size, turn: usize) -> Case {
     let mut case = proper(rng, size, focus(turn), 12);
-    if let Case::Evaluate { condition, messages, records, .. } = &mut case {
+    if let Case::Evaluate { condition, messages, records, runs, .. } = &mut case {
         *condition += rng.pick(&[1, 2, 9, 513]);
-        if rng.one_in(2) {
-            damage_length(rng, messages);
-        }
-        if rng.one_in(2) {
-            damage_length(rng, records);
+        for bytes in [messages, records, runs] {
+            may_damage(rng, bytes);
         }
     }
     case
@@ -158,13 +168,19 @@ fn no_boolean(rng: &mut Rng, size: Size, turn: usize) -> Case {
 /// 21: messages of another length; records may be wrong too.
 fn wrong_messages(rng: &mut Rng, size: Size, turn: usize) -> Case {
     let mut case = proper(rng, size, focus(turn), 12);
-    if let Case::Evaluate { messages, records, .. } = &mut case {
+    if let Case::Evaluate { messages, records, runs, .. } = &mut case {
         damage_length(rng, messages);
-        if rng.one_in(2) {
-            damage_length(rng, records);
-        }
+        may_damage(rng, records);
+        may_damage(rng, runs);
     }
     case
+}
+
+/// Damages the length once in two times.
+fn may_damage(rng: &mut Rng, bytes: &mut Vec<u8>) {
+    if rng.one_in(2) {
+        damage_length(rng, bytes);
+    }
 }
 
 /// Some bytes more, or one less.
@@ -182,6 +198,13 @@ fn long_record(turn: usize) -> Case {
     cases.swap_remove(turn / 8 % 2)
 }
 
+/// 26: runs of greatest lengths.
+fn long_run(turn: usize) -> Case {
+    let mut cases = boundaries::run_lengths();
+    cases.retain(|case| outcome(case) == Some(Err(WRONG_RUNS)));
+    cases.swap_remove(turn / 16 % cases.len())
+}
+
 /// 22: records that are not as due.
 fn wrong_records(rng: &mut Rng, size: Size, turn: usize) -> Case {
     let dictionary = dictionaries::proper(rng, size);
@@ -194,7 +217,79 @@ fn wrong_records(rng: &mut Rng, size: Size, turn: usize) -> Case {
         None => Vec::new(),
     };
     let messages = data::messages(rng, &parsed, 12);
-    Case::Evaluate { dictionary: encoded, request, condition: number, messages, records }
+    let mut runs = match parsed.conditions.get(number) {
+        Some(condition) => data::runs(rng, &parsed, &dictionary, condition, 12).concat(),
+        None => Vec::new(),
+    };
+    may_damage(rng, &mut runs);
+    Case::Evaluate { dictionary: encoded, request, condition: number, messages, records, runs }
+}
+
+/// 26: runs that are not as due. A condition without one has bytes too many.
+fn wrong_runs(rng: &mut Rng, size: Size, turn: usize) -> Case {
+    let mut case = over_runs(rng, size);
+    if let Case::Evaluate { runs, .. } = &mut case {
+        let mut entries = entries(runs);
+        if entries.is_empty() {
+            runs.extend(rng.pick(&[&[0][..], &[4, 0, 7, 0], &[4, 0, 3, 0]]));
+        } else {
+            damage_run(rng, &mut entries, turn);
+            *runs = entries.concat();
+        }
+    }
+    case
+}
+
+/// The entries of joined bytes that are whole entries.
+fn entries(bytes: &[u8]) -> Vec<Vec<u8>> {
+    let mut entries = Vec::new();
+    let mut rest = bytes;
+    while let Some(length) = wire::word(rest, 0) {
+        let (entry, others) = rest.split_at(usize::from(length));
+        entries.push(entry.to_vec());
+        rest = others;
+    }
+    entries
+}
+
+/// Runs with one fault; `way` says which.
+fn damage_run(rng: &mut Rng, runs: &mut Vec<Vec<u8>>, way: usize) {
+    let at = rng.below(runs.len());
+    let entry = &mut runs[at];
+    let last = entry.len() - 1;
+    match way % 13 {
+        0 => drop(entry.pop()),
+        1 => entry.push(rng.byte()),
+        2 => entry[2] = rng.pick(&[0, 3, 6, 8]),
+        3 => entry[3] = 1,
+        4 => entry[0] = entry[0].wrapping_add(rng.pick(&[1, 255, 4, 252])),
+        5 => entry[rng.between(0, last)] ^= rng.pick(&[1, 128]),
+        6 => drop(runs.pop()),
+        7 => runs.push(vec![rng.byte(); rng.pick(&[1, 2, 12])]),
+        8 => entry.truncate(rng.between(1, 3)),
+        9 => set_spare_bit(&mut entry[4..]),
+        10 => of_another_relation(rng, entry),
+        11 => cut_record(entry),
+        _ => runs.push(vec![4, 0, 7, 0]),
+    }
+}
+
+/// Changes the relation of a run's last record.
+fn of_another_relation(rng: &mut Rng, run: &mut [u8]) {
+    let length = wire::word(run, 4).map_or(0, usize::from);
+    if length > 0 {
+        let last = run.len() - length;
+        run[last + 4] ^= rng.pick(&[1, 2, 128]);
+    }
+}
+
+/// Takes the last byte from a run's last record; the run's own length is right.
+fn cut_record(run: &mut Vec<u8>) {
+    if run.len() > 4 {
+        run.pop();
+        let length = run.len() as u16;
+        run[..2].copy_from_slice(&length.to_le_bytes());
+    }
 }
 
 /// Records with one fault; `way` says which.

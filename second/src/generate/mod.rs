@@ -71,6 +71,7 @@ pub enum Case {
         condition: usize,
         messages: Vec<u8>,
         records: Vec<u8>,
+        runs: Vec<u8>,
     },
 }
 
@@ -148,7 +149,7 @@ fn make(rng: &mut Rng, size: Size, aim: Aim, turn: usize) -> Case {
         Aim::Boundary => boundary(size, turn),
         Aim::BadDictionary => targeted::bad_dictionary(rng, size, turn),
         Aim::Answered => evaluations::answered(rng, size, turn),
-        Aim::RefusedEvaluation => evaluations::refused(rng, size, 20 + (turn % 6) as u32, turn / 6),
+        Aim::RefusedEvaluation => evaluations::refused(rng, size, 20 + (turn % 7) as u32, turn / 7),
         Aim::DamagedEvaluation => evaluations::damaged(rng, size, turn),
         Aim::Edge => evaluations::edge(rng),
     }

@@ -129,6 +129,15 @@ impl Builder<'_> {
         self.contexts.truncate(outer);
     }
 
+    /// The rse of one stream of a code that goes over a run; its context is left in scope.
+    pub fn selection(&mut self, level: usize) {
+        self.draft.raw(&[RSE]);
+        self.draft.byte(Mark::Count, 1);
+        let open = self.stream(false, &[]);
+        self.contexts.push(open);
+        self.clauses(level, false);
+    }
+
     fn stream_count(&mut self) -> usize {
         match self.size {
             Size::Small => self.rng.pick(&[1, 1, 1, 1, 1, 2]),

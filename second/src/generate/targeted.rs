@@ -1,8 +1,8 @@
 //! Readings aimed at one refusal each.
 
 use super::assemble::{
-    self, assignment, condition, fid, for_house, for_loop, int64, message, operator, parameter,
-    rid, short, text, NOTHING,
+    self, assignment, condition, fid, for_house, for_loop, int64, message, operator, over,
+    parameter, rid, short, text, NOTHING,
 };
 use super::boundaries;
 use super::builder::{self, foci};
@@ -14,11 +14,12 @@ use crate::dictionary::Dictionary;
 use crate::reader;
 use crate::reader::parsed::Role;
 use crate::wire::{
-    ADD, ASCENDING, BEGIN, BETWEEN, BOOLEAN, CONTAINING, DATE, DIVIDE, END, EQL, ERASE, FIELD, FOR,
-    GEQ, INT64, LABEL, LEAVE, LEFT_OUT_BOOLEANS, LEFT_OUT_CLAUSES, LEFT_OUT_DESCRIPTORS,
-    LEFT_OUT_LITERALS, LEFT_OUT_STATEMENTS, LEFT_OUT_STREAMS, LEFT_OUT_VALUES, LITERAL, LOOP,
-    MATCHING, MISSING, MODIFY, MULTIPLY, NEGATE, PARAMETER2, RECEIVE, RELATION, RSE, SELECT, SEND,
-    SHORT, SORT, STARTING, STORE, TEXT, VERSION4,
+    ADD, AND, ANY, ASCENDING, BEGIN, BETWEEN, BOOLEAN, CONTAINING, DATE, DIVIDE, END, EQL, ERASE,
+    FIELD, FOR, GEQ, INT64, LABEL, LEAVE, LEFT_OUT_BOOLEANS, LEFT_OUT_CLAUSES,
+    LEFT_OUT_DESCRIPTORS, LEFT_OUT_LITERALS, LEFT_OUT_STATEMENTS, LEFT_OUT_STREAMS,
+    LEFT_OUT_VALUES, LITERAL, LOOP, MATCHING, MISSING, MODIFY, MULTIPLY, NEGATE, PARAMETER2,
+    RECEIVE, RELATION, RID, RSE, SELECT, SEND, SHORT, SORT, STARTING, STORE, TEXT, UNIQUE,
+    VERSION4,
 };
 
 /// The refusals of a reading; those that have many causes come more than once.
@@ -219,6 +220,7 @@ fn codes_not_due(rng: &mut Rng) -> Vec<u8> {
         assemble::request(&[&two_clauses(BOOLEAN)]),
         assemble::request(&[&two_clauses(SORT)]),
         assemble::request(&[&later_types()[rng.below(3)]]),
+        assemble::request(&[&condition(&[rng.pick(&[ANY, UNIQUE]), RID, 1, 0, 0])]),
     ];
     let at = rng.below(requests.len());
     requests[at].clone()
@@ -298,7 +300,20 @@ fn context_faults() -> Vec<Vec<u8>> {
         for_house(&assignment(&fid(2, 0), &fid(0, 0))),
         condition(&operator(EQL, &[&fid(0, 1), &fid(1, 1)])),
         vec![ERASE, 7],
+        condition(&over(ANY, &rid(1, 0), &[])),
+        condition(&operator(AND, &[&over(ANY, &rid(1, 4), &[]), &field_of(4)])),
+        condition(&over(UNIQUE, &rid(1, 4), &[&[BOOLEAN], &field_of(5)[..]].concat())),
+        condition(&over(
+            ANY,
+            &rid(1, 4),
+            &[&[BOOLEAN], &over(UNIQUE, &rid(1, 4), &[])[..]].concat(),
+        )),
     ]
+}
+
+/// A test of a field of a context.
+fn field_of(context: u8) -> Vec<u8> {
+    operator(MISSING, &[&fid(context, 0)])
 }
 
 /// 13: kinds and scales that don't fit.

@@ -8,8 +8,9 @@ use crate::datatype::{DataType, Kind};
 use crate::decimal;
 use crate::reader::parsed::Role;
 use crate::wire::{
-    self, ADD, AND, BETWEEN, BOOLEANS, CONTAINING, DIVIDE, FID, FIELD, INT64, LITERAL, MATCHING,
-    MISSING, MULTIPLY, NEGATE, NOT, OR, PARAMETER, PARAMETER2, STARTING, SUBTRACT, TEXT, VERSION5,
+    self, ADD, AND, ANY, BETWEEN, BOOLEANS, CONTAINING, DIVIDE, FID, FIELD, INT64, LITERAL,
+    MATCHING, MISSING, MULTIPLY, NEGATE, NOT, OR, PARAMETER, PARAMETER2, STARTING, SUBTRACT, TEXT,
+    UNIQUE, VERSION5,
 };
 
 /// A field or parameter that may be named.
@@ -185,11 +186,18 @@ impl Builder<'_> {
         self.rng.pick(&kinds)
     }
 
+    /// Whether a code that goes over a run may stand at a level.
+    fn may_select(&self, level: usize) -> bool {
+        let has_streams = !self.dictionary.relations.is_empty() && self.declared < 24;
+        level + 3 <= self.depth && self.has_budget() && has_streams
+    }
+
     /// Writes a boolean.
     pub fn boolean(&mut self, level: usize) {
         let roomy = level + 2 <= self.depth && self.has_budget();
         let mut codes = BOOLEANS.to_vec();
         codes.retain(|code| roomy || !matches!(*code, AND | OR | NOT));
+        codes.retain(|code| self.may_select(level) || !matches!(*code, ANY | UNIQUE));
         let code = self.choose(Role::Boolean, &codes);
         self.draft.code(Role::Boolean, code);
         match code {
@@ -198,6 +206,10 @@ impl Builder<'_> {
                 self.boolean(level + 1);
             }
             NOT => self.boolean(level + 1),
+            ANY | UNIQUE => {
+                self.selection(level + 1);
+                self.contexts.pop();
+            }
             _ => self.operands(code, level + 1),
         }
     }

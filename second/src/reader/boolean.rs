@@ -3,26 +3,31 @@
 //! Document 01: "Comparisons and between want one kind, 53–55 text"; an operator's fit is tested
 //! after its last operand, and 13 stands at the operator. Conditions, "those not inside another
 //! boolean", are kept in reading order with the contexts in scope.
+//!
+//! Document 02, No. 4: "Accept any 60 and unique 62, each with an rse of one stream whose contexts
+//! are in scope inside it"; "Booleans inside an rse of this sort have no number of their own."
 
 use super::parsed::{Boolean, Condition, Role, Value};
 use super::Reader;
 use crate::datatype::Kind;
 use crate::refusal::{self, refuse, Refusal};
 use crate::wire::{
-    AND, BETWEEN, BOOLEANS, CONTAINING, LEFT_OUT_BOOLEANS, MATCHING, MISSING, NOT, OR, STARTING,
+    AND, ANY, BETWEEN, BOOLEANS, CONTAINING, LEFT_OUT_BOOLEANS, MATCHING, MISSING, NOT, OR,
+    STARTING, UNIQUE,
 };
 
 impl Reader<'_> {
     /// A boolean that isn't inside another; gives its number.
     pub fn condition(&mut self, level: usize) -> Result<usize, Refusal> {
-        let boolean = self.boolean(level)?;
         let contexts = self.scope.contexts.clone();
-        self.parsed.conditions.push(Condition { boolean, contexts });
+        let boolean = self.boolean(level)?;
+        let runs = std::mem::take(&mut self.runs);
+        self.parsed.conditions.push(Condition { boolean, contexts, runs });
         Ok(self.parsed.conditions.len() - 1)
     }
 
     /// One boolean at a level.
-    fn boolean(&mut self, level: usize) -> Result<Boolean, Refusal> {
+    pub fn boolean(&mut self, level: usize) -> Result<Boolean, Refusal> {
         let place = self.cursor.place();
         let code = self.cursor.code(&BOOLEANS, &LEFT_OUT_BOOLEANS)?;
         self.level(place, level)?;
@@ -31,6 +36,11 @@ impl Reader<'_> {
             AND => Ok(Boolean::And(self.two_booleans(level + 1)?)),
             OR => Ok(Boolean::Or(self.two_booleans(level + 1)?)),
             NOT => Ok(Boolean::Not(Box::new(self.boolean(level + 1)?))),
+            ANY | UNIQUE => {
+                let selection = self.selection(place, code, level + 1)?;
+                self.close_scope(1);
+                Ok(Boolean::Over(code, Box::new(selection)))
+            }
             _ => self.test(place, code, level + 1),
         }
     }

@@ -70,6 +70,7 @@ pub fn parse(request: &[u8], dictionary: &[u8]) -> Result<(Parsed, Dictionary), 
         cursor: Cursor::new(request),
         dictionary: &dictionary,
         scope: Scope::default(),
+        runs: Vec::new(),
         parsed: Parsed::default(),
     };
     reader.request()?;
@@ -82,6 +83,8 @@ struct Reader<'a> {
     cursor: Cursor<'a>,
     dictionary: &'a Dictionary,
     scope: Scope,
+    /// The contexts of the codes met in the present condition that go over a run.
+    runs: Vec<usize>,
     parsed: Parsed,
 }
 

@@ -33,7 +33,7 @@ impl Message {
 }
 
 /// A context: its number, its scope, the index of its relation in the dictionary, and the code that
-/// opened it: for, store or modify.
+/// opened it: for, store, modify, any or unique.
 #[derive(Clone, Debug)]
 pub struct Context {
     pub number: u8,
@@ -95,13 +95,28 @@ pub enum Boolean {
     And(Box<[Boolean; 2]>),
     Or(Box<[Boolean; 2]>),
     Not(Box<Boolean>),
+    /// Any 60 or unique 62 over a run.
+    Over(u8, Box<Selection>),
 }
 
-/// A boolean that isn't inside another, with the indices of the contexts in scope at it.
+/// The rse of one stream that stands in a code of a condition, with the place of that code.
+#[derive(Clone, Debug)]
+pub struct Selection {
+    pub place: usize,
+    /// The index of the stream's context.
+    pub context: usize,
+    pub condition: Option<Boolean>,
+    /// Which of the condition's runs it goes over.
+    pub run: usize,
+}
+
+/// A boolean that isn't inside another, with the indices of the contexts in scope at it, and of
+/// those that go over its runs, in the order of their codes.
 #[derive(Clone, Debug)]
 pub struct Condition {
     pub boolean: Boolean,
     pub contexts: Vec<usize>,
+    pub runs: Vec<usize>,
 }
 
 /// The part that a code has in a request.

@@ -3,8 +3,10 @@
 //! Document 01: "Rse: 67, stream count, streams, at most one each of boolean 71 and sort 70 (count,
 //! then 72 or 73 before each value) in either order, 255. Stream: relation 74, counted name, ctx;
 //! or rid 75, id word, ctx." "A context of an rse is in scope from the byte after its last stream".
+//!
+//! Document 02, No. 4, on the rse of a code that goes over a run: "8 at a stream count of 2 to 8".
 
-use super::parsed::Role;
+use super::parsed::{Boolean, Role, Selection};
 use super::Reader;
 use crate::refusal::{self, refuse, Refusal};
 use crate::wire::{
@@ -23,8 +25,31 @@ impl Reader<'_> {
             self.stream(first, FOR)?;
         }
         self.open_scope(first);
-        self.clauses(row, level)?;
+        self.clauses(Some(row), level)?;
         Ok(usize::from(count))
+    }
+
+    /// The rse of one stream of a code that goes over a run; its values and its boolean are at
+    /// `level`. Its context is left in scope.
+    pub fn selection(
+        &mut self,
+        place: usize,
+        code: u8,
+        level: usize,
+    ) -> Result<Selection, Refusal> {
+        let run = self.runs.len();
+        // The context that the stream declares, if it does.
+        let context = self.parsed.contexts.len();
+        self.runs.push(context);
+        self.due(RSE)?;
+        let count_place = self.cursor.place();
+        if self.cursor.count()? != 1 {
+            return refuse(refusal::TOO_MANY, count_place);
+        }
+        self.stream(context, code)?;
+        self.open_scope(context);
+        let condition = self.clauses(None, level)?;
+        Ok(Selection { place, context, condition, run })
     }
 
     /// One stream of what a code opens; contexts declared from `first` on are of the same rse.
@@ -51,14 +76,17 @@ impl Reader<'_> {
         }
     }
 
-    /// Clauses up to the 255; one that was read is not due again.
-    fn clauses(&mut self, row: usize, level: usize) -> Result<(), Refusal> {
+    /// Clauses up to the 255; one that was read is not due again. The boolean is the condition of a
+    /// for with its row; another has no number and is given back.
+    fn clauses(&mut self, row: Option<usize>, level: usize) -> Result<Option<Boolean>, Refusal> {
         let mut due = vec![END, BOOLEAN, SORT];
+        let mut boolean = None;
         loop {
             let code = self.cursor.code(&due, &LEFT_OUT_CLAUSES)?;
-            match code {
-                END => return Ok(()),
-                BOOLEAN => self.condition_of(row, level)?,
+            match (code, row) {
+                (END, _) => return Ok(boolean),
+                (BOOLEAN, Some(row)) => self.condition_of(row, level)?,
+                (BOOLEAN, None) => boolean = Some(self.boolean(level)?),
                 _ => self.sort(level)?,
             }
             self.note(Role::Clause, code);

@@ -13,8 +13,8 @@ abbrev arms : List (List ℕ)
 arms =
     each
     (blr.eql ∷ blr.neq ∷ blr.gtr ∷ blr.geq ∷ blr.lss ∷ blr.leq ∷ blr.containing ∷ blr.matching ∷ blr.starting ∷
-    blr.between ∷ blr.or ∷ blr.and ∷ blr.not ∷ blr.missing ∷ [])
-    ((blr.any ∷ []) ∷ [])
+    blr.between ∷ blr.or ∷ blr.and ∷ blr.not ∷ blr.any ∷ blr.missing ∷ blr.unique ∷ [])
+    ((blr.like ∷ []) ∷ [])
 
 returns : tie.Need-returns
 unfolding booleanClass classify
@@ -73,20 +73,20 @@ unfolding booleanClass classify
 returns-14 c = ap booleanClass (sym (c .match .keys14))
 
 returns-15 : tie.Need-returns-15
-unfolding booleanClass classify among anyOf
-returns-15 c = between foreign booleanClass [] 0 47 refl (c .before .before .args .code) tt (search needs) (search needs)
+unfolding booleanClass classify
+returns-15 c = ap booleanClass (sym (c .match .keys15))
 
 returns-16 : tie.Need-returns-16
-unfolding booleanClass classify among anyOf
-returns-16 c = between foreign booleanClass [] 64 256 refl (c .before .before .before .args .code) tt (search needs) (search needs)
+unfolding booleanClass classify
+returns-16 c = ap booleanClass (sym (c .match .keys16))
 
 returns-17 : tie.Need-returns-17
 unfolding booleanClass classify among anyOf
-returns-17 c = at-key leftOut booleanClass (blr.any ∷ []) refl _ (c .match .keys15)
+returns-17 c = at-key leftOut booleanClass (blr.like ∷ []) refl _ (c .match .keys17)
 
 returns-18 : tie.Need-returns-18
 unfolding booleanClass classify among anyOf
-returns-18 c = between leftOut booleanClass arms 47 64 refl _ (c .before .before .match .rest) (search needs) (search needs)
+returns-18 c = between foreign booleanClass arms 0 256 refl _ (c .match .rest) (search needs) (search needs)
 
 pub boolean-class-spec : {M : Type 1} → statement M
 boolean-class-spec =

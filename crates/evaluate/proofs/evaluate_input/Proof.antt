@@ -15,8 +15,8 @@ use Rattle.evaluate.proofs.evaluate_input.Tie as tie
 inside :
     (c : tie.After-request) →
     let at = c .request .given .0 in
-    EntriesInside (c .before .before .before .before .before .args .s .now) (at .0) (at .1 .0) (at .1 .1 .0)
-inside c = evaluation-inside _ _ _ _ (sym (c .request .given .1) ∙ c .before .before .evaluation-entries .ensures)
+    EntriesInside (c .before .before .before .before .before .args .s .now) (at .0) (at .1 .0) (at .1 .1 .0) (at .1 .1 .1 .0)
+inside c = evaluation-inside _ _ _ _ _ (sym (c .request .given .1) ∙ c .before .before .evaluation-entries .ensures)
 
 -- the messages are the joined bodies
 messages :
@@ -84,7 +84,16 @@ part-evaluate-start-3 : tie.Need-part-evaluate-start-3
 part-evaluate-start-3 c = let i = inside (c .before .before .before .before .before .before .before .before .before) in omega arith
 
 part-evaluate-end-3 : tie.Need-part-evaluate-end-3
-part-evaluate-end-3 c = search needs
+part-evaluate-end-3 c = let i = inside (c .before .before .before .before .before .before .before .before .before) in omega arith
+
+sub-evaluate-4 : tie.Need-sub-evaluate-4
+sub-evaluate-4 c = let i = inside (c .before .before .before .before .before .before .before .before .before .before) in omega arith
+
+part-evaluate-start-4 : tie.Need-part-evaluate-start-4
+part-evaluate-start-4 c = let i = inside (c .before .before .before .before .before .before .before .before .before .before) in omega arith
+
+part-evaluate-end-4 : tie.Need-part-evaluate-end-4
+part-evaluate-end-4 c = search needs
 
 evaluate-requires : tie.Need-evaluate-requires
 evaluate-requires c κs = search needs
@@ -97,17 +106,17 @@ same-length c = search needs
 
 returns : tie.Need-returns
 returns c =
-    let joins = c .before .before .before .before .before .before .before .before in
+    let joins = c .before .before .before .before .before .before .before .before .before in
     let found = joins .before .before .before in
     let bytes = found .before .before .before .before .before .args .s .now in
-    let records = found .request .given .0 .1 .1 .0 in
+    let runs = found .request .given .0 .1 .1 .1 .0 in
     rw (
       ← found .before .before .evaluation-entries .ensures,
       found .request .given .1,
       c .evaluate .ensures .answered,
-      c .before .before .before .word-at .ensures .0,
+      c .before .before .before .before .word-at .ensures .0,
       messages joins .1,
-      take-all (length bytes - records) (drop records bytes) (omega (arith, length-drop records bytes)),
+      take-all (length bytes - runs) (drop runs bytes) (omega (arith, length-drop runs bytes)),
     )
 
 returns-2 : tie.Need-returns-2
@@ -136,6 +145,9 @@ evaluate-input-spec =
     sub-evaluate-3
     part-evaluate-start-3
     part-evaluate-end-3
+    sub-evaluate-4
+    part-evaluate-start-4
+    part-evaluate-end-4
     evaluate-requires
     enum-told
     same-length

@@ -68,10 +68,10 @@ returns-2 : tie.Need-returns-2
 returns-2 c =
     let read-noting′ = c .before .before .before .before .before .before .before .read-noting in
     let reading2′ = c .before .reading2 in
-    let args′ = c .before .before .before .before .before .before .before .before .before .before .before .before .before .before .before .before .args in
+    let args′ = c .before .before .before .before .before .before .before .before .before .before .before .before .before .before .before .before .before .args in
     record {
       answered = refuses (read-noting′ .ensures) (omega arith) (omega arith) (omega arith) (omega arith) _ _ (reading2′ .given .1) (args′ .number)
-          (args′ .images .now) (args′ .records .now);
+          (args′ .images .now) (args′ .records .now) (args′ .runs .now);
       request-octets = read-noting′ .ensures .answered .request-octets;
     }
 

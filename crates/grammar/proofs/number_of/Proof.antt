@@ -95,6 +95,10 @@ enum-told-21 c = search needs
 enum-told-22 : tie.Need-enum-told-22
 enum-told-22 c = search needs
 
+-- src/lib.rt:58:28
+enum-told-23 : tie.Need-enum-told-23
+enum-told-23 c = search needs
+
 -- src/lib.rt:32:1
 returns : tie.Need-returns
 unfolding number
@@ -205,6 +209,11 @@ returns-22 : tie.Need-returns-22
 unfolding number
 returns-22 c = ap number (sym (c .enum-told22 .given .1))
 
+-- src/lib.rt:32:1
+returns-23 : tie.Need-returns-23
+unfolding number
+returns-23 c = ap number (sym (c .enum-told23 .given .1))
+
 pub number-of-spec : {M : Type 1} → statement M
 number-of-spec =
     tie.close
@@ -231,6 +240,7 @@ number-of-spec =
     enum-told-20
     enum-told-21
     enum-told-22
+    enum-told-23
     returns
     returns-2
     returns-3
@@ -252,4 +262,5 @@ number-of-spec =
     returns-19
     returns-20
     returns-21
-    returns-22)
+    returns-22
+    returns-23)

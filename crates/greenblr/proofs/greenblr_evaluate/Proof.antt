@@ -31,20 +31,20 @@ refusal-number-requires c κs = search needs
 -- src/lib.rt:63:1
 returns : tie.Need-returns
 returns c =
-    let args′ = c .before .before .before .before .before .before .before .before .before .args in
+    let args′ = c .before .before .before .before .before .before .before .before .before .before .args in
     let evaluate′ = c .before .before .before .before .evaluate in
     let t′ = c .before .before .t in
     let truth-number′ = c .truth-number in
-    truth-given (args′ .request .now) (args′ .dictionary .now) (args′ .number) (args′ .images .now) (args′ .records .now) _ _ _ (evaluate′ .ensures) (t′ .given .1) (truth-number′ .ensures)
+    truth-given (args′ .request .now) (args′ .dictionary .now) (args′ .number) (args′ .images .now) (args′ .records .now) (args′ .runs .now) _ _ _ (evaluate′ .ensures) (t′ .given .1) (truth-number′ .ensures)
 
 -- src/lib.rt:63:1
 returns-2 : tie.Need-returns-2
 returns-2 c =
-    let args′ = c .before .before .before .before .before .before .before .before .before .args in
+    let args′ = c .before .before .before .before .before .before .before .before .before .before .args in
     let evaluate′ = c .before .before .before .before .evaluate in
     let r′ = c .before .before .r in
     let refusal-number′ = c .refusal-number in
-    refusal-given (args′ .request .now) (args′ .dictionary .now) (args′ .number) (args′ .images .now) (args′ .records .now) _ _ _ _ (evaluate′ .ensures) (r′ .given .1) (refusal-number′ .ensures)
+    refusal-given (args′ .request .now) (args′ .dictionary .now) (args′ .number) (args′ .images .now) (args′ .records .now) (args′ .runs .now) _ _ _ _ (evaluate′ .ensures) (r′ .given .1) (refusal-number′ .ensures)
 
 pub greenblr-evaluate-spec : {M : Type 1} → statement M
 greenblr-evaluate-spec =

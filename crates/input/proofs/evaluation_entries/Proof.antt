@@ -1,5 +1,5 @@
 -- `input::evaluation_entries` meets its contract. Each answer rewrites the definition with the tests on its way. Assumes nothing.
-use Rattle.input.specs.Evaluation.{recordsAt, wholeInput, evaluationInput}
+use Rattle.input.specs.Evaluation.{recordsAt, runsAt, wholeInput, evaluationInput}
 use mathlib.Core.Path.{sym, _∙_}
 use native.Mathlib.Omega.{arith}
 use lib.ListN.{length}
@@ -9,7 +9,7 @@ use Rattle.input.proofs.evaluation_entries.Statement.{statement}
 use Rattle.input.proofs.evaluation_entries.Tie as tie
 
 returns : tie.Need-returns
-unfolding evaluationInput wholeInput recordsAt
+unfolding evaluationInput wholeInput recordsAt runsAt
 returns c =
     let args′ = c .before .before .args in
     let if1′ = c .if1 in
@@ -23,7 +23,7 @@ is-whole-requires : tie.Need-is-whole-requires
 is-whole-requires c κs = search needs
 
 returns-2 : tie.Need-returns-2
-unfolding evaluationInput wholeInput recordsAt
+unfolding evaluationInput wholeInput recordsAt runsAt
 returns-2 c =
     let args′ = c .before .before .before .before .args in
     let if1′ = c .before .before .if1 in
@@ -46,7 +46,7 @@ is-whole-requires-2 : tie.Need-is-whole-requires-2
 is-whole-requires-2 c κs = search needs
 
 returns-3 : tie.Need-returns-3
-unfolding evaluationInput wholeInput recordsAt
+unfolding evaluationInput wholeInput recordsAt runsAt
 returns-3 c =
     let args′ = c .before .before .before .before .before .before .before .args in
     let if1′ = c .before .before .before .before .before .if1 in
@@ -77,7 +77,7 @@ is-number-requires : tie.Need-is-number-requires
 is-number-requires c κs = search needs
 
 returns-4 : tie.Need-returns-4
-unfolding evaluationInput wholeInput recordsAt
+unfolding evaluationInput wholeInput recordsAt runsAt
 returns-4 c =
     let args′ = c .before .before .before .before .before .before .before .before .before .before .args in
     let if1′ = c .before .before .before .before .before .before .before .before .if1 in
@@ -109,26 +109,31 @@ after-entries-requires c κs = search needs
 after-entries-requires-2 : tie.Need-after-entries-requires-2
 after-entries-requires-2 c κs = search needs
 
+after-entries-requires-3 : tie.Need-after-entries-requires-3
+after-entries-requires-3 c κs = search needs
+
 returns-5 : tie.Need-returns-5
-unfolding evaluationInput wholeInput recordsAt
+unfolding evaluationInput wholeInput recordsAt runsAt
 returns-5 c =
-    let args′ = c .before .before .before .before .before .before .before .before .before .before .before .before .before .args in
-    let if1′ = c .before .before .before .before .before .before .before .before .before .before .before .if1 in
-    let is-whole′ = c .before .before .before .before .before .before .before .before .before .before .is-whole in
-    let if2′ = c .before .before .before .before .before .before .before .before .before .if2 in
-    let word-at′ = c .before .before .before .before .before .before .before .before .word-at in
-    let is-whole2′ = c .before .before .before .before .before .before .before .is-whole2 in
-    let if3′ = c .before .before .before .before .before .before .if3 in
-    let word-at2′ = c .before .before .before .before .before .word-at2 in
-    let is-number′ = c .before .before .before .before .is-number in
-    let if4′ = c .before .before .before .if4 in
-    let after-entries′ = c .before .before .after-entries in
-    let after-entries2′ = c .before .after-entries2 in
+    let args′ = c .before .before .before .before .before .before .before .before .before .before .before .before .before .before .args in
+    let if1′ = c .before .before .before .before .before .before .before .before .before .before .before .before .if1 in
+    let is-whole′ = c .before .before .before .before .before .before .before .before .before .before .before .is-whole in
+    let if2′ = c .before .before .before .before .before .before .before .before .before .before .if2 in
+    let word-at′ = c .before .before .before .before .before .before .before .before .before .word-at in
+    let is-whole2′ = c .before .before .before .before .before .before .before .before .is-whole2 in
+    let if3′ = c .before .before .before .before .before .before .before .if3 in
+    let word-at2′ = c .before .before .before .before .before .before .word-at2 in
+    let is-number′ = c .before .before .before .before .before .is-number in
+    let if4′ = c .before .before .before .before .if4 in
+    let after-entries′ = c .before .before .before .after-entries in
+    let after-entries2′ = c .before .before .after-entries2 in
+    let after-entries3′ = c .before .after-entries3 in
     let if5′ = c .if5 in
     rw (
       evaluationInput,
       wholeInput,
       recordsAt,
+      runsAt,
       le-leb (length (args′ .s .now)) 3000000 (omega (arith, if1′ .left)),
       sym (is-whole′ .ensures) ∙ not-false (is-whole′ .result) (if2′ .left),
       ← word-at′ .ensures .0,
@@ -137,29 +142,32 @@ returns-5 c =
       sym (is-number′ .ensures) ∙ not-false (is-number′ .result) (if4′ .left),
       ← after-entries′ .ensures,
       ← after-entries2′ .ensures,
+      ← after-entries3′ .ensures,
       eq-eqb _ _ (if5′ .taken),
     )
 
 returns-6 : tie.Need-returns-6
-unfolding evaluationInput wholeInput recordsAt
+unfolding evaluationInput wholeInput recordsAt runsAt
 returns-6 c =
-    let args′ = c .before .before .before .before .before .before .before .before .before .before .before .before .before .args in
-    let if1′ = c .before .before .before .before .before .before .before .before .before .before .before .if1 in
-    let is-whole′ = c .before .before .before .before .before .before .before .before .before .before .is-whole in
-    let if2′ = c .before .before .before .before .before .before .before .before .before .if2 in
-    let word-at′ = c .before .before .before .before .before .before .before .before .word-at in
-    let is-whole2′ = c .before .before .before .before .before .before .before .is-whole2 in
-    let if3′ = c .before .before .before .before .before .before .if3 in
-    let word-at2′ = c .before .before .before .before .before .word-at2 in
-    let is-number′ = c .before .before .before .before .is-number in
-    let if4′ = c .before .before .before .if4 in
-    let after-entries′ = c .before .before .after-entries in
-    let after-entries2′ = c .before .after-entries2 in
+    let args′ = c .before .before .before .before .before .before .before .before .before .before .before .before .before .before .args in
+    let if1′ = c .before .before .before .before .before .before .before .before .before .before .before .before .if1 in
+    let is-whole′ = c .before .before .before .before .before .before .before .before .before .before .before .is-whole in
+    let if2′ = c .before .before .before .before .before .before .before .before .before .before .if2 in
+    let word-at′ = c .before .before .before .before .before .before .before .before .before .word-at in
+    let is-whole2′ = c .before .before .before .before .before .before .before .before .is-whole2 in
+    let if3′ = c .before .before .before .before .before .before .before .if3 in
+    let word-at2′ = c .before .before .before .before .before .before .word-at2 in
+    let is-number′ = c .before .before .before .before .before .is-number in
+    let if4′ = c .before .before .before .before .if4 in
+    let after-entries′ = c .before .before .before .after-entries in
+    let after-entries2′ = c .before .before .after-entries2 in
+    let after-entries3′ = c .before .after-entries3 in
     let if5′ = c .if5 in
     rw (
       evaluationInput,
       wholeInput,
       recordsAt,
+      runsAt,
       le-leb (length (args′ .s .now)) 3000000 (omega (arith, if1′ .left)),
       sym (is-whole′ .ensures) ∙ not-false (is-whole′ .result) (if2′ .left),
       ← word-at′ .ensures .0,
@@ -168,6 +176,7 @@ returns-6 c =
       sym (is-number′ .ensures) ∙ not-false (is-number′ .result) (if4′ .left),
       ← after-entries′ .ensures,
       ← after-entries2′ .ensures,
+      ← after-entries3′ .ensures,
       ne-eqb _ _ (if5′ .left),
     )
 
@@ -190,5 +199,6 @@ evaluation-entries-spec =
     add-after-entries
     after-entries-requires
     after-entries-requires-2
+    after-entries-requires-3
     returns-5
     returns-6)

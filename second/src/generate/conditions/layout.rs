@@ -47,6 +47,7 @@ fn evaluation(house: &House, request: &[u8], condition: usize, records: &[&[u8]]
         condition,
         messages: Vec::new(),
         records: records.concat(),
+        runs: Vec::new(),
     }
 }
 
@@ -157,6 +158,7 @@ pub fn bits() -> Vec<Case> {
                 condition: 0,
                 messages: Vec::new(),
                 records: records.clone(),
+                runs: Vec::new(),
             });
         }
     }
@@ -190,6 +192,7 @@ fn over_messages(messages: &[(u8, Vec<Stored>)], boolean: &[u8]) -> Case {
         condition: 0,
         messages: images.flat_map(|stored| stored.bytes.clone()).collect(),
         records: Vec::new(),
+        runs: Vec::new(),
     }
 }
 
@@ -271,6 +274,7 @@ fn among_messages(statement: &[u8], value: i32, records: &[&[u8]]) -> Case {
         condition: 0,
         messages,
         records: records.concat(),
+        runs: Vec::new(),
     }
 }
 

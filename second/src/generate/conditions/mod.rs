@@ -20,6 +20,8 @@ mod logic;
 mod mixed;
 /// Numbers.
 mod numbers;
+/// Any and unique over runs.
+mod runs;
 /// One condition with what it names.
 mod sheet;
 /// Texts.
@@ -27,9 +29,9 @@ mod texts;
 /// Version 5: 64-bit integers and its quotients.
 mod wide;
 
-use super::evaluations::{outcome, Outcome};
+use super::evaluations::{self, outcome, Outcome};
 use super::rng::Rng;
-use super::Case;
+use super::{Case, Size};
 use crate::evaluator::Answer;
 use crate::record::Cause;
 use crate::refusal::{MALFORMED_TEXT, OVERFLOW, ZERO_DIVISOR};
@@ -140,7 +142,19 @@ fn places() -> Vec<Vec<Case>> {
 
 /// What document 02 adds.
 fn later() -> Vec<Vec<Case>> {
-    vec![wide::stored(), wide::beside(), wide::quotients(), wide::both_versions()]
+    vec![
+        wide::stored(),
+        wide::beside(),
+        wide::quotients(),
+        wide::both_versions(),
+        runs::kept(),
+        runs::without_condition(),
+        runs::refusals(),
+        runs::nested(),
+        runs::in_order(),
+        runs::outer(),
+        runs::versions(),
+    ]
 }
 
 /// The condition at random of a seed with an index, of the outcome whose turn it is.
@@ -149,9 +163,18 @@ fn random(seed: u64, index: usize) -> Case {
     let mut rng = Rng::new(seeds.bits() ^ (index as u64).wrapping_mul(0xD134_2543_DE82_EF95));
     let wanted = WANTED[index % WANTED.len()];
     loop {
-        let case = mixed::condition(&mut rng);
-        if outcome(&case) == Some(wanted) {
+        let case = match rng.one_in(3) {
+            true => evaluations::over_runs(&mut rng, Size::Small),
+            false => mixed::condition(&mut rng),
+        };
+        if outcome(&case) == Some(wanted) && is_small(&case) {
             return case;
         }
     }
+}
+
+/// Whether the case has a short dictionary and a short request.
+fn is_small(case: &Case) -> bool {
+    let (dictionary, request) = case.bytes();
+    dictionary.len() <= 160 && request.len() <= 160
 }

@@ -178,6 +178,7 @@ impl Sheet {
         let version = if self.is_version_5 { VERSION5 } else { VERSION4 };
         Case::Evaluate {
             records: records.collect::<Vec<_>>().concat(),
+            runs: Vec::new(),
             dictionary: dictionaries::encode(&Dictionary { relations }),
             request: assemble::request_of(version, &[&declared, &statement]),
             condition: 0,

@@ -29,6 +29,10 @@ enum-told-2 c = search needs
 enum-told-3 : tie.Need-enum-told-3
 enum-told-3 c = search needs
 
+-- src/forms.rt:75:31
+enum-known-code-4 : tie.Need-enum-known-code-4
+enum-known-code-4 c = search needs
+
 -- src/forms.rt:63:1
 returns : tie.Need-returns
 returns c = sym (c .before .code .given .1)
@@ -53,6 +57,10 @@ returns-5 c = search needs
 returns-6 : tie.Need-returns-6
 returns-6 c = search needs
 
+-- src/forms.rt:63:1
+returns-7 : tie.Need-returns-7
+returns-7 c = sym (c .before .code4 .given .1)
+
 pub boolean-form-spec : {M : Type 1} → statement M
 boolean-form-spec =
     tie.close
@@ -63,9 +71,11 @@ boolean-form-spec =
     enum-known-code-3
     enum-told-2
     enum-told-3
+    enum-known-code-4
     returns
     returns-2
     returns-3
     returns-4
     returns-5
-    returns-6)
+    returns-6
+    returns-7)

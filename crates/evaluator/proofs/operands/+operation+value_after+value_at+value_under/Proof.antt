@@ -29,41 +29,41 @@ use Rattle.wire.proofs.bytes.byte_at.Reads as byte-at-reads
 use Rattle.evaluator.proofs.operands.+operation+value_after+value_at+value_under.{statement}
 use Rattle.evaluator.proofs.operands.+operation+value_after+value_at+value_under.Tie.{close}
 
-abbrev μ-operation : Measures 5 operation-kinds.ps ℕ
+abbrev μ-operation : Measures 4 operation-kinds.ps ℕ
 μ-operation κs a = 4 * (a .1 .1 .1 .1 .1 .1 .1 .0) + 2
 
-abbrev μ-value-after : Measures 5 value-after-kinds.ps ℕ
+abbrev μ-value-after : Measures 4 value-after-kinds.ps ℕ
 μ-value-after κs a = 4 * (a .1 .1 .1 .1 .1 .1 .1 .0) + 1
 
-abbrev μ-value-at : Measures 5 value-at-kinds.ps ℕ
+abbrev μ-value-at : Measures 4 value-at-kinds.ps ℕ
 μ-value-at κs a = 4 * (a .1 .1 .1 .1 .1 .1 .1 .0)
 
-abbrev μ-value-under : Measures 5 value-under-kinds.ps ℕ
+abbrev μ-value-under : Measures 4 value-under-kinds.ps ℕ
 μ-value-under κs a = 4 * (a .1 .1 .1 .1 .1 .1 .1 .0) + 3
 
-abbrev operation-at : ℕ → In 5 operation-kinds.ps
-operation-at t = and 5 operation-kinds.ps (is 5 operation-kinds.ps μ-operation t) operation.Pre
+abbrev operation-at : ℕ → In 4 operation-kinds.ps
+operation-at t = and 4 operation-kinds.ps (is 4 operation-kinds.ps μ-operation t) operation.Pre
 
-abbrev operation-below : ℕ → In 5 operation-kinds.ps
-operation-below t = and 5 operation-kinds.ps (falls 5 operation-kinds.ps _<_ μ-operation t) operation.Pre
+abbrev operation-below : ℕ → In 4 operation-kinds.ps
+operation-below t = and 4 operation-kinds.ps (falls 4 operation-kinds.ps _<_ μ-operation t) operation.Pre
 
-abbrev value-after-at : ℕ → In 5 value-after-kinds.ps
-value-after-at t = and 5 value-after-kinds.ps (is 5 value-after-kinds.ps μ-value-after t) value-after.Pre
+abbrev value-after-at : ℕ → In 4 value-after-kinds.ps
+value-after-at t = and 4 value-after-kinds.ps (is 4 value-after-kinds.ps μ-value-after t) value-after.Pre
 
-abbrev value-after-below : ℕ → In 5 value-after-kinds.ps
-value-after-below t = and 5 value-after-kinds.ps (falls 5 value-after-kinds.ps _<_ μ-value-after t) value-after.Pre
+abbrev value-after-below : ℕ → In 4 value-after-kinds.ps
+value-after-below t = and 4 value-after-kinds.ps (falls 4 value-after-kinds.ps _<_ μ-value-after t) value-after.Pre
 
-abbrev value-at-at : ℕ → In 5 value-at-kinds.ps
-value-at-at t = and 5 value-at-kinds.ps (is 5 value-at-kinds.ps μ-value-at t) value-at.Pre
+abbrev value-at-at : ℕ → In 4 value-at-kinds.ps
+value-at-at t = and 4 value-at-kinds.ps (is 4 value-at-kinds.ps μ-value-at t) value-at.Pre
 
-abbrev value-at-below : ℕ → In 5 value-at-kinds.ps
-value-at-below t = and 5 value-at-kinds.ps (falls 5 value-at-kinds.ps _<_ μ-value-at t) value-at.Pre
+abbrev value-at-below : ℕ → In 4 value-at-kinds.ps
+value-at-below t = and 4 value-at-kinds.ps (falls 4 value-at-kinds.ps _<_ μ-value-at t) value-at.Pre
 
-abbrev value-under-at : ℕ → In 5 value-under-kinds.ps
-value-under-at t = and 5 value-under-kinds.ps (is 5 value-under-kinds.ps μ-value-under t) value-under.Pre
+abbrev value-under-at : ℕ → In 4 value-under-kinds.ps
+value-under-at t = and 4 value-under-kinds.ps (is 4 value-under-kinds.ps μ-value-under t) value-under.Pre
 
-abbrev value-under-below : ℕ → In 5 value-under-kinds.ps
-value-under-below t = and 5 value-under-kinds.ps (falls 5 value-under-kinds.ps _<_ μ-value-under t) value-under.Pre
+abbrev value-under-below : ℕ → In 4 value-under-kinds.ps
+value-under-below t = and 4 value-under-kinds.ps (falls 4 value-under-kinds.ps _<_ μ-value-under t) value-under.Pre
 
 abbrev operation-calls : ℕ → operation-lts.Claims
 operation-calls t = (

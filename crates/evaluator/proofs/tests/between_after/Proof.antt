@@ -10,8 +10,8 @@ use Rattle.values.proofs.between.between.Reads as between-reads
 
 abbrev around : tie.Start → Slices
 around s =
-    slices (s .args .request .now) (s .args .dictionary .now) (s .args .numbers .now) (s .args .relations .now)
-    (s .args .parameters .now) (s .args .images .now) (s .args .records .now)
+    slices (s .args .request .now) (s .args .dictionary .now) (s .args .bindings .now) (s .args .parameters .now)
+    (s .args .images .now) (s .args .records .now) (s .args .runs .now)
 
 -- src/tests.rt:129:9
 value-after-requires : tie.Need-value-after-requires

@@ -12,8 +12,8 @@ use Rattle.values.proofs.search.text_search.Reads as text-search-reads
 
 abbrev around : tie.Start → Slices
 around s =
-    slices (s .args .request .now) (s .args .dictionary .now) (s .args .numbers .now) (s .args .relations .now)
-    (s .args .parameters .now) (s .args .images .now) (s .args .records .now)
+    slices (s .args .request .now) (s .args .dictionary .now) (s .args .bindings .now) (s .args .parameters .now)
+    (s .args .images .now) (s .args .records .now) (s .args .runs .now)
 
 -- src/tests.rt:82:9
 value-after-requires : tie.Need-value-after-requires

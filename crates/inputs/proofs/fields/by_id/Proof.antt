@@ -1,43 +1,50 @@
 -- `inputs::fields::by_id` meets its contract. Assumes nothing.
 use mathlib.Core.Path.{sym, _∙_}
 use Rattle.dictionary.specs.Naming.{numbered}
-use Rattle.inputs.specs.Answers.{slotsLent}
-use Rattle.inputs.proofs.FieldLaws.{field-numbered, by-slot, no-slot}
+use Rattle.surroundings.specs.Bindings.{cell, bytesBound}
+use Rattle.inputs.proofs.FieldLaws.{field-numbered, row-bound, by-row, no-row}
 use borrow.Author.Needs.{needs}
 use Rattle.inputs.proofs.fields.by_id.Statement.{statement}
 use Rattle.inputs.proofs.fields.by_id.Tie as tie
 
-slot-of-requires : tie.Need-slot-of-requires
-slot-of-requires c κs = search needs
+binding-of-requires : tie.Need-binding-of-requires
+binding-of-requires c κs = search needs
 
-enum-known-slot : tie.Need-enum-known-slot
-enum-known-slot c = search needs
+enum-known-bound : tie.Need-enum-known-bound
+enum-known-bound c = search needs
 
-field-in-requires : tie.Need-field-in-requires
-field-in-requires c κs = search needs
+field-at-requires : tie.Need-field-at-requires
+field-at-requires c κs =
+    let args′ = c .before .before .before .before .before .before .before .before .args in
+    let bound′ = c .before .bound in
+    let binding-of′ = c .before .before .before .binding-of in
+    row-bound (args′ .bindings .now) (args′ .context .0) (bound′ .given .0 .0) (sym (bound′ .given .1) ∙ binding-of′ .ensures)
 
 enum-told : tie.Need-enum-told
 enum-told c = search needs
 
 returns : tie.Need-returns
-returns c m e =
-    let field-in′ = c .field-in in
+returns c m e f =
     let args′ = c .before .before .before .before .before .before .before .before .before .args in
-    let slot′ = c .before .before .slot in
-    let slot-of′ = c .before .before .before .before .slot-of in
-    field-in′ .ensures m e ∙ field-numbered (args′ .d .now) (slot′ .given .0 .0) (args′ .s .now) (slot′ .given .0 .1 .0) (args′ .id) ∙
-    by-slot (args′ .d .now) (args′ .s .now) (slotsLent (args′ .numbers .now) (args′ .relations .now) (args′ .count))
-    (args′ .context .0) (numbered (args′ .id)) (slot′ .given .0 .0) (slot′ .given .0 .1 .0) (sym (slot′ .given .1) ∙ slot-of′ .ensures)
+    let bound′ = c .before .before .bound in
+    let field-at′ = c .field-at in
+    let binding-of′ = c .before .before .before .before .binding-of in
+    let t = args′ .bindings .now in
+    let row = bound′ .given .0 .0 in
+    field-at′ .ensures m e f ∙
+    field-numbered (args′ .d .now) (cell t row 2) (bytesBound t row (args′ .records .now) (args′ .runs .now)) (cell t row 3) (args′ .id) ∙
+    by-row (args′ .d .now) t (args′ .records .now) (args′ .runs .now) (args′ .context .0) (numbered (args′ .id)) row
+    (sym (bound′ .given .1) ∙ binding-of′ .ensures)
 
 returns-2 : tie.Need-returns-2
-returns-2 c m e =
+returns-2 c m e f =
     let args′ = c .before .before .before .before .before .before .before .args in
     let enum-told′ = c .enum-told in
-    let slot-of′ = c .before .before .slot-of in
-    no-slot (args′ .d .now) (args′ .s .now) (slotsLent (args′ .numbers .now) (args′ .relations .now) (args′ .count))
-    (args′ .context .0) (numbered (args′ .id)) (sym (enum-told′ .given .1) ∙ slot-of′ .ensures)
+    let binding-of′ = c .before .before .binding-of in
+    no-row (args′ .d .now) (args′ .bindings .now) (args′ .records .now) (args′ .runs .now) (args′ .context .0) (numbered (args′ .id))
+    (sym (enum-told′ .given .1) ∙ binding-of′ .ensures)
 
 pub by-id-spec : {M : Type 1} → statement M
 by-id-spec =
     tie.close
-    (tie.spec slot-of-requires enum-known-slot field-in-requires enum-told returns returns-2)
+    (tie.spec binding-of-requires enum-known-bound field-at-requires enum-told returns returns-2)

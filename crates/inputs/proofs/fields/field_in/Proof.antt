@@ -46,10 +46,10 @@ returns c m e =
     let args′ = c .before .before .before .before .before .before .before .before .before .before .before .before .before .args in
     let entry′ = c .before .before .before .before .before .before .before .before .entry in
     let field-entry′ = c .before .before .before .before .before .before .before .before .before .before .field-entry in
+    let w′ = c .before .before .w in
     let kind-held′ = c .kind-held in
     let described′ = c .before .before .before .before .before .before .described in
     let field-place′ = c .before .before .before .before .before .field-place in
-    let w′ = c .before .before .w in
     let presence′ = c .before .before .before .before .presence in
     let place = place-some (getElem? (fieldsOf (args′ .d .now) (args′ .relation)) (args′ .i)) (entry′ .given .0 .0)
     (sym (entry′ .given .1) ∙ field-entry′ .ensures) in

@@ -1,12 +1,11 @@
 -- `inputs::references::fetch` meets its contract. By the code, with what each kind of reference gives. Assumes nothing.
-use Prim.Native.Nat.{ℕ}
+use Prim.Native.Nat.{ℕ, min}
 use mathlib.Core.Path.{refl, ap₂, _∙_}
 use mathlib.Core.List.{List}
 use Rattle.dictionary.specs.Naming.{named, numbered}
 use Rattle.grammar.specs.Tree.{field, parameter, parameter2}
-use Rattle.surroundings.specs.Around.{around}
+use Rattle.surroundings.specs.Bindings.{boundAround}
 use Rattle.values.specs.Values.{lent}
-use Rattle.inputs.specs.Answers.{lentAround}
 use borrow.Author.Needs.{needs}
 use Rattle.inputs.proofs.references.fetch.Statement.{statement}
 use Rattle.inputs.proofs.references.fetch.Tie as tie
@@ -63,49 +62,49 @@ with-flag-requires : tie.Need-with-flag-requires
 with-flag-requires c κs = search needs
 
 returns : tie.Need-returns
-unfolding around
+unfolding boundAround
 returns c =
     let args′ = c .before .before .before .before .before .before .before .before .before .before .before .before .before .args in
     let enum-told′ = c .before .before .enum-told in
     let by-name′ = c .by-name in
     let byte-at′ = c .before .before .before .before .before .byte-at in
     let name-at′ = c .before .name-at in
-    let lent′ = lent (args′ .request .now) (args′ .images .now) (args′ .records .now) in
-    let around′ = lentAround (args′ .dictionary .now) (args′ .numbers .now) (args′ .relations .now) (args′ .count)
-    (args′ .parameters .now) (args′ .rows) (args′ .images .now) (args′ .records .now) in
-    rw (enum-told′ .given .1) (by-name′ .ensures lent′ refl ∙
+    let lent′ = lent (args′ .request .now) (args′ .images .now) (args′ .records .now) (args′ .runs .now) in
+    let around′ = boundAround (args′ .dictionary .now) (args′ .parameters .now) (min (args′ .rows) 256)
+    (args′ .images .now) (args′ .records .now) (args′ .runs .now) (args′ .bindings .now) in
+    rw (enum-told′ .given .1) (by-name′ .ensures lent′ refl refl ∙
     ap₂ (λ (n : ℕ) (x : List ℕ). around′ (field n (named x))) (byte-at′ .ensures) (name-at′ .ensures))
 
 returns-2 : tie.Need-returns-2
-unfolding around
+unfolding boundAround
 returns-2 c =
     let args′ = c .before .before .before .before .before .before .before .before .before .before .before .before .args in
     let enum-told2′ = c .before .enum-told2 in
     let by-id′ = c .by-id in
     let byte-at′ = c .before .before .before .before .byte-at in
     let word-at′ = c .before .before .before .word-at in
-    let lent′ = lent (args′ .request .now) (args′ .images .now) (args′ .records .now) in
-    let around′ = lentAround (args′ .dictionary .now) (args′ .numbers .now) (args′ .relations .now) (args′ .count)
-    (args′ .parameters .now) (args′ .rows) (args′ .images .now) (args′ .records .now) in
-    rw (enum-told2′ .given .1) (by-id′ .ensures lent′ refl ∙
+    let lent′ = lent (args′ .request .now) (args′ .images .now) (args′ .records .now) (args′ .runs .now) in
+    let around′ = boundAround (args′ .dictionary .now) (args′ .parameters .now) (min (args′ .rows) 256)
+    (args′ .images .now) (args′ .records .now) (args′ .runs .now) (args′ .bindings .now) in
+    rw (enum-told2′ .given .1) (by-id′ .ensures lent′ refl refl ∙
     ap₂ (λ (n : ℕ) (i : ℕ). around′ (field n (numbered i))) (byte-at′ .ensures) (word-at′ .ensures .0))
 
 returns-3 : tie.Need-returns-3
-unfolding around
+unfolding boundAround
 returns-3 c =
     let args′ = c .before .before .before .before .before .before .before .before .before .before .before .before .args in
     let enum-told3′ = c .before .enum-told3 in
     let plain′ = c .plain in
     let byte-at′ = c .before .before .before .before .byte-at in
     let word-at′ = c .before .before .before .word-at in
-    let lent′ = lent (args′ .request .now) (args′ .images .now) (args′ .records .now) in
-    let around′ = lentAround (args′ .dictionary .now) (args′ .numbers .now) (args′ .relations .now) (args′ .count)
-    (args′ .parameters .now) (args′ .rows) (args′ .images .now) (args′ .records .now) in
+    let lent′ = lent (args′ .request .now) (args′ .images .now) (args′ .records .now) (args′ .runs .now) in
+    let around′ = boundAround (args′ .dictionary .now) (args′ .parameters .now) (min (args′ .rows) 256)
+    (args′ .images .now) (args′ .records .now) (args′ .runs .now) (args′ .bindings .now) in
     rw (enum-told3′ .given .1) (plain′ .ensures lent′ refl ∙
     ap₂ (λ (n : ℕ) (i : ℕ). around′ (parameter n i)) (byte-at′ .ensures) (word-at′ .ensures .0))
 
 returns-4 : tie.Need-returns-4
-unfolding around
+unfolding boundAround
 returns-4 c =
     let args′ = c .before .before .before .before .before .before .before .before .before .before .before .before .before .args in
     let enum-told4′ = c .before .before .enum-told4 in
@@ -113,9 +112,9 @@ returns-4 c =
     let byte-at′ = c .before .before .before .before .before .byte-at in
     let word-at′ = c .before .before .before .before .word-at in
     let word-at2′ = c .before .word-at2 in
-    let lent′ = lent (args′ .request .now) (args′ .images .now) (args′ .records .now) in
-    let around′ = lentAround (args′ .dictionary .now) (args′ .numbers .now) (args′ .relations .now) (args′ .count)
-    (args′ .parameters .now) (args′ .rows) (args′ .images .now) (args′ .records .now) in
+    let lent′ = lent (args′ .request .now) (args′ .images .now) (args′ .records .now) (args′ .runs .now) in
+    let around′ = boundAround (args′ .dictionary .now) (args′ .parameters .now) (min (args′ .rows) 256)
+    (args′ .images .now) (args′ .records .now) (args′ .runs .now) (args′ .bindings .now) in
     rw (enum-told4′ .given .1) (with-flag′ .ensures lent′ refl ∙
     (λ i. around′ (parameter2 (byte-at′ .ensures i) (word-at′ .ensures .0 i) (word-at2′ .ensures .0 i))))
 

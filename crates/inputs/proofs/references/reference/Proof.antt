@@ -1,8 +1,10 @@
 -- `inputs::references::reference` meets its contract. Assumes nothing.
+use Prim.Native.Nat.{min}
 use mathlib.Core.Path.{_∙_, refl}
 use native.Mathlib.Omega.{arith}
 use Rattle.values.specs.Values.{lent}
-use Rattle.inputs.specs.Answers.{fetchedIn, lentAround}
+use Rattle.surroundings.specs.Bindings.{boundAround}
+use Rattle.inputs.specs.Answers.{fetchedIn}
 use Rattle.inputs.proofs.ReferenceLaws.{reference-walked}
 use borrow.Author.Needs.{needs}
 use Rattle.inputs.proofs.references.reference.Statement.{statement}
@@ -26,10 +28,10 @@ returns-2 c =
     let settled′ = c .settled in
     let fetch′ = c .before .before .fetch in
     let reference-end′ = c .before .reference-end in
-    let lent′ = lent (args′ .request .now) (args′ .images .now) (args′ .records .now) in
-    let around′ = lentAround (args′ .dictionary .now) (args′ .numbers .now) (args′ .relations .now) (args′ .count)
-    (args′ .parameters .now) (args′ .rows) (args′ .images .now) (args′ .records .now) in
     let if1′ = c .before .before .before .if1 in
+    let lent′ = lent (args′ .request .now) (args′ .images .now) (args′ .records .now) (args′ .runs .now) in
+    let around′ = boundAround (args′ .dictionary .now) (args′ .parameters .now) (min (args′ .rows) 256)
+    (args′ .images .now) (args′ .records .now) (args′ .runs .now) (args′ .bindings .now) in
     record {
       inside =
           λ h. settled′ .ensures lent′ ∙

@@ -9,12 +9,12 @@ use Rattle.openings.proofs.opening.read_streams.Statement.{statement}
 use Rattle.openings.proofs.opening.read_streams.Tie as tie
 
 abbrev Inv-loop : tie.InvT-loop
-Inv-loop request dictionary contexts₀ below₀ n at₀ left₀ contexts below at left =
+Inv-loop request dictionary contexts₀ below₀ opener n at₀ left₀ contexts below at left =
     (length contexts ≡ length contexts₀) × (Octets request) ×
-    (Prepared request dictionary below₀ at₀ → Opening request dictionary contexts₀ below₀ at₀ n contexts below at left)
+    (Prepared request dictionary below₀ at₀ → Opening opener request dictionary contexts₀ below₀ at₀ n contexts below at left)
 
 abbrev μ-loop : tie.MeasureT-loop
-μ-loop request dictionary contexts₀ below₀ n at₀ left₀ contexts below at left = left
+μ-loop request dictionary contexts₀ below₀ opener n at₀ left₀ contexts below at left = left
 
 loop-holds : tie.Need-loop-holds Inv-loop μ-loop
 loop-holds c =
@@ -41,14 +41,14 @@ returns c =
     let r′ = c .before .r in
     let read-stream′ = c .before .before .before .read-stream in
     λ h. let o = loop′ .inv .2 h in
-    o .all (opens-refused (o .ready) (loop′ .contexts) (loop′ .left) (loop-test′ .taken)
+    o .all (opens-refused (o .ready) (loop′ .contexts) _ (loop′ .left) (loop-test′ .taken)
     (sym (r′ .given .1) ∙ read-stream′ .ensures (o .ready .is-proper)))
 
 returns-2 : tie.Need-returns-2 Inv-loop μ-loop
 returns-2 c =
     let loop′ = c .before .loop in
     let loop-test′ = c .loop-test in
-    λ h. let o = loop′ .inv .2 h in o .all (opens-none (o .ready) (loop′ .contexts) (loop′ .left) (omega (arith, loop-test′ .left)))
+    λ h. let o = loop′ .inv .2 h in o .all (opens-none (o .ready) (loop′ .contexts) _ (loop′ .left) (omega (arith, loop-test′ .left)))
 
 pub read-streams-spec : {M : Type 1} → statement M
 read-streams-spec =

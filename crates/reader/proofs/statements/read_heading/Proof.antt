@@ -1,7 +1,8 @@
 use Rattle.references.specs.Promises.{environmentOf}
 use native.Mathlib.Omega.{arith}
 use Rattle.reader.proofs.Matches.{not-for}
-use Rattle.reader.proofs.Ready.{prepared, relations-known}
+use Rattle.expressions.proofs.ReadyLaws.{relations-known}
+use Rattle.reader.proofs.Ready.{prepared}
 use Rattle.reader.proofs.Headings.{opening-read}
 use Rattle.reader.proofs.Fors.{streams-refused, clauses-refused, for-read}
 use borrow.Author.Needs.{needs}

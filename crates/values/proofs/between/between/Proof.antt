@@ -43,47 +43,47 @@ enum-told-2 c = search needs
 
 returns : tie.Need-returns
 returns c =
-    let args′ = c .before .before .before .before .before .before .before .before .before .before .before .before .args in
+    let args′ = c .before .before .before .before .before .before .before .before .before .before .before .before .before .args in
     let ended′ = c .ended in
     let between-of′ = c .before .between-of in
     let in-order′ = c .before .before .before .before .before .before .before .before .in-order in
     let x′ = c .before .before .before .before .before .before .x in
     let c′ = c .before .before .before .c in
-    let m = lent (args′ .request .now) (args′ .images .now) (args′ .records .now) in
+    let m = lent (args′ .request .now) (args′ .images .now) (args′ .records .now) (args′ .runs .now) in
     rw (ended′ .ensures, between-of′ .ensures, ← in-turn (third m (args′ .c)) (in-order′ .ensures) (x′ .given .1) m, c′ .given .1)
 
 returns-2 : tie.Need-returns-2
 returns-2 c =
-    let args′ = c .before .before .before .before .before .before .before .before .before .before .args in
+    let args′ = c .before .before .before .before .before .before .before .before .before .before .before .args in
     let in-order′ = c .before .before .before .before .before .before .in-order in
     let x′ = c .before .before .before .before .x in
     let c2′ = c .before .c2 in
-    let m = lent (args′ .request .now) (args′ .images .now) (args′ .records .now) in
+    let m = lent (args′ .request .now) (args′ .images .now) (args′ .records .now) (args′ .runs .now) in
     rw (← in-turn (third m (args′ .c)) (in-order′ .ensures) (x′ .given .1) m, c2′ .given .1)
 
 returns-3 : tie.Need-returns-3
 returns-3 c =
-    let args′ = c .before .before .before .before .before .before .before .before .before .args in
+    let args′ = c .before .before .before .before .before .before .before .before .before .before .args in
     let in-order′ = c .before .before .before .before .before .in-order in
     let x′ = c .before .before .before .x in
     let enum-told′ = c .enum-told in
-    let m = lent (args′ .request .now) (args′ .images .now) (args′ .records .now) in
+    let m = lent (args′ .request .now) (args′ .images .now) (args′ .records .now) (args′ .runs .now) in
     rw (← in-turn (third m (args′ .c)) (in-order′ .ensures) (x′ .given .1) m, enum-told′ .given .1)
 
 returns-4 : tie.Need-returns-4
 returns-4 c =
-    let args′ = c .before .before .before .before .before .before .before .args in
+    let args′ = c .before .before .before .before .before .before .before .before .args in
     let in-order′ = c .before .before .before .in-order in
     let f′ = c .before .f in
-    let m = lent (args′ .request .now) (args′ .images .now) (args′ .records .now) in
+    let m = lent (args′ .request .now) (args′ .images .now) (args′ .records .now) (args′ .runs .now) in
     in-turn _ (in-order′ .ensures) (f′ .given .1) m
 
 returns-5 : tie.Need-returns-5
 returns-5 c =
-    let args′ = c .before .before .before .before .before .before .args in
+    let args′ = c .before .before .before .before .before .before .before .args in
     let in-order′ = c .before .before .in-order in
     let enum-told2′ = c .enum-told2 in
-    let m = lent (args′ .request .now) (args′ .images .now) (args′ .records .now) in
+    let m = lent (args′ .request .now) (args′ .images .now) (args′ .records .now) (args′ .runs .now) in
     in-turn _ (in-order′ .ensures) (enum-told2′ .given .1) m
 
 pub between-spec : {M : Type 1} → statement M

@@ -17,11 +17,11 @@ both-comparisons-requires c κs = search needs
 returns : tie.Need-returns
 unfolding betweenOf
 returns c =
-    let args′ = c .before .before .before .before .before .before .args in
+    let args′ = c .before .before .before .before .before .before .before .args in
     let both-comparisons′ = c .both-comparisons in
     let comparison-of′ = c .before .before .comparison-of in
     let comparison-of2′ = c .before .comparison-of2 in
-    let m = lent (args′ .request .now) (args′ .images .now) (args′ .records .now) in
+    let m = lent (args′ .request .now) (args′ .images .now) (args′ .records .now) (args′ .runs .now) in
     rw (both-comparisons′ .ensures, comparison-of′ .ensures, comparison-of2′ .ensures, betweenOf)
 
 pub between-of-spec : {M : Type 1} → statement M

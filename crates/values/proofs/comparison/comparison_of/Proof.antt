@@ -59,19 +59,19 @@ enum-told c = search needs
 returns : tie.Need-returns
 unfolding compareOf
 returns c =
-    let args′ = c .before .before .before .before .before .before .before .before .before .before .args in
+    let args′ = c .before .before .before .before .before .before .before .before .before .before .before .args in
     let truth-of′ = c .truth-of in
     let holds′ = c .before .holds in
     let compare′ = c .before .before .compare in
     let paired′ = c .before .before .before .before .before .before .paired in
     let n′ = c .before .before .before .before .n in
-    let m = lent (args′ .request .now) (args′ .images .now) (args′ .records .now) in
+    let m = lent (args′ .request .now) (args′ .images .now) (args′ .records .now) (args′ .runs .now) in
     rw (truth-of′ .ensures, holds′ .ensures, compare′ .ensures, compareOf, ← paired′ .ensures m, n′ .given .1)
 
 returns-2 : tie.Need-returns-2
 unfolding compareOf
 returns-2 c =
-    let args′ = c .before .before .before .before .before .before .before .before .before .before .before .before .args in
+    let args′ = c .before .before .before .before .before .before .before .before .before .before .before .before .before .args in
     let truth-of2′ = c .truth-of2 in
     let holds2′ = c .before .holds2 in
     let compare2′ = c .before .before .compare2 in
@@ -79,7 +79,7 @@ returns-2 c =
     let text-operand′ = c .before .before .before .before .text-operand in
     let paired′ = c .before .before .before .before .before .before .before .before .paired in
     let n2′ = c .before .before .before .before .before .before .n2 in
-    let m = lent (args′ .request .now) (args′ .images .now) (args′ .records .now) in
+    let m = lent (args′ .request .now) (args′ .images .now) (args′ .records .now) (args′ .runs .now) in
     rw (
       truth-of2′ .ensures,
       holds2′ .ensures,
@@ -94,31 +94,31 @@ returns-2 c =
 returns-3 : tie.Need-returns-3
 unfolding compareOf
 returns-3 c =
-    let args′ = c .before .before .before .before .before .before .before .before .before .before .args in
+    let args′ = c .before .before .before .before .before .before .before .before .before .before .before .args in
     let truth-of3′ = c .truth-of3 in
     let holds3′ = c .before .holds3 in
     let date-order′ = c .before .before .date-order in
     let paired′ = c .before .before .before .before .before .before .paired in
     let n3′ = c .before .before .before .before .n3 in
-    let m = lent (args′ .request .now) (args′ .images .now) (args′ .records .now) in
+    let m = lent (args′ .request .now) (args′ .images .now) (args′ .records .now) (args′ .runs .now) in
     rw (truth-of3′ .ensures, holds3′ .ensures, date-order′ .ensures, compareOf, ← paired′ .ensures m, n3′ .given .1)
 
 returns-4 : tie.Need-returns-4
 unfolding compareOf
 returns-4 c =
-    let args′ = c .before .before .before .before .before .before .before .args in
+    let args′ = c .before .before .before .before .before .before .before .before .args in
     let paired′ = c .before .before .before .paired in
     let w′ = c .before .w in
-    let m = lent (args′ .request .now) (args′ .images .now) (args′ .records .now) in
+    let m = lent (args′ .request .now) (args′ .images .now) (args′ .records .now) (args′ .runs .now) in
     rw (compareOf, ← paired′ .ensures m, w′ .given .1)
 
 returns-5 : tie.Need-returns-5
 unfolding compareOf
 returns-5 c =
-    let args′ = c .before .before .before .before .before .before .args in
+    let args′ = c .before .before .before .before .before .before .before .args in
     let paired′ = c .before .before .paired in
     let enum-told′ = c .enum-told in
-    let m = lent (args′ .request .now) (args′ .images .now) (args′ .records .now) in
+    let m = lent (args′ .request .now) (args′ .images .now) (args′ .records .now) (args′ .runs .now) in
     rw (compareOf, ← paired′ .ensures m, enum-told′ .given .1)
 
 pub comparison-of-spec : {M : Type 1} → statement M

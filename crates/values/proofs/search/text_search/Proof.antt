@@ -26,28 +26,28 @@ enum-told c = search needs
 
 returns : tie.Need-returns
 returns c =
-    let args′ = c .before .before .before .before .before .before .before .before .before .args in
+    let args′ = c .before .before .before .before .before .before .before .before .before .before .args in
     let ended′ = c .ended in
     let text-search-of′ = c .before .text-search-of in
     let in-order′ = c .before .before .before .before .before .in-order in
     let x′ = c .before .before .before .x in
-    let m = lent (args′ .request .now) (args′ .images .now) (args′ .records .now) in
+    let m = lent (args′ .request .now) (args′ .images .now) (args′ .records .now) (args′ .runs .now) in
     rw (ended′ .ensures, text-search-of′ .ensures) (in-turn _ (in-order′ .ensures) (x′ .given .1) m)
 
 returns-2 : tie.Need-returns-2
 returns-2 c =
-    let args′ = c .before .before .before .before .before .before .before .args in
+    let args′ = c .before .before .before .before .before .before .before .before .args in
     let in-order′ = c .before .before .before .in-order in
     let f′ = c .before .f in
-    let m = lent (args′ .request .now) (args′ .images .now) (args′ .records .now) in
+    let m = lent (args′ .request .now) (args′ .images .now) (args′ .records .now) (args′ .runs .now) in
     in-turn _ (in-order′ .ensures) (f′ .given .1) m
 
 returns-3 : tie.Need-returns-3
 returns-3 c =
-    let args′ = c .before .before .before .before .before .before .args in
+    let args′ = c .before .before .before .before .before .before .before .args in
     let in-order′ = c .before .before .in-order in
     let enum-told′ = c .enum-told in
-    let m = lent (args′ .request .now) (args′ .images .now) (args′ .records .now) in
+    let m = lent (args′ .request .now) (args′ .images .now) (args′ .records .now) (args′ .runs .now) in
     in-turn _ (in-order′ .ensures) (enum-told′ .given .1) m
 
 pub text-search-spec : {M : Type 1} → statement M

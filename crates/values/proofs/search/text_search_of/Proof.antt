@@ -41,23 +41,23 @@ enum-told-3 c = search needs
 returns : tie.Need-returns
 unfolding searchOf
 returns c =
-    let args′ = c .before .before .before .before .before .before .args in
+    let args′ = c .before .before .before .before .before .before .before .args in
     let paired′ = c .before .before .paired in
     let enum-told′ = c .enum-told in
-    let m = lent (args′ .request .now) (args′ .images .now) (args′ .records .now) in
+    let m = lent (args′ .request .now) (args′ .images .now) (args′ .records .now) (args′ .runs .now) in
     rw (searchOf, ← paired′ .ensures m, enum-told′ .given .1)
 
 returns-2 : tie.Need-returns-2
 unfolding searchOf
 returns-2 c =
-    let args′ = c .before .before .before .before .before .before .before .before .before .before .before .args in
+    let args′ = c .before .before .before .before .before .before .before .before .before .before .before .before .args in
     let truth-of′ = c .truth-of in
     let searched′ = c .before .searched in
     let text-operand2′ = c .before .before .text-operand2 in
     let text-operand′ = c .before .before .before .text-operand in
     let paired′ = c .before .before .before .before .before .before .before .paired in
     let n′ = c .before .before .before .before .before .n in
-    let m = lent (args′ .request .now) (args′ .images .now) (args′ .records .now) in
+    let m = lent (args′ .request .now) (args′ .images .now) (args′ .records .now) (args′ .runs .now) in
     rw (
       truth-of′ .ensures,
       searched′ .ensures,
@@ -71,29 +71,29 @@ returns-2 c =
 returns-3 : tie.Need-returns-3
 unfolding searchOf
 returns-3 c =
-    let args′ = c .before .before .before .before .before .before .args in
+    let args′ = c .before .before .before .before .before .before .before .args in
     let paired′ = c .before .before .paired in
     let enum-told2′ = c .enum-told2 in
-    let m = lent (args′ .request .now) (args′ .images .now) (args′ .records .now) in
+    let m = lent (args′ .request .now) (args′ .images .now) (args′ .records .now) (args′ .runs .now) in
     rw (searchOf, ← paired′ .ensures m, enum-told2′ .given .1)
 
 returns-4 : tie.Need-returns-4
 unfolding searchOf
 returns-4 c =
-    let args′ = c .before .before .before .before .before .before .before .before .args in
+    let args′ = c .before .before .before .before .before .before .before .before .before .args in
     let missing-text′ = c .missing-text in
     let paired′ = c .before .before .before .before .paired in
     let k′ = c .before .before .k in
-    let m = lent (args′ .request .now) (args′ .images .now) (args′ .records .now) in
+    let m = lent (args′ .request .now) (args′ .images .now) (args′ .records .now) (args′ .runs .now) in
     rw (missing-text′ .ensures (args′ .t), searchOf, ← paired′ .ensures m, k′ .given .1)
 
 returns-5 : tie.Need-returns-5
 unfolding searchOf
 returns-5 c =
-    let args′ = c .before .before .before .before .before .before .args in
+    let args′ = c .before .before .before .before .before .before .before .args in
     let paired′ = c .before .before .paired in
     let enum-told3′ = c .enum-told3 in
-    let m = lent (args′ .request .now) (args′ .images .now) (args′ .records .now) in
+    let m = lent (args′ .request .now) (args′ .images .now) (args′ .records .now) (args′ .runs .now) in
     rw (searchOf, ← paired′ .ensures m, enum-told3′ .given .1)
 
 pub text-search-of-spec : {M : Type 1} → statement M

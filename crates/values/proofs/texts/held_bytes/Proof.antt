@@ -22,6 +22,12 @@ enum-told-3 c = search needs
 part-requires-3 : tie.Need-part-requires-3
 part-requires-3 c κs = search needs
 
+enum-told-4 : tie.Need-enum-told-4
+enum-told-4 c = search needs
+
+part-requires-4 : tie.Need-part-requires-4
+part-requires-4 c κs = search needs
+
 returns : tie.Need-returns
 unfolding heldIn
 returns c =
@@ -43,6 +49,13 @@ returns-3 c =
     let enum-told3′ = c .before .enum-told3 in
     rw (part3′ .ensures, heldIn, enum-told3′ .given .1)
 
+returns-4 : tie.Need-returns-4
+unfolding heldIn
+returns-4 c =
+    let part4′ = c .part4 in
+    let enum-told4′ = c .before .enum-told4 in
+    rw (part4′ .ensures, heldIn, enum-told4′ .given .1)
+
 pub held-bytes-spec : {M : Type 1} → statement M
 held-bytes-spec =
     tie.close
@@ -53,6 +66,9 @@ held-bytes-spec =
     part-requires-2
     enum-told-3
     part-requires-3
+    enum-told-4
+    part-requires-4
     returns
     returns-2
-    returns-3)
+    returns-3
+    returns-4)

@@ -1,7 +1,7 @@
 use Prim.Native.Nat.{ℕ}
 use native.Mathlib.Omega.{arith}
 use borrow.Author.Needs.{needs}
-use Rattle.reader.proofs.Ready.{statement-given, boolean-given}
+use Rattle.reader.proofs.Ready.{given-ready, statement-given, boolean-given}
 use Rattle.reader.proofs.StatementLaws.{statement-part}
 use Rattle.reader.proofs.Branches.{condition-part, if-stopped, first-stopped, if-cut, if-done, if-goes}
 use Rattle.reader.proofs.statements.+read_branches+read_coded+read_headed+read_if+read_opening+read_select+read_statement+read_statements.Proof.Measures.{read-if-at, read-statement-below}
@@ -30,9 +30,10 @@ same-length t c = search needs
 pub returns : (t : ℕ) → read-if-lts.Need-returns (calls t) (read-if-at t) read-if.Post
 returns t c =
     let args′ = c .before .before .before .before .before .before .before .before .before .before .before .args in
+    let pre′ = c .before .before .before .before .before .before .before .before .before .before .before .pre in
     let read-boolean′ = c .before .before .before .before .read-boolean in
     let enum-told′ = c .enum-told in
-    λ p h. if-stopped _ _ _ (args′ .level) p _ (read-boolean′ .ensures) (enum-told′ .given .1)
+    λ p h. if-stopped _ _ _ (args′ .level) p _ (read-boolean′ .ensures (given-ready (pre′ .1 .0))) (enum-told′ .given .1)
 
 pub cast-note : (t : ℕ) → read-if-lts.Need-cast-note (calls t) (read-if-at t) read-if.Post
 cast-note t c = search needs
@@ -53,7 +54,7 @@ read-statement-requires t c κs =
     let note′ = c .before .before .before .before .before .before .before .note in (
       omega (arith, pre′ .0),
       (
-        boolean-given (pre′ .1 .0) _ _ _ (pre′ .1 .1 .1) (read-boolean′ .ensures) (b′ .given .1) (note′ .ensures .0),
+        boolean-given (pre′ .1 .0) _ _ _ (pre′ .1 .1 .1) (read-boolean′ .ensures (given-ready (pre′ .1 .0))) (b′ .given .1) (note′ .ensures .0),
         omega (arith, pre′ .1 .0 .statements-few, pre′ .1 .1 .0),
       ),
     )
@@ -82,7 +83,7 @@ returns-2 t c =
     let note′ = c .before .before .before .before .before .before .before .before .before .before .before .before .before .before .before .before .note in
     let read-statement′ = c .before .before .before .before .before .before .before .before .read-statement in
     let enum-told2′ = c .enum-told2 in
-    λ p h. first-stopped _ _ _ (args′ .level) p _ (condition-part (pre′ .1 .0) (omega (arith, h)) (pre′ .1 .1 .1) _ _ _ (read-boolean′ .ensures)
+    λ p h. first-stopped _ _ _ (args′ .level) p _ (condition-part (pre′ .1 .0) (omega (arith, h)) (pre′ .1 .1 .1) _ _ _ (read-boolean′ .ensures (given-ready (pre′ .1 .0)))
     (b′ .given .1) (note′ .ensures .0) (note′ .ensures .1 .0) (note′ .ensures .1 .1)) (read-statement′ .ensures) (enum-told2′ .given .1)
 
 pub ending-at-requires : (t : ℕ) → read-if-lts.Need-ending-at-requires (calls t) (read-if-at t) read-if.Post
@@ -105,7 +106,7 @@ read-statement-requires-2 t c κs =
     let one′ = c .before .before .before .before .before .before .before .one in (
       omega (arith, pre′ .0),
       (
-        statement-given (boolean-given (pre′ .1 .0) _ _ _ (pre′ .1 .1 .1) (read-boolean′ .ensures) (b′ .given .1)
+        statement-given (boolean-given (pre′ .1 .0) _ _ _ (pre′ .1 .1 .1) (read-boolean′ .ensures (given-ready (pre′ .1 .0))) (b′ .given .1)
             (note′ .ensures .0)) _ _ (args′ .level) (read-statement′ .ensures) (one′ .given .1),
         omega
             (arith, pre′ .1 .0 .statements-few, pre′ .1 .1 .0),
@@ -138,7 +139,7 @@ returns-3 t c =
     let one′ = c .before .before .before .before .before .one in
     let ending-at′ = c .before .before .before .ending-at in
     let after′ = c .before .after in
-    λ p h. if-done _ _ _ (args′ .level) p _ (condition-part (pre′ .1 .0) (omega (arith, h)) (pre′ .1 .1 .1) _ _ _ (read-boolean′ .ensures) (b′ .given .1)
+    λ p h. if-done _ _ _ (args′ .level) p _ (condition-part (pre′ .1 .0) (omega (arith, h)) (pre′ .1 .1 .1) _ _ _ (read-boolean′ .ensures (given-ready (pre′ .1 .0))) (b′ .given .1)
     (note′ .ensures .0) (note′ .ensures .1 .0) (note′ .ensures .1 .1)) h (pre′ .1 .1 .0)
     (statement-part _ _ _ (args′ .level) _ (pre′ .1 .0 .octets) (read-statement′ .ensures) (one′ .given .1)) (ending-at′ .ensures)
     (after′ .given .1)
@@ -176,7 +177,7 @@ returns-4 t c =
     let ending-at′ = c .before .before .before .before .before .before .before .before .before .before .before .before .ending-at in
     let enum-told3′ = c .before .before .before .before .before .before .before .before .before .before .enum-told3 in
     let read-statement2′ = c .before .before .before .before .before .before .read-statement2 in
-    λ p h. if-goes _ _ _ (args′ .level) p _ (condition-part (pre′ .1 .0) (omega (arith, h)) (pre′ .1 .1 .1) _ _ _ (read-boolean′ .ensures) (b′ .given .1)
+    λ p h. if-goes _ _ _ (args′ .level) p _ (condition-part (pre′ .1 .0) (omega (arith, h)) (pre′ .1 .1 .1) _ _ _ (read-boolean′ .ensures (given-ready (pre′ .1 .0))) (b′ .given .1)
     (note′ .ensures .0) (note′ .ensures .1 .0) (note′ .ensures .1 .1)) h (pre′ .1 .1 .0)
     (statement-part _ _ _ (args′ .level) _ (pre′ .1 .0 .octets) (read-statement′ .ensures) (one′ .given .1)) (ending-at′ .ensures)
     (pre′ .1 .0 .octets) (enum-told3′ .given .1) (read-statement2′ .ensures)
@@ -204,7 +205,7 @@ returns-5 t c =
     let one′ = c .before .before .before .before .before .one in
     let ending-at′ = c .before .before .before .ending-at in
     let r′ = c .before .r in
-    λ p h. if-cut _ _ _ (args′ .level) p _ (condition-part (pre′ .1 .0) (omega (arith, h)) (pre′ .1 .1 .1) _ _ _ (read-boolean′ .ensures) (b′ .given .1)
+    λ p h. if-cut _ _ _ (args′ .level) p _ (condition-part (pre′ .1 .0) (omega (arith, h)) (pre′ .1 .1 .1) _ _ _ (read-boolean′ .ensures (given-ready (pre′ .1 .0))) (b′ .given .1)
     (note′ .ensures .0) (note′ .ensures .1 .0) (note′ .ensures .1 .1)) h (pre′ .1 .1 .0)
     (statement-part _ _ _ (args′ .level) _ (pre′ .1 .0 .octets) (read-statement′ .ensures) (one′ .given .1)) (ending-at′ .ensures)
     (r′ .given .1)

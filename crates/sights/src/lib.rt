@@ -1,0 +1,1 @@
+// That a walk sees, by a table of bindings, what the meaning has around a condition.
