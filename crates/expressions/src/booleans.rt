@@ -133,8 +133,7 @@ pub fn read_boolean(
 ) -> Step
     ensures { λ r. ⌜ (Ready (now (request .entry)) (now (dictionary .entry)) (now (scope .entry)) c levels →
         BooleanRead levels (environmentOf (now (dictionary .entry)) (now (around .entry)))
-        (scopeOf (now (dictionary .entry)) (now (scope .entry))) (now (request .entry)) c
-        (now (contexts .entry)) (now (contexts .exit)) r) ⌝ }
+        (scopeOf (now (dictionary .entry)) (now (scope .entry))) (now (request .entry)) c (now (contexts .entry)) (now (contexts .exit)) r) ⌝ }
 {
     match boolean_at(request, c, levels) {
         BooleanHead::Is(k, first) => match k {
