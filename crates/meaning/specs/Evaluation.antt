@@ -76,7 +76,8 @@ onCondition (some x) d ms images rows runs rest =
 
 abbrev pub onReading : Reader.Read Request → List Relation → ℕ → List ℕ → List ℕ → List ℕ → Outcome → Outcome
 onReading (Reader.refused r p) d n images rows runs rest = refusal r p
-onReading (Reader.read t c) d n images rows runs rest = onCondition (getElem? (requestConditions d t) n) d (t .messages) images rows runs rest
+onReading (Reader.read t c) d n images rows runs rest =
+    onCondition (getElem? (requestConditions d t) n) d (t .messages) images rows runs rest
 
 -- request, dictionary, boolean number, message images, records, runs
 unfoldable pub evaluation : List ℕ → List ℕ → ℕ → List ℕ → List ℕ → List ℕ → Outcome

@@ -10,7 +10,12 @@ use crate::forms::form_of;
 use crate::forms::literal_length;
 use crate::stream::Opened;
 use crate::stream::opened_at;
+use surroundings::bindings::BINDING_COUNT;
 use surroundings::bindings::BINDING_END;
+use surroundings::bindings::BINDING_FIRST;
+use surroundings::bindings::BINDING_NUMBER;
+use surroundings::bindings::BINDING_RECORD;
+use surroundings::bindings::BINDING_RELATION;
 use surroundings::bindings::BINDING_ROW;
 use surroundings::bindings::BINDING_SUCH;
 use wire::bytes::byte_on;
@@ -63,13 +68,13 @@ fn put_row(bindings: &mut [u32], row: usize, place: u32, opened: Opened, within:
 {
     let at = row * BINDING_ROW;
     put(bindings, at, place);
-    put(bindings, at + 1, opened.number as u32);
-    put(bindings, at + 2, opened.relation);
-    put(bindings, at + 3, 0);
-    put(bindings, at + 4, 0);
-    put(bindings, at + 5, within);
-    put(bindings, at + 6, 0);
-    put(bindings, at + 7, 0);
+    put(bindings, at + BINDING_NUMBER, opened.number as u32);
+    put(bindings, at + BINDING_RELATION, opened.relation);
+    put(bindings, at + BINDING_RECORD, 0);
+    put(bindings, at + BINDING_SUCH, 0);
+    put(bindings, at + BINDING_END, within);
+    put(bindings, at + BINDING_FIRST, 0);
+    put(bindings, at + BINDING_COUNT, 0);
 }
 
 // An any or a unique.
