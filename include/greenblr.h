@@ -1,9 +1,10 @@
 /* greenblr: reads BLR requests and evaluates their conditions, for greenhouse controllers.
  *
  * BLR is the binary request language of the InterBase and Rdb family. The library checks a request beside a house dictionary
- * and lists what it holds (greenblr_read), evaluates a condition of it over records and runs of them (greenblr_evaluate), and keeps
- * the records of one relation in a buffer of the caller's (greenblr_store_make and five more). A node that can't measure sends 65535: that is
- * no reading, and a comparison with it is missing, neither true nor false.
+ * and lists what it holds (greenblr_read), evaluates a condition of it over records and runs of them (greenblr_evaluate), or the value
+ * that an assignment puts into its target (greenblr_evaluate_value), and keeps the records of one relation in a buffer of the caller's
+ * (greenblr_store_make and five more). A node that can't measure sends 65535: that is no reading, a comparison with it is missing, neither
+ * true nor false, and no average has it.
  *
  * All calls
  * - Every call returns, whatever the bytes are; nothing has to be tested before it. This is proved, and so is what each call gives.
@@ -11,7 +12,8 @@
  *   each with tables, answers and buffers of its own.
  *
  * What the caller has to keep to, since no call can test it
- * - A pointer has as much behind it as its length says: bytes, or of a table 32-bit numbers. `answer` has room for three numbers.
+ * - A pointer has as much behind it as its length says: bytes, or of a table 32-bit numbers. `answer` has room for three numbers, of
+ *   size_t, or of greenblr_evaluate_value of int64_t.
  * - A pointer of length 0 may be NULL, or anything else. No other pointer may be NULL, and `answer` never.
  * - What a call writes (tables, answer, the buffer of a store) may not overlap anything else that it is given.
  *
@@ -86,7 +88,7 @@ typedef char greenblr_size_t_has_64_bits[sizeof(size_t) == 8 ? 1 : -1];
 #define GREENBLR_CONTEXT_START 2        /* place where its scope starts */
 #define GREENBLR_CONTEXT_END 3          /* place where its scope ends */
 #define GREENBLR_CONTEXT_RELATION 4     /* id of its relation */
-#define GREENBLR_CONTEXT_OPENER 5       /* code that opened it: GREENBLR_CODE_FOR, GREENBLR_CODE_STORE or GREENBLR_CODE_MODIFY */
+#define GREENBLR_CONTEXT_OPENER 5       /* code that opened it: of a for, store, modify, any, unique or statistic */
 #define GREENBLR_CONTEXT_ROW 6          /* numbers a row */
 
 /* The least numbers that each table must have, so that the rows of every request fit. With less in one, every request is refused
@@ -108,25 +110,27 @@ enum greenblr_refusal {
     GREENBLR_REFUSAL_NOT_DUE = 6,            /* a code that is not due here, as type 16 in version 4: the code */
     GREENBLR_REFUSAL_LEFT_OUT = 7,           /* a code of BLR that this library leaves out: the code */
     GREENBLR_REFUSAL_TOO_GREAT = 8,          /* a greatest size passed: the code; parameters: count word; message bytes: descriptor;
-                                                2 to 8 streams of an any or unique: their count */
+                                                2 to 8 streams of an any, a unique or a statistic: their count */
     GREENBLR_REFUSAL_BAD_MESSAGE = 9,        /* a message declared or selected twice, or undeclared: the message byte */
     GREENBLR_REFUSAL_NO_PARAMETER = 10,      /* no such parameter: its word */
     GREENBLR_REFUSAL_BAD_CONTEXT = 11,       /* a context in scope already, or not in scope: the context byte */
     GREENBLR_REFUSAL_UNKNOWN = 12,           /* unknown relation or field: the name's count byte, or the id; by a store: 0 */
-    GREENBLR_REFUSAL_UNFIT = 13,             /* kinds or scales don't fit: the operator, assignment or parameter2; version 4
-                                                names a field of type 16: the field or fid */
+    GREENBLR_REFUSAL_UNFIT = 13,             /* kinds or scales don't fit: the operator, assignment or parameter2; a statistic
+                                                over a text or a date: its code; version 4 names a field of type 16: the field
+                                                or fid */
     GREENBLR_REFUSAL_MISPLACED = 14,         /* a context not of a for, a wrong target, send or receive in store or modify, leave
                                                 outside its label: the statement's code */
     GREENBLR_REFUSAL_BYTES_AFTER_END = 15,   /* bytes after the request's end: the first of them */
     GREENBLR_REFUSAL_OUT_OF_RANGE = 16,      /* a size, scale, stream count or sort count out of range: that field */
     /* Of evaluation, after those of reading but for 1, which it never gives. */
-    GREENBLR_REFUSAL_NO_BOOLEAN = 20,        /* no condition of this number: 0 */
+    GREENBLR_REFUSAL_NO_BOOLEAN = 20,        /* no condition of this number, or no assignment in this row: 0 */
     GREENBLR_REFUSAL_BAD_MESSAGE_BYTES = 21, /* not as many message bytes as are declared: in the images, the length given */
     GREENBLR_REFUSAL_BAD_RECORDS = 22,       /* records not as due: in the records, the first wrong entry; the length given if one lacks;
                                                 the first byte too many */
     GREENBLR_REFUSAL_MALFORMED_TEXT = 23,    /* a varying longer than its size, a cstring without a zero: in the request, the value's code */
     GREENBLR_REFUSAL_OVERFLOW = 24,          /* a number that does not fit in 64 bits, in version 5 also the multiplied
-                                                dividend: in the request, the operator */
+                                                dividend: in the request, the operator; a partial sum of a total or an average:
+                                                its code */
     GREENBLR_REFUSAL_ZERO_DIVISOR = 25,      /* a division by zero: in the request, the operator */
     GREENBLR_REFUSAL_BAD_RUNS = 26,          /* runs not as due, after 22: in the runs, placed as 22 is, by entries of kind 7 */
     /* Of a store, after 3, and after 12 for its relation. The place is 0. */
@@ -157,7 +161,7 @@ static inline const char *greenblr_refusal_text(uint32_t refusal)
     case GREENBLR_REFUSAL_MISPLACED: return "the statement, its context or its target may not stand here";
     case GREENBLR_REFUSAL_BYTES_AFTER_END: return "bytes follow the end of the request";
     case GREENBLR_REFUSAL_OUT_OF_RANGE: return "a size, scale, stream count or sort count is out of range";
-    case GREENBLR_REFUSAL_NO_BOOLEAN: return "there is no condition of this number";
+    case GREENBLR_REFUSAL_NO_BOOLEAN: return "there is no condition of this number, or no assignment in this row";
     case GREENBLR_REFUSAL_BAD_MESSAGE_BYTES: return "the message bytes are not as many as declared";
     case GREENBLR_REFUSAL_BAD_RECORDS: return "the records are not as due";
     case GREENBLR_REFUSAL_MALFORMED_TEXT: return "a varying is longer than its size, or a cstring has no zero";
@@ -172,7 +176,8 @@ static inline const char *greenblr_refusal_text(uint32_t refusal)
     }
 }
 
-/* What the place of a refusal by greenblr_read or greenblr_evaluate is counted in. A store's refusal 3 is placed in the dictionary,
+/* What the place of a refusal by greenblr_read, greenblr_evaluate or greenblr_evaluate_value is counted in, and what a text stands in
+ * that greenblr_evaluate_value gives. A store's refusal 3 is placed in the dictionary,
  * and every other of a store at 0. */
 enum greenblr_input {
     GREENBLR_INPUT_REQUEST = 0,
@@ -222,24 +227,26 @@ enum greenblr_outcome {
     GREENBLR_REFUSED = 3
 };
 
-/* Why a condition is missing: by its first missing operand in reading order. Later versions may have more. */
+/* Why a condition or a value is missing: by its first missing operand in reading order. Later versions may have more. */
 enum greenblr_why {
     GREENBLR_CAUSE_NONE = 0,
     GREENBLR_CAUSE_BIT = 1,      /* the missing bit of a field is set */
     GREENBLR_CAUSE_READING = 2,  /* a reading of 65535 */
-    GREENBLR_CAUSE_FLAG = 3      /* the flag of a parameter2 is not zero */
+    GREENBLR_CAUSE_FLAG = 3,     /* the flag of a parameter2 is not zero */
+    GREENBLR_CAUSE_NOTHING = 4   /* an average, a maximum or a minimum of nothing: no record of its run has a value for it */
 };
 
 /* Evaluates a condition of a request, by its number: from 0 in reading order, those inside another condition not counted.
  *
  * images: the bytes of all messages in declaration order, joined. records: one record's entry for each context in scope at the
- * condition, in declaration order, joined. runs: an entry of kind 7 for each any and unique of the condition, in the order of their
- * codes, joined; it holds the records, none or more, that the code goes over (greenblr(7)). No run is due where there is no such
- * code, and then the length is 0.
+ * condition, in declaration order, joined. runs: an entry of kind 7 for each any, unique and statistic of the condition, in the order of
+ * their codes, those in sorts left out, joined; it holds the records, none or more, that the code goes over (greenblr(7)). No run is due
+ * where there is no such code, and then the length is 0.
  *
  * Any is true if one record of its run makes its condition true, unique if exactly one does; a record that makes it missing counts
- * for neither, and the answer is never missing. All records are tested. With one any or unique inside another the time grows with
- * the product of the counts of records.
+ * for neither, and the answer is never missing. Average, maximum, minimum and total go over the number of each record that makes their
+ * condition true, and leave out those whose number is missing; count counts the records. Total and count of nothing are 0, the others
+ * are missing. All records are tested. With one of these codes inside another the time grows with the product of the counts of records.
  *
  * Gives one number, which holds all of the answer; the four functions below take it apart. Nothing is written.
  */
@@ -250,10 +257,43 @@ uint64_t greenblr_evaluate(const uint8_t *request, size_t request_length,
                            const uint8_t *records, size_t records_length,
                            const uint8_t *runs, size_t runs_length);
 
+/* ---- Values of assignments */
+
+/* What the value of an assignment comes out as: GREENBLR_MISSING, GREENBLR_REFUSED, or one of these. */
+enum greenblr_value {
+    GREENBLR_VALUE_NUMBER = 4,
+    GREENBLR_VALUE_TEXT = 5,
+    GREENBLR_VALUE_DATE = 6
+};
+
+/* Evaluates the value that an assignment puts into its target, by the assignment's row among the statements, from 0.
+ *
+ * images, records and runs: as for greenblr_evaluate, the records for each context in scope at the assignment, that of its store or
+ * its modify among them. The target is not looked at.
+ *
+ * Gives one number, which the four functions below take apart, and writes three:
+ * - GREENBLR_VALUE_NUMBER: the number, its scale, 0. A number of 301 and a scale of -1 are 30.1.
+ * - GREENBLR_VALUE_TEXT: what the text stands in (GREENBLR_INPUT_REQUEST, IMAGES, RECORDS or RUNS), the place of its first byte there, and
+ *   the place after its last; blanks at its end are no part of it. Neither place is after the end of what it stands in, nor the first
+ *   after the second.
+ * - GREENBLR_VALUE_DATE: the day, the fraction, 0.
+ * - GREENBLR_MISSING, GREENBLR_REFUSED: zeros. The refusals are those of greenblr_evaluate; 20 if the row is no assignment's.
+ */
+uint64_t greenblr_evaluate_value(const uint8_t *request, size_t request_length,
+                                 const uint8_t *dictionary, size_t dictionary_length,
+                                 size_t row,
+                                 const uint8_t *images, size_t images_length,
+                                 const uint8_t *records, size_t records_length,
+                                 const uint8_t *runs, size_t runs_length,
+                                 int64_t answer[3]);
+
+/* ---- The parts of what both give */
+
 /* The greatest place that an evaluation holds: it stands for every greater one too. */
 #define GREENBLR_MAX_PLACE ((uint64_t)-1 >> 16)
 
-/* GREENBLR_FALSE, GREENBLR_TRUE, GREENBLR_MISSING or GREENBLR_REFUSED. */
+/* GREENBLR_FALSE, GREENBLR_TRUE, GREENBLR_MISSING or GREENBLR_REFUSED; of greenblr_evaluate_value one of the last two, or a
+ * GREENBLR_VALUE. */
 static inline unsigned greenblr_answer(uint64_t evaluation)
 {
     return (unsigned)(evaluation & 0xff);
@@ -285,6 +325,7 @@ static inline const char *greenblr_cause_text(unsigned cause)
     case GREENBLR_CAUSE_BIT: return "the missing bit of a field is set";
     case GREENBLR_CAUSE_READING: return "a reading is 65535: the node could not measure";
     case GREENBLR_CAUSE_FLAG: return "the flag of a parameter says that it is missing";
+    case GREENBLR_CAUSE_NOTHING: return "an average, maximum or minimum has no value to go over";
     default: return "a number that is no cause of this version";
     }
 }
@@ -363,6 +404,11 @@ uint32_t greenblr_store_find(const uint8_t *dictionary, size_t dictionary_length
 #define GREENBLR_CODE_FIELD 23
 #define GREENBLR_CODE_FID 24
 #define GREENBLR_CODE_PARAMETER 25
+#define GREENBLR_CODE_AVERAGE 27
+#define GREENBLR_CODE_COUNT 28
+#define GREENBLR_CODE_MAXIMUM 29
+#define GREENBLR_CODE_MINIMUM 30
+#define GREENBLR_CODE_TOTAL 31
 #define GREENBLR_CODE_ADD 34
 #define GREENBLR_CODE_SUBTRACT 35
 #define GREENBLR_CODE_MULTIPLY 36
@@ -417,11 +463,6 @@ uint32_t greenblr_store_find(const uint8_t *dictionary, size_t dictionary_length
 
 #define GREENBLR_CODE_DBKEY 22
 #define GREENBLR_CODE_VARIABLE 26
-#define GREENBLR_CODE_AVERAGE 27
-#define GREENBLR_CODE_COUNT 28
-#define GREENBLR_CODE_MAXIMUM 29
-#define GREENBLR_CODE_MINIMUM 30
-#define GREENBLR_CODE_TOTAL 31
 #define GREENBLR_CODE_CONCATENATE 39
 #define GREENBLR_CODE_SUBSTRING 40
 #define GREENBLR_CODE_FROM 42

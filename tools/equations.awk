@@ -28,6 +28,11 @@ function numbers(t,    n, a, i, s) {
     return "(" s "[]" ")"
 }
 
+# a signed number
+function signed_number(n) {
+    return n < 0 ? "(negℤ (pos " substr(n, 2) "))" : "(pos " n ")"
+}
+
 # what stands right of the sign of equality; a missing answer without its cause stands for any
 function answer(t,    a, p) {
     split(t, a, " ")
@@ -36,6 +41,9 @@ function answer(t,    a, p) {
     if (a[1] == "false") return "isFalse"
     if (t == "missing") return "isMissing Cause.Bit"
     if (a[1] == "missing") return "isMissing Cause." toupper(substr(a[2], 1, 1)) substr(a[2], 2)
+    if (a[1] == "number") return "isNumber " signed_number(a[2]) " " signed_number(a[3])
+    if (a[1] == "text") return "isText " list(a[2])
+    if (a[1] == "date") return "isDate " signed_number(a[2]) " " a[3]
     split(t, p, "|")
     return "rows " numbers(p[2]) " " numbers(p[3]) " " numbers(p[4])
 }
@@ -50,9 +58,10 @@ function open_file(crate,    proofs, name) {
     print "use Prim.Native.Nat.{ℕ}" > file[crate]
     print "use mathlib.Core.Path.{_≡_, refl}" > file[crate]
     print "use mathlib.Core.List.{List, [], _∷_, _++_}" > file[crate]
+    print "use lib.IntN.{pos, negℤ}" > file[crate]
     print "use lib.ListN.{replicate}" > file[crate]
     print "use Rattle.records.specs.declared.missing.Cause.the-variants as Cause" > file[crate]
-    print "use Rattle.examples.proofs.Answers.{Answer, rows, isTrue, isFalse, isMissing, anyCause, refusal, readAnswer, evaluateAnswer}" > file[crate]
+    print "use Rattle.examples.proofs.Answers.{Answer, rows, isTrue, isFalse, isMissing, isNumber, isText, isDate, anyCause, refusal, readAnswer, evaluateAnswer, valueAnswer}" > file[crate]
 }
 
 {
@@ -60,11 +69,12 @@ function open_file(crate,    proofs, name) {
     if (cases[crate]++ % 50 == 0) open_file(crate)
     k = index($0, " = ")
     right = substr($0, k + 3)
+    runs = $7 == "=" ? "[]" : list($7)
     if ($1 == "read") left = "readAnswer " list($3) " " list($2) " " $4 " " $5 " " $6
-    else left = "evaluateAnswer " list($3) " " list($2) " " $4 " " list($5) " " list($6) " " ($7 == "=" ? "[]" : list($7))
+    else left = $1 "Answer " list($3) " " list($2) " " $4 " " list($5) " " list($6) " " runs
     if (right == "missing") left = "anyCause (" left ")"
     print "" > file[crate]
     print "case" NR " : " left " ≡ " answer(right) > file[crate]
-    print "unfolding readAnswer evaluateAnswer" > file[crate]
+    print "unfolding readAnswer evaluateAnswer valueAnswer" > file[crate]
     print "case" NR " = refl" > file[crate]
 }

@@ -1,26 +1,35 @@
-//! Evaluations, valid and damaged: the proved evaluator against the second program's.
+//! Evaluations of conditions and of from-values, valid and damaged: the proved evaluator against the second program's.
 
 use crate::proved;
-use second::cases::answer_and_cause;
+use second::cases::{answer_and_cause, value_answer};
 use second::evaluator::{self, Lent};
 use second::generate::{self, Case, Size};
 use second::hex;
+use second::refusal::Refusal;
 
 const DICTIONARY: &str = include_str!("../../second/tests/real/dictionary.hex");
 const CONDITIONS: &str = include_str!("../../second/tests/real/conditions.jsonl");
-const AGREED: [&str; 5] = [
+const AGREED: [&str; 6] = [
     include_str!("../../second/tests/agreed/evaluations.txt"),
     include_str!("../../second/tests/agreed/no-01.txt"),
     include_str!("../../second/tests/agreed/no-03.txt"),
     include_str!("../../second/tests/agreed/no-04.txt"),
     include_str!("../../second/tests/agreed/no-08.txt"),
+    include_str!("../../second/tests/agreed/no-09.txt"),
 ];
+
+/// What is asked for: a condition by its number, or the from-value of an assignment by its row.
+#[derive(Clone, Copy)]
+enum Asked {
+    Condition(usize),
+    Row(usize),
+}
 
 /// What an evaluation takes.
 struct Input {
     dictionary: Vec<u8>,
     request: Vec<u8>,
-    condition: usize,
+    asked: Asked,
     messages: Vec<u8>,
     records: Vec<u8>,
     runs: Vec<u8>,
@@ -29,39 +38,50 @@ struct Input {
 impl Input {
     /// The words that both programs give.
     fn outcomes(&self) -> (String, String) {
-        let Input { dictionary, request, condition, messages, records, runs } = self;
-        let proved = proved::evaluate(request, dictionary, *condition, messages, records, runs);
+        let Input { dictionary, request, asked, messages, records, runs } = self;
         let lent = Lent { messages, records, runs };
-        let plain = evaluator::evaluate_over(request, dictionary, *condition, lent)
-            .map(|answer| answer_and_cause(answer).to_string())
-            .unwrap_or_else(|refusal| format!("refused {} {}", refusal.number, refusal.place));
-        (proved, plain)
+        let (proved, plain) = match *asked {
+            Asked::Condition(number) => (
+                proved::evaluate(request, dictionary, number, messages, records, runs),
+                evaluator::evaluate_over(request, dictionary, number, lent)
+                    .map(|answer| answer_and_cause(answer).to_string()),
+            ),
+            Asked::Row(row) => (
+                proved::evaluate_value(request, dictionary, row, messages, records, runs),
+                evaluator::evaluate_value(request, dictionary, row, lent)
+                    .map(|answer| value_answer(&answer)),
+            ),
+        };
+        let refused = |refusal: Refusal| format!("refused {} {}", refusal.number, refusal.place);
+        (proved, plain.unwrap_or_else(refused))
     }
 
     /// The input as a line of a case has it.
     fn text(&self) -> String {
         let parts = [&self.dictionary, &self.request, &self.messages, &self.records, &self.runs];
         let [dictionary, request, messages, records, runs] = parts.map(|bytes| hex::write(bytes));
-        format!("evaluate {dictionary} {request} {} {messages} {records} {runs}", self.condition)
+        let (word, number) = match self.asked {
+            Asked::Condition(number) => ("evaluate", number),
+            Asked::Row(row) => ("value", row),
+        };
+        format!("{word} {dictionary} {request} {number} {messages} {records} {runs}")
     }
 }
 
-/// A generated case; a reading is evaluated as well, with no messages, no records and no runs.
+/// A generated case; a reading is evaluated as well, as a condition or a from-value, with no messages, no records and no runs.
 fn input(case: Case, index: usize) -> Input {
     match case {
         Case::Evaluate { dictionary, request, condition, messages, records, runs } => {
-            Input { dictionary, request, condition, messages, records, runs }
+            let asked = Asked::Condition(condition);
+            Input { dictionary, request, asked, messages, records, runs }
+        }
+        Case::Value { dictionary, request, row, messages, records, runs } => {
+            Input { dictionary, request, asked: Asked::Row(row), messages, records, runs }
         }
         Case::Read { dictionary, request, .. } => {
-            let condition = [0, 1, 511, 512, usize::MAX][index % 5];
-            Input {
-                dictionary,
-                request,
-                condition,
-                messages: vec![],
-                records: vec![],
-                runs: vec![],
-            }
+            let number = [0, 1, 511, 512, usize::MAX][index % 5];
+            let asked = [Asked::Condition(number), Asked::Row(number)][index / 5 % 2];
+            Input { dictionary, request, asked, messages: vec![], records: vec![], runs: vec![] }
         }
     }
 }
@@ -90,8 +110,8 @@ fn real() -> Vec<(Input, String)> {
                 ["request", "messages", "records"].map(|key| bytes(part(line, key)));
             let dictionary = dictionary.clone();
             let runs = Vec::new();
-            let input = Input { dictionary, request, condition: 0, messages, records, runs };
-            (input, due(line))
+            let asked = Asked::Condition(0);
+            (Input { dictionary, request, asked, messages, records, runs }, due(line))
         })
         .collect()
 }
@@ -107,14 +127,17 @@ fn agreed() -> Vec<(Input, String)> {
             let mut words: Vec<&str> = input.split(' ').collect();
             // A line without runs ends with the records.
             words.resize(words.len().max(7), "-");
-            let ["evaluate", dictionary, request, condition, messages, records, runs] = words[..]
-            else {
+            let [word, dictionary, request, number, messages, records, runs] = words[..] else {
                 return None;
+            };
+            let asked = match word {
+                "evaluate" => Asked::Condition(number.parse().ok()?),
+                "value" => Asked::Row(number.parse().ok()?),
+                _ => return None,
             };
             let [dictionary, request, messages, records, runs] =
                 [dictionary, request, messages, records, runs].map(bytes);
-            let condition = condition.parse().ok()?;
-            let input = Input { dictionary, request, condition, messages, records, runs };
+            let input = Input { dictionary, request, asked, messages, records, runs };
             Some((input, answer.to_string()))
         })
         .collect()
@@ -125,8 +148,8 @@ fn is_due(outcome: &str, due: &str) -> bool {
     outcome == due || due == "missing" && outcome.starts_with("missing ")
 }
 
-/// What generated cases come out as: true, false, missing by each cause, and the refusals by their numbers.
-const OUTCOMES: usize = 30;
+/// What generated cases come out as: true, false, missing by each cause, a number, a text, a date, and the refusals by their numbers.
+const OUTCOMES: usize = 34;
 
 fn outcome(text: &str) -> usize {
     match text {
@@ -135,6 +158,10 @@ fn outcome(text: &str) -> usize {
         "missing bit" => 27,
         "missing reading" => 28,
         "missing flag" => 29,
+        "missing nothing" => 30,
+        _ if text.starts_with("number ") => 31,
+        _ if text.starts_with("text ") => 32,
+        _ if text.starts_with("date ") => 33,
         _ => text.split(' ').nth(1).and_then(|word| word.parse().ok()).unwrap_or(17),
     }
 }

@@ -120,7 +120,9 @@ fn number(cause: Option<Cause>) -> u32 {
         None => 0,
         Some(Cause::Bit) => 1,
         Some(Cause::Reading) => 2,
-        Some(Cause::Flag) => unreachable!("a field without a flag"),
+        Some(Cause::Flag | Cause::Nothing) => {
+            unreachable!("a field without a flag, and no statistic")
+        }
     }
 }
 

@@ -101,3 +101,17 @@ pub fn call(dictionary: &[u8], buffer: &mut [u8], call: &Call) -> Option<()> {
     }
     Some(())
 }
+
+/// The average of the sums of two readings of each bed of a run, in plain Rust that knows the layout: beds of which either is 65535 or has
+/// its missing bit are left out.
+pub fn average(run: &[u8]) -> Option<i64> {
+    let (mut sum, mut count) = (0i64, 0i64);
+    for bed in run[4..].chunks_exact(11) {
+        let [first, second] = [7, 9].map(|at| u16::from_le_bytes([bed[at], bed[at + 1]]));
+        if bed[6] == 0 && first != u16::MAX && second != u16::MAX {
+            sum = sum.checked_add(i64::from(first) + i64::from(second))?;
+            count += 1;
+        }
+    }
+    sum.checked_div(count)
+}

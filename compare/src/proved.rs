@@ -1,6 +1,7 @@
 //! The proved functions, behind safe ones. Nothing checks these declarations against the Rattle source
 //! `crates/greenblr/src/lib.rt`, `crates/greenblr/src/stores.rt` and `crates/leaf_exports/src/lib.rt`: they pass numbers and slices only, and every function there is total.
 
+use second::hex;
 use second::store::Call;
 use std::cmp::Ordering;
 
@@ -31,6 +32,20 @@ extern "C" {
         records_length: usize,
         runs: *const u8,
         runs_length: usize,
+    ) -> u64;
+    fn greenblr_evaluate_value(
+        request: *const u8,
+        request_length: usize,
+        dictionary: *const u8,
+        dictionary_length: usize,
+        row: usize,
+        images: *const u8,
+        images_length: usize,
+        records: *const u8,
+        records_length: usize,
+        runs: *const u8,
+        runs_length: usize,
+        answer: *mut i64,
     ) -> u64;
     fn greenblr_store_make(
         dictionary: *const u8,
@@ -350,12 +365,73 @@ pub fn evaluate(
     }
 }
 
+/// The number that the evaluation of a from-value gives, and the three that it writes.
+pub fn value_evaluation(
+    request: &[u8],
+    dictionary: &[u8],
+    row: usize,
+    messages: &[u8],
+    records: &[u8],
+    runs: &[u8],
+) -> (u64, [i64; 3]) {
+    // What is not written would be seen.
+    let mut answer = [i64::MIN; 3];
+    // Each slice passes as a pointer and its length, and is borrowed for the call alone.
+    let given = unsafe {
+        greenblr_evaluate_value(
+            request.as_ptr(),
+            request.len(),
+            dictionary.as_ptr(),
+            dictionary.len(),
+            row,
+            messages.as_ptr(),
+            messages.len(),
+            records.as_ptr(),
+            records.len(),
+            runs.as_ptr(),
+            runs.len(),
+            answer.as_mut_ptr(),
+        )
+    };
+    (given, answer)
+}
+
+/// What a from-value comes out as: a number with its scale, a text, a date, missing with its cause, or a refusal with its number and its
+/// place; other numbers than are due stand behind it.
+pub fn evaluate_value(
+    request: &[u8],
+    dictionary: &[u8],
+    row: usize,
+    messages: &[u8],
+    records: &[u8],
+    runs: &[u8],
+) -> String {
+    let (given, answer) = value_evaluation(request, dictionary, row, messages, records, runs);
+    let [first, second, third] = answer;
+    let (word, zeros) = match given {
+        4 => (format!("number {first} {second}"), &answer[2..]),
+        5 => {
+            let inputs = [request, dictionary, messages, records, runs];
+            let text = &inputs[first as usize][second as usize..third as usize];
+            (format!("text {}", hex::write(text)), &answer[3..])
+        }
+        6 => (format!("date {first} {second}"), &answer[2..]),
+        _ if given & 0xff == 2 => (format!("missing {}", cause(given >> 8)), &answer[..]),
+        _ => (format!("refused {} {}", given >> 8 & 0xff, given >> 16), &answer[..]),
+    };
+    match zeros.iter().all(|number| *number == 0) {
+        true => word,
+        false => format!("{word} with {answer:?}"),
+    }
+}
+
 /// The name of a cause.
 fn cause(number: u64) -> String {
     match number {
         1 => "bit".to_string(),
         2 => "reading".to_string(),
         3 => "flag".to_string(),
+        4 => "nothing".to_string(),
         other => format!("by {other}"),
     }
 }

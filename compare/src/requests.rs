@@ -19,7 +19,7 @@ const AGREED: [&str; 3] = [
 fn lengths(rng: &mut Rng, case: &Case) -> [usize; 3] {
     let mut lengths = match case {
         Case::Read { lengths, .. } => *lengths,
-        Case::Evaluate { .. } => TABLE_LENGTHS,
+        Case::Evaluate { .. } | Case::Value { .. } => TABLE_LENGTHS,
     };
     match rng.below(8) {
         0 => lengths[rng.below(3)] = rng.below(40),

@@ -166,7 +166,8 @@ pub fn run() {
     }
 }
 
-/// Conditions of the greatest depth, with their runs: not, negate under one test, any in any with a record for each.
+/// Conditions of the greatest depth, with their runs: not, negate under one test, any in any and total in total, in its condition and in its
+/// number, with a record for each.
 fn deepest_conditions() -> Vec<(&'static str, Vec<u8>, Vec<u8>)> {
     let conditional = |boolean: Vec<u8>| {
         let body = [&[wire::IF], boolean.as_slice(), &[wire::BEGIN, wire::END], &[wire::END]];
@@ -182,11 +183,26 @@ fn deepest_conditions() -> Vec<(&'static str, Vec<u8>, Vec<u8>)> {
         let clauses = [&[wire::BOOLEAN], inner.as_slice()].concat();
         assemble::over(wire::ANY, &assemble::rid(1, context), &clauses)
     });
-    let runs = data::run(&[house_record()]).repeat(28);
+    let totals = (0..27).fold(value.clone(), |inner, context| {
+        assemble::statistic(wire::TOTAL, &assemble::rid(1, context), &[], &inner)
+    });
+    let tests = (0..14).fold(assemble::operator(wire::MISSING, &[&value]), |inner, context| {
+        let clauses = [&[wire::BOOLEAN], inner.as_slice()].concat();
+        let total = assemble::statistic(wire::TOTAL, &assemble::rid(1, context), &clauses, &value);
+        assemble::operator(wire::MISSING, &[&total])
+    });
+    let run = data::run(&[house_record()]);
+    let runs = run.repeat(28);
     vec![
         ("evaluation: not", conditional(nots), vec![]),
         ("evaluation: negate", conditional(negates), vec![]),
         ("evaluation: add", conditional(assemble::operator(wire::MISSING, &[&sums])), vec![]),
         ("evaluation: any", conditional(anys), runs),
+        (
+            "evaluation: total of totals",
+            conditional(assemble::operator(wire::MISSING, &[&totals])),
+            run.repeat(27),
+        ),
+        ("evaluation: total by total", conditional(tests), run.repeat(14)),
     ]
 }

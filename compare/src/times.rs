@@ -4,7 +4,7 @@ use crate::plain;
 use crate::proved::{self, Computed, Number};
 use second::decimal::{self, Fault};
 use second::dictionary::{Dictionary, Relation};
-use second::evaluator::{self, Lent};
+use second::evaluator::{self, Lent, ValueAnswer};
 use second::generate::rng::Rng;
 use second::generate::{assemble, data, dictionaries};
 use second::reader::{self, TABLE_LENGTHS};
@@ -431,6 +431,41 @@ fn runs() {
     }
 }
 
+/// The average of 10,000 readings, two of each bed of a run of 5,000, which is as long as a run may be; against the second program and
+/// against plain Rust over the same bytes.
+fn averages() {
+    let reading = |name: &[u8]| dictionaries::field(wire::READING, -1, 2, name);
+    let fields = vec![reading(b"HEAT"), reading(b"WET")];
+    let relation = Relation { id: 1, name: b"BEDS".to_vec(), fields };
+    let dictionary = dictionaries::encode(&Dictionary { relations: vec![relation] });
+    let sum = assemble::operator(wire::ADD, &[&assemble::fid(3, 0), &assemble::fid(3, 1)]);
+    let value = assemble::statistic(wire::AVERAGE, &assemble::rid(1, 3), &[], &sum);
+    let send = [&[wire::SEND, 0], &assemble::assignment(&value, &assemble::parameter(0, 0))[..]];
+    let message = assemble::message(0, &[&[wire::LONG, 255]]);
+    let request = assemble::request(&[&message, &send.concat()]);
+    // One bed of 16 has sent no heat.
+    let heat = |n: usize| if n % 16 == 0 { 65_535 } else { 200 + (n % 150) as u16 };
+    let bed = |n: usize| {
+        let [heat, wet] = [heat(n), (n % 900) as u16].map(u16::to_le_bytes);
+        [&[11, 0, 3, 0, 1, 0, 0][..], &heat, &wet].concat()
+    };
+    let runs = data::run(&(0..5_000).map(bed).collect::<Vec<_>>());
+    let lent = Lent { messages: &[0; 4], records: &[], runs: &runs };
+    let due = evaluator::evaluate_value(&request, &dictionary, 2, lent).expect("an average");
+    assert_eq!(due, ValueAnswer::Number(plain::average(&runs).expect("an average"), -1));
+    let proved = |_| {
+        let (given, _) = proved::value_evaluation(&request, &dictionary, 2, &[0; 4], &[], &runs);
+        assert!(black_box(given) == 4, "an average");
+    };
+    line("average of 10,000, second", 10, proved, |_| {
+        let lent = Lent { messages: &[0; 4], records: &[], runs: &runs };
+        black_box(evaluator::evaluate_value(&request, &dictionary, 2, lent)).expect("an average");
+    });
+    line("average of 10,000, plain", 10, proved, |_| {
+        black_box(plain::average(black_box(&runs)));
+    });
+}
+
 /// The records of BEDS of document 01 in a full buffer of 65,535 bytes, and one record.
 fn full_store() -> (Vec<u8>, Vec<u8>, Vec<u8>) {
     let dictionary = [
@@ -485,5 +520,6 @@ pub fn run() {
     readings();
     evaluations();
     runs();
+    averages();
     stores();
 }

@@ -3,10 +3,13 @@
 //! `read DICTIONARY REQUEST LENGTHS.. = accepted S P C | rows ; .. | rows ; .. | rows ; ..`,
 //! `evaluate DICTIONARY REQUEST CONDITION MESSAGES RECORDS RUNS = true`, or `= refused NUMBER
 //! PLACE`. Where no byte of a run is lent, RUNS is left out. A table without rows has nothing
-//! between its bars. A missing answer stands with its cause: `= missing bit`, `= missing reading`
-//! or `= missing flag`.
+//! between its bars. A missing answer stands with its cause: `= missing bit`, `= missing reading`,
+//! `= missing flag` or `= missing nothing`.
+//!
+//! `value DICTIONARY REQUEST ROW MESSAGES RECORDS RUNS = number NUMBER SCALE`, `= text BYTES`,
+//! `= date DAY FRACTION`, `= missing CAUSE` or `= refused NUMBER PLACE`.
 
-use crate::evaluator::{evaluate_over, Answer, Lent};
+use crate::evaluator::{evaluate_over, evaluate_value, Answer, Lent, ValueAnswer};
 use crate::generate::Case;
 use crate::hex;
 use crate::reader::{self, WIDTHS};
@@ -28,10 +31,23 @@ pub fn input(case: &Case) -> String {
         Case::Evaluate { dictionary, request, condition, messages, records, runs } => {
             let [dictionary, request, messages, records] =
                 [dictionary, request, messages, records].map(|bytes| hex::write(bytes));
-            let runs =
-                if runs.is_empty() { String::new() } else { format!(" {}", hex::write(runs)) };
+            let runs = last_word(runs);
             format!("evaluate {dictionary} {request} {condition} {messages} {records}{runs}")
         }
+        Case::Value { dictionary, request, row, messages, records, runs } => {
+            let [dictionary, request, messages, records] =
+                [dictionary, request, messages, records].map(|bytes| hex::write(bytes));
+            let runs = last_word(runs);
+            format!("value {dictionary} {request} {row} {messages} {records}{runs}")
+        }
+    }
+}
+
+/// A blank and the runs; nothing where they are empty.
+fn last_word(runs: &[u8]) -> String {
+    match runs.is_empty() {
+        true => String::new(),
+        false => format!(" {}", hex::write(runs)),
     }
 }
 
@@ -43,6 +59,10 @@ pub fn outcome(case: &Case) -> String {
             let lent = Lent { messages, records, runs };
             let result = evaluate_over(request, dictionary, *condition, lent);
             result.map(|answer| answer_and_cause(answer).to_string())
+        }
+        Case::Value { dictionary, request, row, messages, records, runs } => {
+            let lent = Lent { messages, records, runs };
+            evaluate_value(request, dictionary, *row, lent).map(|answer| value_answer(&answer))
         }
     };
     result.unwrap_or_else(|refusal| format!("refused {} {}", refusal.number, refusal.place))
@@ -63,7 +83,18 @@ pub fn answer_and_cause(answer: Answer) -> &'static str {
         Answer::Missing(Cause::Bit) => "missing bit",
         Answer::Missing(Cause::Reading) => "missing reading",
         Answer::Missing(Cause::Flag) => "missing flag",
+        Answer::Missing(Cause::Nothing) => "missing nothing",
         Answer::True | Answer::False => answer_name(answer),
+    }
+}
+
+/// A from-value as words.
+pub fn value_answer(answer: &ValueAnswer) -> String {
+    match answer {
+        ValueAnswer::Number(number, scale) => format!("number {number} {scale}"),
+        ValueAnswer::Text(text) => format!("text {}", hex::write(text)),
+        ValueAnswer::Date(day, fraction) => format!("date {day} {fraction}"),
+        ValueAnswer::Missing(cause) => answer_and_cause(Answer::Missing(*cause)).to_string(),
     }
 }
 

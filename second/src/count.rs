@@ -12,7 +12,8 @@ use std::fmt::Write;
 pub struct Tally {
     pub reads: usize,
     pub evaluations: usize,
-    /// Outcomes by `accepted`, `true`, `false`, `missing bit`, `missing reading`, `missing flag`.
+    pub values: usize,
+    /// Outcomes by `accepted`, `true`, `false`, `missing` with its cause, `number`, `text`, `date`.
     pub answers: BTreeMap<String, usize>,
     /// Refusals by number.
     pub refusals: BTreeMap<u32, usize>,
@@ -34,6 +35,7 @@ impl Tally {
         match case {
             Case::Read { .. } => self.reads += 1,
             Case::Evaluate { .. } => self.evaluations += 1,
+            Case::Value { .. } => self.values += 1,
         }
         self.add_outcome(&cases::outcome(case));
         let (dictionary, request) = case.bytes();
@@ -45,14 +47,17 @@ impl Tally {
         }
     }
 
-    /// Counts an outcome: a refusal by its number, `accepted` without its rows, an answer as it is.
+    /// Counts an outcome: a refusal by its number, `accepted` without its rows, a value by its kind,
+    /// an answer as it is.
     fn add_outcome(&mut self, outcome: &str) {
         let mut words = outcome.split(' ');
         let first = words.next().unwrap_or_default();
         let number = words.next().and_then(|word| word.parse().ok());
         match (first, number) {
             ("refused", Some(number)) => *self.refusals.entry(number).or_default() += 1,
-            ("accepted", _) => *self.answers.entry(first.to_string()).or_default() += 1,
+            ("accepted" | "number" | "text" | "date", _) => {
+                *self.answers.entry(first.to_string()).or_default() += 1
+            }
             _ => *self.answers.entry(outcome.to_string()).or_default() += 1,
         }
     }
@@ -62,6 +67,7 @@ impl Tally {
         let mut output = String::new();
         push(&mut output, "read", self.reads);
         push(&mut output, "evaluate", self.evaluations);
+        push(&mut output, "value", self.values);
         for (answer, count) in &self.answers {
             push(&mut output, answer, *count);
         }

@@ -1,6 +1,6 @@
 //! A second, plain reader and evaluator of BLR requests over a house dictionary.
 //!
-//! It is written from document 01 and requests No. 1, No. 3, No. 4, No. 7, No. 8 and No. 10 of
+//! It is written from document 01 and requests No. 1, No. 3, No. 4 and No. 7 to No. 10 of
 //! document 02 alone, with vectors and 128-bit numbers where they make a rule short, so that its
 //! results can be compared with those of another implementation. Places count bytes from the start
 //! of the request or of the dictionary.
@@ -15,7 +15,7 @@ pub mod datatype;
 pub mod decimal;
 /// The house dictionary: its rules, relations and fields.
 pub mod dictionary;
-/// Evaluation of one condition over messages and records.
+/// Evaluation of one condition or from-value over messages, records and runs.
 pub mod evaluator;
 /// Generation of cases from fixed seeds.
 pub mod generate;

@@ -2,8 +2,8 @@
 
 use second::cases;
 use second::count::Tally;
-use second::evaluator::{evaluate_over, Lent};
-use second::generate::{self, conditions, inputs::inputs, readings, Case, Size};
+use second::evaluator::{evaluate_over, evaluate_value, Lent};
+use second::generate::{self, conditions, from_values, inputs::inputs, readings, Case, Size};
 use second::hex;
 use second::listing::listing;
 use std::fs;
@@ -14,8 +14,9 @@ use std::process::ExitCode;
 const USAGE: &str = "usage:
   second listing < INPUT
   second evaluate DICTIONARYHEX REQUESTHEX CONDITION MESSAGESHEX RECORDSHEX [RUNSHEX]
-  second cases small|mixed|readings|conditions SEED COUNT
-  second count small|mixed|readings|conditions SEED COUNT
+  second value DICTIONARYHEX REQUESTHEX ROW MESSAGESHEX RECORDSHEX RUNSHEX
+  second cases small|mixed|readings|conditions|values SEED COUNT
+  second count small|mixed|readings|conditions|values SEED COUNT
   second inputs SEED COUNT FOLDER
 ";
 
@@ -29,6 +30,9 @@ fn main() -> ExitCode {
         }
         ["evaluate", dictionary, request, condition, messages, records, runs] => {
             evaluate_hex([dictionary, request, messages, records, runs], condition)
+        }
+        ["value", dictionary, request, row, messages, records, runs] => {
+            value_hex([dictionary, request, messages, records, runs], row)
         }
         ["cases", size, seed, count] => print_cases(size, seed, count),
         ["count", size, seed, count] => print_count(size, seed, count),
@@ -70,12 +74,28 @@ fn evaluate_hex(strings: [&str; 5], condition: &str) -> Option<io::Result<()>> {
     Some(writeln!(io::stdout(), "{outcome}"))
 }
 
-/// The cases of a size, readings, or conditions, of a seed; nothing if an argument cannot be read.
+/// The outcome of one from-value; nothing if an argument cannot be read.
+fn value_hex(strings: [&str; 5], row: &str) -> Option<io::Result<()>> {
+    let mut bytes = Vec::new();
+    for string in strings {
+        bytes.push(hex::read(string)?);
+    }
+    let lent = Lent { messages: &bytes[2], records: &bytes[3], runs: &bytes[4] };
+    let outcome = match evaluate_value(&bytes[1], &bytes[0], row.parse().ok()?, lent) {
+        Ok(answer) => cases::value_answer(&answer),
+        Err(refusal) => format!("refused {} at {}", refusal.number, refusal.place),
+    };
+    Some(writeln!(io::stdout(), "{outcome}"))
+}
+
+/// The cases of a size, readings, conditions, or from-values, of a seed; nothing if an argument
+/// cannot be read.
 fn run(kind: &str, seed: &str, count: &str) -> Option<Box<dyn Iterator<Item = Case>>> {
     let (seed, count) = (seed.parse().ok()?, count.parse().ok()?);
     Some(match kind {
         "readings" => Box::new(readings::cases(seed, count)),
         "conditions" => Box::new(conditions::cases(seed, count)),
+        "values" => Box::new(from_values::cases(seed, count)),
         size => Box::new(generate::cases(Size::named(size)?, seed, count)),
     })
 }

@@ -45,7 +45,7 @@ pub const WRONG_STATEMENT: u32 = 14;
 pub const BYTES_AFTER: u32 = 15;
 /// 16: a size, scale, stream count or sort count is out of range.
 pub const OUT_OF_RANGE: u32 = 16;
-/// 20: there is no such boolean.
+/// 20: there is no such boolean, or no such assignment.
 pub const NO_BOOLEAN: u32 = 20;
 /// 21: the message bytes are not the exact total.
 pub const WRONG_MESSAGES: u32 = 21;

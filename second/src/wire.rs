@@ -66,6 +66,11 @@ pub const LITERAL: u8 = 21;
 pub const FIELD: u8 = 23;
 pub const FID: u8 = 24;
 pub const PARAMETER: u8 = 25;
+pub const AVERAGE: u8 = 27;
+pub const COUNT: u8 = 28;
+pub const MAXIMUM: u8 = 29;
+pub const MINIMUM: u8 = 30;
+pub const TOTAL: u8 = 31;
 pub const ADD: u8 = 34;
 pub const SUBTRACT: u8 = 35;
 pub const MULTIPLY: u8 = 36;
@@ -116,9 +121,13 @@ pub const STATEMENTS: [u8; 14] = [
     ASSIGNMENT, BEGIN, ERASE, FOR, IF, LOOP, MODIFY, HANDLER, RECEIVE, SELECT, SEND, STORE, LABEL,
     LEAVE,
 ];
-/// The values that document 01 takes.
-pub const VALUES: [u8; 10] =
-    [LITERAL, FIELD, FID, PARAMETER, ADD, SUBTRACT, MULTIPLY, DIVIDE, NEGATE, PARAMETER2];
+/// The values that document 01 takes, and the statistics of No. 9 of document 02.
+pub const VALUES: [u8; 15] = [
+    LITERAL, FIELD, FID, PARAMETER, ADD, SUBTRACT, MULTIPLY, DIVIDE, NEGATE, PARAMETER2, AVERAGE,
+    COUNT, MAXIMUM, MINIMUM, TOTAL,
+];
+/// The statistics.
+pub const STATISTICS: [u8; 5] = [AVERAGE, COUNT, MAXIMUM, MINIMUM, TOTAL];
 /// The values that may be a target.
 pub const TARGETS: [u8; 4] = [FIELD, FID, PARAMETER, PARAMETER2];
 /// The booleans that document 01 takes, and any and unique by No. 4 of document 02.
@@ -156,8 +165,8 @@ pub fn literals(version: u8) -> &'static [u8] {
 // The codes left out, each refused by name in its own kind of place.
 /// dcl_variable, fetch, store2, post.
 pub const LEFT_OUT_STATEMENTS: [u8; 4] = [3, 6, 19, 20];
-/// dbkey, variable, the statistical ones, concatenate, substring, from, via, user_name, null.
-pub const LEFT_OUT_VALUES: [u8; 13] = [22, 26, 27, 28, 29, 30, 31, 39, 40, 42, 43, 44, 45];
+/// dbkey, variable, concatenate, substring, from, via, user_name, null.
+pub const LEFT_OUT_VALUES: [u8; 8] = [22, 26, 39, 40, 42, 43, 44, 45];
 /// like.
 pub const LEFT_OUT_BOOLEANS: [u8; 1] = [63];
 /// union, aggregate.

@@ -14,11 +14,12 @@ const WITHOUT_CAUSES: [File; 2] =
     [(include_str!("agreed/evaluations.txt"), 165), (include_str!("agreed/no-01.txt"), 28)];
 
 /// The files whose missing answers have causes.
-const WITH_CAUSES: [File; 4] = [
+const WITH_CAUSES: [File; 5] = [
     (include_str!("agreed/no-03.txt"), 42),
-    (include_str!("agreed/no-04.txt"), 169),
+    (include_str!("agreed/no-04.txt"), 167),
     (include_str!("agreed/no-07.txt"), 42),
-    (include_str!("agreed/no-08.txt"), 312),
+    (include_str!("agreed/no-08.txt"), 308),
+    (include_str!("agreed/no-09.txt"), 242),
 ];
 
 /// The case of an input.
@@ -40,6 +41,14 @@ fn case(input: &str) -> Option<Case> {
                 runs: hex::read(words.get(6).unwrap_or(&"-"))?,
             })
         }
+        ["value", dictionary, request, row, messages, records, ..] => Some(Case::Value {
+            dictionary: hex::read(dictionary)?,
+            request: hex::read(request)?,
+            row: row.parse().ok()?,
+            messages: hex::read(messages)?,
+            records: hex::read(records)?,
+            runs: hex::read(words.get(6).unwrap_or(&"-"))?,
+        }),
         _ => None,
     }
 }

@@ -31,6 +31,10 @@ fn between(case: Case) -> Option<Between> {
     let Boolean::Test(BETWEEN, values) = &parsed.conditions[0].boolean else {
         return None;
     };
+    // With runs another boolean in its place would need others.
+    if !parsed.conditions[0].runs.is_empty() {
+        return None;
+    }
     let places = [values[0].place, values[1].place, values[2].place, request.len() - BEHIND];
     let bytes = [0, 1, 2].map(|at| request[places[at]..places[at + 1]].to_vec());
     Some(Between { kind: values[0].shape.kind, start: places[0] - 1, values: bytes, case })

@@ -35,7 +35,7 @@ fn number(choice: Choice) -> Vec<u8> {
         None => short(5),
         Some(Bit) => vec![24, 0, 0, 0],
         Some(Reading) => vec![24, 0, 1, 0],
-        Some(Flag) => vec![41, 0, 0, 0, 1, 0],
+        Some(_) => vec![41, 0, 0, 0, 1, 0],
     }
 }
 

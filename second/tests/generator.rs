@@ -33,7 +33,7 @@ fn reaches_all(tally: &Tally, least: usize) {
 
 #[test]
 fn small_cases_reach_all() {
-    let tally = Tally::of(generate::cases(Size::Small, 1, 300));
+    let tally = Tally::of(generate::cases(Size::Small, 1, 500));
     assert!(tally.evaluations >= 120);
     reaches_all(&tally, 3);
 }
@@ -163,7 +163,7 @@ fn runs_are_refused_at_all_three_places() {
 
 #[test]
 fn inputs_reach_every_line() {
-    let outputs: Vec<String> = inputs::inputs(1, 300).iter().map(|input| listing(input)).collect();
+    let outputs: Vec<String> = inputs::inputs(1, 500).iter().map(|input| listing(input)).collect();
     let with = |start: &str| outputs.iter().filter(|output| output.starts_with(start)).count();
     assert!(with("request ") >= 100 && with("bad input\n") >= 50);
     // The program's tables are long enough, and a request in an entry is not too long: no 1, no 2.

@@ -213,6 +213,75 @@ static void runs(void)
     free(run);
 }
 
+/* What an assignment puts into its target: a number, a text in the record, in a literal and in an image, a date, missing; and what is left in
+ * the answer. The request stores a bed as context 0: its name's assignment is in row 3, that of its heat in row 4; and sends a date, in
+ * row 10, where no context is in scope. */
+static void values(void)
+{
+    static const uint8_t storing_bytes[] = {
+        GREENBLR_CODE_VERSION4, GREENBLR_CODE_BEGIN,
+        GREENBLR_CODE_MESSAGE, 0, 2, 0, GREENBLR_CODE_TEXT, 3, 0, GREENBLR_CODE_DATE,
+        GREENBLR_CODE_STORE, GREENBLR_CODE_RID, 1, 0, 0, GREENBLR_CODE_BEGIN,
+        GREENBLR_CODE_ASSIGNMENT, GREENBLR_CODE_FID, 0, 1, 0, GREENBLR_CODE_FID, 0, 1, 0,
+        GREENBLR_CODE_ASSIGNMENT, GREENBLR_CODE_NEGATE, GREENBLR_CODE_FID, 0, 0, 0, GREENBLR_CODE_FID, 0, 0, 0,
+        GREENBLR_CODE_ASSIGNMENT, GREENBLR_CODE_LITERAL, GREENBLR_CODE_TEXT, 4, 0, 'A', 'B', ' ', ' ', GREENBLR_CODE_FID, 0, 1, 0,
+        GREENBLR_CODE_ASSIGNMENT, GREENBLR_CODE_PARAMETER, 0, 0, 0, GREENBLR_CODE_FID, 0, 1, 0,
+        GREENBLR_CODE_ASSIGNMENT,
+        GREENBLR_CODE_AVERAGE, GREENBLR_CODE_RSE, 1, GREENBLR_CODE_RID, 1, 0, 9, GREENBLR_CODE_END, GREENBLR_CODE_FID, 9, 0, 0,
+        GREENBLR_CODE_FID, 0, 0, 0,
+        GREENBLR_CODE_ASSIGNMENT, GREENBLR_CODE_LITERAL, GREENBLR_CODE_TEXT, 2, 0, ' ', ' ', GREENBLR_CODE_FID, 0, 1, 0,
+        GREENBLR_CODE_END,
+        GREENBLR_CODE_SEND, 0, GREENBLR_CODE_ASSIGNMENT, GREENBLR_CODE_PARAMETER, 0, 1, 0, GREENBLR_CODE_PARAMETER, 0, 1, 0,
+        GREENBLR_CODE_END, GREENBLR_CODE_EOC,
+    };
+    static const uint8_t three_bytes[] = {'X', 'Y', ' ', 1, 0, 0, 0, 2, 0, 0, 0};
+    enum { STORING = sizeof storing_bytes, THREE = sizeof three_bytes, RUN = 4 + BED };
+    uint8_t *storing = copy(storing_bytes, STORING), *three = copy(three_bytes, THREE), *run = (uint8_t *)block(RUN);
+    int64_t *answer = (int64_t *)block(3 * sizeof *answer);
+    uint64_t given;
+#define VALUE(row, run, length) \
+    (answer[0] = answer[1] = answer[2] = 77, \
+     given = greenblr_evaluate_value(storing, STORING, dictionary, DICTIONARY, row, three, THREE, bed, BED, run, length, answer))
+    run[0] = RUN;
+    run[1] = 0;
+    run[2] = 7;
+    run[3] = 0;
+    memcpy(run + 4, bed_bytes, BED);
+    VALUE(3, NULL, 0);
+    EXPECT(greenblr_answer(given) == GREENBLR_VALUE_TEXT && answer[0] == GREENBLR_INPUT_RECORDS && answer[1] == 9 && answer[2] == 13);
+    VALUE(4, NULL, 0);
+    EXPECT(greenblr_answer(given) == GREENBLR_VALUE_NUMBER && answer[0] == -301 && answer[1] == -1 && answer[2] == 0);
+    VALUE(5, NULL, 0);
+    EXPECT(greenblr_answer(given) == GREENBLR_VALUE_TEXT && answer[0] == GREENBLR_INPUT_REQUEST);
+    EXPECT(answer[2] == answer[1] + 2 && memcmp(storing + answer[1], "AB", 2) == 0);
+    VALUE(6, NULL, 0);
+    EXPECT(greenblr_answer(given) == GREENBLR_VALUE_TEXT && answer[0] == GREENBLR_INPUT_IMAGES && answer[1] == 0 && answer[2] == 2);
+    VALUE(7, run, RUN);
+    EXPECT(greenblr_answer(given) == GREENBLR_VALUE_NUMBER && answer[0] == 301 && answer[1] == -1 && answer[2] == 0);
+    run[11] = run[12] = 255;
+    VALUE(7, run, RUN);
+    EXPECT(greenblr_answer(given) == GREENBLR_MISSING && greenblr_cause(given) == GREENBLR_CAUSE_NOTHING);
+    EXPECT(answer[0] == 0 && answer[1] == 0 && answer[2] == 0);
+    VALUE(7, run, RUN - 1);
+    EXPECT(greenblr_number(given) == GREENBLR_REFUSAL_BAD_RUNS && greenblr_place(given) == 0 && answer[0] == 0 && answer[2] == 0);
+    VALUE(8, NULL, 0);
+    EXPECT(greenblr_answer(given) == GREENBLR_VALUE_TEXT && answer[0] == GREENBLR_INPUT_REQUEST);
+    EXPECT(answer[1] == answer[2] && answer[2] >= 0 && answer[2] <= STORING);
+    given = greenblr_evaluate_value(storing, STORING, dictionary, DICTIONARY, 10, three, THREE, NULL, 0, NULL, 0, answer);
+    EXPECT(greenblr_answer(given) == GREENBLR_VALUE_DATE && answer[0] == 1 && answer[1] == 2 && answer[2] == 0);
+    VALUE(2, NULL, 0);
+    EXPECT(greenblr_number(given) == GREENBLR_REFUSAL_NO_BOOLEAN && greenblr_place(given) == 0 && answer[0] == 0);
+    VALUE((size_t)-1, NULL, 0);
+    EXPECT(greenblr_number(given) == GREENBLR_REFUSAL_NO_BOOLEAN);
+    given = greenblr_evaluate_value(NULL, 0, NULL, 0, 0, NULL, 0, NULL, 0, NULL, 0, answer);
+    EXPECT(greenblr_number(given) == GREENBLR_REFUSAL_ENDS_EARLY && greenblr_place(given) == 0);
+#undef VALUE
+    free(storing);
+    free(three);
+    free(run);
+    free(answer);
+}
+
 /* A pointer of length 0 may be NULL, of every slice of every function. */
 static void nulls(void)
 {
@@ -272,6 +341,7 @@ static void words(void)
     }
     EXPECT(strcmp(greenblr_cause_text(GREENBLR_CAUSE_READING), greenblr_cause_text(GREENBLR_CAUSE_BIT)) != 0);
     EXPECT(strcmp(greenblr_cause_text(GREENBLR_CAUSE_FLAG), greenblr_cause_text(200)) != 0);
+    EXPECT(strcmp(greenblr_cause_text(GREENBLR_CAUSE_NOTHING), greenblr_cause_text(200)) != 0);
 }
 
 int main(void)
@@ -290,6 +360,7 @@ int main(void)
     versions();
     evaluations();
     runs();
+    values();
     nulls();
     stores();
     words();

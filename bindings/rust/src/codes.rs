@@ -25,7 +25,8 @@ constants! {
     VERSION4 = 4 VERSION5 = 5 EOC = 76 END = 255
     ASSIGNMENT = 1 BEGIN = 2 MESSAGE = 4 ERASE = 5 FOR = 7 IF = 8 LOOP = 9 MODIFY = 10 HANDLER = 11 RECEIVE = 12 SELECT = 13
     SEND = 14 STORE = 15 LABEL = 17 LEAVE = 18
-    LITERAL = 21 FIELD = 23 FID = 24 PARAMETER = 25 ADD = 34 SUBTRACT = 35 MULTIPLY = 36 DIVIDE = 37 NEGATE = 38 PARAMETER2 = 41
+    LITERAL = 21 FIELD = 23 FID = 24 PARAMETER = 25 AVERAGE = 27 COUNT = 28 MAXIMUM = 29 MINIMUM = 30 TOTAL = 31 ADD = 34
+    SUBTRACT = 35 MULTIPLY = 36 DIVIDE = 37 NEGATE = 38 PARAMETER2 = 41
     EQL = 47 NEQ = 48 GTR = 49 GEQ = 50 LSS = 51 LEQ = 52 CONTAINING = 53 MATCHING = 54 STARTING = 55 BETWEEN = 56 OR = 57
     AND = 58 NOT = 59 ANY = 60 MISSING = 61 UNIQUE = 62
     RSE = 67 SORT = 70 BOOLEAN = 71 ASCENDING = 72 DESCENDING = 73 RELATION = 74 RID = 75
@@ -116,6 +117,16 @@ named! {
         Modify = MODIFY "modify"
         /// 15: a store.
         Store = STORE "store"
+        /// 27: an average, which goes over a run.
+        Average = AVERAGE "average"
+        /// 28: a count, which goes over a run.
+        Count = COUNT "count"
+        /// 29: a maximum, which goes over a run.
+        Maximum = MAXIMUM "maximum"
+        /// 30: a minimum, which goes over a run.
+        Minimum = MINIMUM "minimum"
+        /// 31: a total, which goes over a run.
+        Total = TOTAL "total"
         /// 60: an any, which goes over a run.
         Any = ANY "any"
         /// 62: a unique, which goes over a run.

@@ -30,6 +30,20 @@ mod c {
             runs: *const u8,
             runs_length: usize,
         ) -> u64;
+        pub fn greenblr_evaluate_value(
+            request: *const u8,
+            request_length: usize,
+            dictionary: *const u8,
+            dictionary_length: usize,
+            row: usize,
+            images: *const u8,
+            images_length: usize,
+            records: *const u8,
+            records_length: usize,
+            runs: *const u8,
+            runs_length: usize,
+            answer: *mut i64,
+        ) -> u64;
         pub fn greenblr_store_make(
             dictionary: *const u8,
             dictionary_length: usize,
@@ -153,6 +167,36 @@ pub fn evaluate(
             runs.len(),
         )
     }
+}
+
+/// The number that is given, and the three that are written.
+pub fn evaluate_value(
+    request: &[u8],
+    dictionary: &[u8],
+    row: usize,
+    images: &[u8],
+    records: &[u8],
+    runs: &[u8],
+) -> (u64, [i64; 3]) {
+    let mut answer = [0; 3];
+    // SAFETY: as above.
+    let given = unsafe {
+        c::greenblr_evaluate_value(
+            request.as_ptr(),
+            request.len(),
+            dictionary.as_ptr(),
+            dictionary.len(),
+            row,
+            images.as_ptr(),
+            images.len(),
+            records.as_ptr(),
+            records.len(),
+            runs.as_ptr(),
+            runs.len(),
+            answer.as_mut_ptr(),
+        )
+    };
+    (given, answer)
 }
 
 pub fn store_make(dictionary: &[u8], buffer: &mut [u8], relation: u32) -> Answered {

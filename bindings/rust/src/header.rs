@@ -95,13 +95,30 @@ fn causes_are_the_headers() {
     let text = repository("include/greenblr.h");
     let header = numbers(&text);
     let causes = header.iter().filter(|(name, number)| name.contains("_CAUSE_") && **number > 0);
-    let named = [Cause::Bit, Cause::Reading, Cause::Flag];
+    let named = [Cause::Bit, Cause::Reading, Cause::Flag, Cause::Nothing];
     assert_eq!(causes.count(), named.len());
     for cause in named {
         let name = format!("GREENBLR_CAUSE_{}", capitals(&format!("{cause:?}")));
         assert_eq!(header.get(&name), Some(&u64::from(cause.number())), "{name}");
         let line = format!("case {name}: return \"{cause}\";");
         assert!(text.contains(&line), "{line}");
+    }
+}
+
+#[test]
+fn values_are_the_headers() {
+    let header = numbers(&repository("include/greenblr.h"));
+    for (name, number) in [
+        ("MISSING", 2),
+        ("VALUE_NUMBER", 4),
+        ("VALUE_TEXT", 5),
+        ("VALUE_DATE", 6),
+        ("INPUT_REQUEST", 0),
+        ("INPUT_IMAGES", 2),
+        ("INPUT_RECORDS", 3),
+        ("INPUT_RUNS", 4),
+    ] {
+        assert_eq!(header.get(&format!("GREENBLR_{name}")), Some(&number), "{name}");
     }
 }
 

@@ -7,6 +7,7 @@
 //! - [`Dictionary::new`] takes the relations and fields that all else is read beside.
 //! - [`Request::read`] takes a request's bytes: its statements, parameters and contexts, or a [`Refusal`].
 //! - [`Request::evaluate`] gives what a condition comes out as: [`Truth`], with its [`Cause`] where it is missing.
+//! - [`Request::evaluate_value`] gives what the value of an assignment comes out as, as an average that leaves out 65535: [`Answer`].
 //! - [`Store`] keeps the records of one relation in a buffer.
 //!
 //! ```
@@ -67,7 +68,7 @@ pub use request::{
     Context, Contexts, Dictionary, Parameter, Parameters, Request, Statement, Statements,
 };
 pub use store::Store;
-pub use truth::{Cause, Truth};
+pub use truth::{Answer, Cause, Truth};
 
 /// The version of the linked library, as `0.10.0`.
 pub fn library_version() -> String {

@@ -60,7 +60,7 @@ reasons! {
     NotDue = 6, "the code is not due here";
     /// 7: a code of BLR that the library leaves out.
     LeftOut = 7, "the code is one that is left out";
-    /// 8: a greatest size of a request is passed, or an any or a unique has two streams or more.
+    /// 8: a greatest size of a request is passed, or an any, a unique or a statistic has two streams or more.
     TooGreat = 8, "a greatest size is passed";
     /// 9: a message is declared or selected twice, or undeclared.
     BadMessage = 9, "the message is declared or selected twice, or undeclared";
@@ -70,7 +70,7 @@ reasons! {
     BadContext = 11, "the context is in scope already, or not in scope";
     /// 12: an unknown relation or field.
     Unknown = 12, "the relation or field is unknown";
-    /// 13: kinds or scales do not fit, or a request of version 4 names a field of type 16.
+    /// 13: kinds or scales do not fit, a statistic goes over a text or a date, or a request of version 4 names a field of type 16.
     Unfit = 13, "kinds or scales do not fit";
     /// 14: a context that is not of a for, a wrong target, a send or receive in a store or modify, a leave outside its label.
     Misplaced = 14, "the statement, its context or its target may not stand here";
@@ -78,8 +78,8 @@ reasons! {
     BytesAfterEnd = 15, "bytes follow the end of the request";
     /// 16: a size, scale, stream count or sort count is out of range.
     OutOfRange = 16, "a size, scale, stream count or sort count is out of range";
-    /// 20: there is no condition of this number.
-    NoBoolean = 20, "there is no condition of this number";
+    /// 20: there is no condition of this number, or no assignment in this row.
+    NoBoolean = 20, "there is no condition of this number, or no assignment in this row";
     /// 21: the message bytes are not as many as declared; the place is the length given.
     BadMessageBytes = 21, "the message bytes are not as many as declared";
     /// 22: the records are not as due; the place is the first wrong entry, the length given if one lacks, or the first byte too
@@ -87,7 +87,7 @@ reasons! {
     BadRecords = 22, "the records are not as due";
     /// 23: a varying is longer than its size, or a cstring has no zero.
     MalformedText = 23, "a varying is longer than its size, or a cstring has no zero";
-    /// 24: a number does not fit in 64 bits; in version 5 also the multiplied dividend.
+    /// 24: a number does not fit in 64 bits; in version 5 also the multiplied dividend. A sum on the way of a total or an average, too.
     Overflow = 24, "a number does not fit";
     /// 25: a division by zero.
     ZeroDivisor = 25, "a division by zero";

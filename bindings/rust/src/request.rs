@@ -4,7 +4,7 @@ use crate::codes::{Opener, StatementCode, Type};
 use crate::ffi;
 use crate::layout::*;
 use crate::refusal::Refusal;
-use crate::truth::{self, Truth};
+use crate::truth::{self, Answer, Given, Truth};
 use std::ops::Range;
 use std::slice::ChunksExact;
 
@@ -130,7 +130,7 @@ impl<'a> Request<'a> {
     ///
     /// `messages` are the bytes of all messages in declaration order, joined; `records` one record's entry for each context in
     /// scope at the condition in declaration order, joined ([`record`](crate::record()) makes one). Refusals are 20 to 25, and 26 where the
-    /// condition has an any or a unique: [`evaluate_over`](Request::evaluate_over) takes their runs.
+    /// condition has an any, a unique or a statistic: [`evaluate_over`](Request::evaluate_over) takes their runs.
     ///
     /// ```
     /// use greenblr::{record, Cause, Dictionary, Field, Request, Truth};
@@ -177,8 +177,8 @@ impl<'a> Request<'a> {
         self.evaluate_over(condition, messages, records, &[])
     }
 
-    /// Evaluates a condition with any and unique in it over runs: `runs` are an entry of kind 7 for each of them, in the order of
-    /// their codes, joined ([`run`](crate::run()) makes one). All else is as with [`evaluate`](Request::evaluate); 26 is refused too.
+    /// Evaluates a condition with any, unique and statistics in it over runs: `runs` are an entry of kind 7 for each of them, in the
+    /// order of their codes, those in sorts left out, joined ([`run`](crate::run()) makes one). All else is as with [`evaluate`](Request::evaluate); 26 is refused too.
     ///
     /// Is any bed above thirty?
     ///
@@ -217,6 +217,51 @@ impl<'a> Request<'a> {
             records,
             runs,
         ))
+    }
+
+    /// Evaluates the value that an assignment puts into its target, by the assignment's position among the
+    /// [`statements`](Request::statements), from 0.
+    ///
+    /// `messages`, `records` and `runs` are as with [`evaluate_over`](Request::evaluate_over): a record for each context in scope at the
+    /// assignment, that of its store or modify among them, and a run for each any, unique and statistic of the value. The target is not
+    /// looked at. Refusals are 20 to 26; 20 if the statement is no assignment.
+    ///
+    /// The average of all beds, which leaves out a node that could not measure:
+    ///
+    /// ```
+    /// use greenblr::{codes, record, run, Answer, Cause, Dictionary, Field, Request};
+    ///
+    /// let dictionary = Dictionary::new(b"\x0b\0\x01\0\x01\0\x04BEDS\x0f\0\x02\0\0\0\xc8\xff\x02\0\x04HEAT")?;
+    /// // send the average heat of the beds; the assignment is the third statement
+    /// let bytes = [
+    ///     4, 2, 4, 0, 1, 0, 8, 255, 14, 0, 1, codes::AVERAGE, 67, 1, 75, 1, 0, 0, 255, 24, 0, 0, 0, 25, 0, 0,
+    ///     0, 255, 76,
+    /// ];
+    /// let request = Request::read(&dictionary, &bytes)?;
+    /// let house = |heats: &[u16]| {
+    ///     let beds: Vec<_> = heats.iter().map(|heat| record(1, &[Field::Reading(*heat)])).collect();
+    ///     run(&beds)
+    /// };
+    /// let all = house(&[290, 65535, 301]);
+    /// assert_eq!(request.evaluate_value(2, &[0; 4], &[], &all)?, Answer::Number(295, -1)); // 29.5
+    /// let none = house(&[65535]);
+    /// assert_eq!(request.evaluate_value(2, &[0; 4], &[], &none)?, Answer::Missing(Cause::Nothing));
+    /// # Ok::<(), greenblr::Refusal>(())
+    /// ```
+    pub fn evaluate_value<'b>(
+        &self,
+        assignment: usize,
+        messages: &'b [u8],
+        records: &'b [u8],
+        runs: &'b [u8],
+    ) -> Result<Answer<'b>, Refusal>
+    where
+        'a: 'b,
+    {
+        let Request { bytes, dictionary, .. } = self;
+        let (given, answer) =
+            ffi::evaluate_value(bytes, dictionary.bytes, assignment, messages, records, runs);
+        truth::value_taken_apart(given, answer, &Given { request: bytes, messages, records, runs })
     }
 }
 
@@ -266,7 +311,7 @@ pub struct Context {
     pub scope: Range<usize>,
     /// The id of its relation.
     pub relation: u16,
-    /// The code that opened it: a for, a store, a modify, an any or a unique.
+    /// The code that opened it: a for, a store, a modify, an any, a unique or a statistic.
     pub opener: Opener,
 }
 

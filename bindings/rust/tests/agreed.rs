@@ -1,7 +1,7 @@
 //! The evaluations, readings and calls on stores of second/tests/agreed through this crate: answers, causes, rows, refusals, places,
 //! buffers.
 
-use greenblr::{Cause, Dictionary, Refusal, Request, Store, Truth};
+use greenblr::{Answer, Cause, Dictionary, Refusal, Request, Store, Truth};
 use std::fs;
 
 fn lines(name: &str) -> Vec<String> {
@@ -47,10 +47,36 @@ fn outcome(words: &[&str]) -> Result<String, Refusal> {
     Ok(match request.evaluate_over(condition, &bytes(messages), &bytes(records), &runs)? {
         Truth::True => "true".to_string(),
         Truth::False => "false".to_string(),
-        Truth::Missing(Cause::Bit) => "missing bit".to_string(),
-        Truth::Missing(Cause::Reading) => "missing reading".to_string(),
-        Truth::Missing(Cause::Flag) => "missing flag".to_string(),
-        other => format!("{other:?}"),
+        Truth::Missing(cause) => missing(cause),
+    })
+}
+
+/// A missing answer with its cause in the words of the files.
+fn missing(cause: Cause) -> String {
+    format!("missing {}", format!("{cause:?}").to_lowercase())
+}
+
+/// The from-value of an assignment in the words of the files.
+fn from_value(words: &[&str]) -> Result<String, Refusal> {
+    let (words, runs) = words.split_at(words.len().min(6));
+    let ["value", dictionary, request, row, messages, records] = words else {
+        panic!("no from-value: {words:?}");
+    };
+    let runs = runs.first().map_or_else(Vec::new, |runs| bytes(runs));
+    let [dictionary, request, messages, records] =
+        [dictionary, request, messages, records].map(|word| bytes(word));
+    let dictionary = Dictionary::new(&dictionary)?;
+    let request = Request::read(&dictionary, &request)?;
+    let row = row.parse().expect("a row");
+    Ok(match request.evaluate_value(row, &messages, &records, &runs)? {
+        Answer::Number(number, scale) => format!("number {number} {scale}"),
+        Answer::Text([]) => "text -".to_string(),
+        Answer::Text(text) => {
+            let pairs: Vec<String> = text.iter().map(|byte| format!("{byte:02x}")).collect();
+            format!("text {}", pairs.concat())
+        }
+        Answer::Date(day, fraction) => format!("date {day} {fraction}"),
+        Answer::Missing(cause) => missing(cause),
     })
 }
 
@@ -106,18 +132,22 @@ fn rows(words: &[&str]) -> Result<String, Refusal> {
     Ok(format!("accepted {s} {p} {c} |{statements} |{parameters} |{contexts}"))
 }
 
-/// Runs a file of readings and evaluations, all but the inputs of the listing program, which are for the shell: how many there are of each.
-fn agree(name: &str, count: usize) -> [usize; 2] {
+/// Runs a file of readings, evaluations and from-values, all but the inputs of the listing program, which are for the shell: how many there
+/// are of evaluations, readings and from-values.
+fn agree(name: &str, count: usize) -> [usize; 3] {
     let lines = lines(name);
     assert_eq!(lines.len(), count);
-    let mut run = [0, 0];
+    let mut run = [0, 0, 0];
     for line in lines.iter().filter(|line| !line.starts_with("listing ")) {
         let (input, due) = line.split_once(" = ").expect("an outcome");
         let words: Vec<&str> = input.split(' ').collect();
-        let is_reading = words[0] == "read";
-        let given = if is_reading { rows(&words) } else { outcome(&words) };
+        let (kind, given) = match words[0] {
+            "read" => (1, rows(&words)),
+            "value" => (2, from_value(&words)),
+            _ => (0, outcome(&words)),
+        };
         assert_eq!(given.unwrap_or_else(refused), due, "{line}");
-        run[usize::from(is_reading)] += 1;
+        run[kind] += 1;
     }
     run
 }
@@ -125,13 +155,19 @@ fn agree(name: &str, count: usize) -> [usize; 2] {
 /// Requests of both versions.
 #[test]
 fn versions_agree() {
-    assert_eq!(agree("no-08.txt", 312), [123, 157]);
+    assert_eq!(agree("no-08.txt", 308), [123, 153, 0]);
 }
 
 /// Any and unique over runs.
 #[test]
 fn runs_agree() {
-    assert_eq!(agree("no-04.txt", 169), [97, 58]);
+    assert_eq!(agree("no-04.txt", 167), [97, 56, 0]);
+}
+
+/// Statistics over runs, and from-values.
+#[test]
+fn statistics_agree() {
+    assert_eq!(agree("no-09.txt", 242), [102, 71, 52]);
 }
 
 /// What a call on a store leaves in the buffer, or what reading it tells, in the words of the files.

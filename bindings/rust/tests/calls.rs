@@ -1,7 +1,7 @@
 //! Requests, evaluations and stores through the crate: document 01's examples, every refusal, and that nothing traps.
 
 use greenblr::{
-    codes, record, run, Cause, Dictionary, Field, Input, Opener, Reason, Refusal, Request,
+    codes, record, run, Answer, Cause, Dictionary, Field, Input, Opener, Reason, Refusal, Request,
     StatementCode, Store, Truth, Type,
 };
 
@@ -349,6 +349,64 @@ fn a_dictionary_is_tested_first() {
     assert_eq!(refusal.input(), Input::Dictionary);
 }
 
+/// 02, No. 9: a store of a bed as context 0. The assignments in rows 3 to 7 put into their targets its name, its heat negated, the text
+/// AB, the average heat of a run, and a text of blanks; that in row 9, of a send, the date in the message.
+fn storing() -> Vec<u8> {
+    let name = [codes::FID, 0, 1, 0];
+    let heat = [codes::FID, 0, 0, 0];
+    let date = [codes::PARAMETER, 0, 0, 0];
+    let assign = |value: &[u8], target: [u8; 4]| [&[codes::ASSIGNMENT], value, &target].concat();
+    let average =
+        [codes::AVERAGE, codes::RSE, 1, codes::RID, 1, 0, 9, codes::END, codes::FID, 9, 0, 0];
+    [
+        vec![4, codes::BEGIN, codes::MESSAGE, 0, 1, 0, codes::DATE],
+        vec![codes::STORE, codes::RID, 1, 0, 0, codes::BEGIN],
+        assign(&name, name),
+        assign(&[codes::NEGATE, codes::FID, 0, 0, 0], heat),
+        assign(&[codes::LITERAL, codes::TEXT, 4, 0, b'A', b'B', b' ', b' '], name),
+        assign(&average, heat),
+        assign(&[codes::LITERAL, codes::TEXT, 2, 0, b' ', b' '], name),
+        vec![codes::END, codes::SEND, 0],
+        assign(&date, date),
+        vec![codes::END, codes::EOC],
+    ]
+    .concat()
+}
+
+#[test]
+fn values_of_assignments() {
+    let dictionary = beds();
+    let bytes = storing();
+    let request = Request::read(&dictionary, &bytes).unwrap();
+    let stored = bed(Field::Reading(301));
+    let date = [1, 0, 0, 0, 2, 0, 0, 0];
+    let value = |row| request.evaluate_value(row, &date, &stored, &[]);
+    assert_eq!(value(3), Ok(Answer::Text(b"ABCD")));
+    assert_eq!(value(4), Ok(Answer::Number(-301, -1)));
+    assert_eq!(value(4).unwrap().number(), Some((-301, -1)));
+    assert_eq!(value(5), Ok(Answer::Text(b"AB")));
+    assert_eq!(value(7), Ok(Answer::Text(b"")));
+    assert_eq!(request.evaluate_value(9, &date, &[], &[]), Ok(Answer::Date(1, 2)));
+    let average = |heats: &[u16]| {
+        let run = run(&heats.iter().map(|h| bed(Field::Reading(*h))).collect::<Vec<_>>());
+        request
+            .evaluate_value(6, &date, &stored, &run)
+            .map(|answer| (answer.number(), answer.cause()))
+    };
+    assert_eq!(average(&[300, 65535, 303]), Ok((Some((301, -1)), None)));
+    assert_eq!(average(&[65535]), Ok((None, Some(Cause::Nothing))));
+    let unfilled = bed(Field::Missing(2));
+    let missing = request.evaluate_value(4, &date, &unfilled, &[]);
+    assert_eq!(missing, Ok(Answer::Missing(Cause::Bit)));
+    let told = |given: Result<Answer, Refusal>| {
+        let refusal = given.unwrap_err();
+        (refusal.reason(), refusal.input(), refusal.place())
+    };
+    assert_eq!(told(value(2)), (Reason::NoBoolean, Input::Request, 0));
+    assert_eq!(told(value(usize::MAX)), (Reason::NoBoolean, Input::Request, 0));
+    assert_eq!(told(value(6)), (Reason::BadRuns, Input::Runs, 0));
+}
+
 #[test]
 fn any_bytes_are_answered() {
     let dictionary = beds();
@@ -365,7 +423,9 @@ fn any_bytes_are_answered() {
         let bytes = &bytes[..41 - (next() % 8).saturating_sub(5)];
         if let Ok(request) = Request::read(&dictionary, bytes) {
             assert!(request.statements().all(|s| s.place < s.end && s.end <= bytes.len()));
-            let _ = request.evaluate(next() % 2, &[0, 0], &bed(Field::Reading(next() as u16)));
+            let bed = bed(Field::Reading(next() as u16));
+            let _ = request.evaluate(next() % 2, &[0, 0], &bed);
+            let _ = request.evaluate_value(next() % 4, &[0, 0], &bed, &[]);
         }
     }
 }

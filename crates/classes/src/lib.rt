@@ -16,6 +16,7 @@ use wire::codes::Operator;
 use wire::codes::Quantifier;
 use wire::codes::ReferenceCode;
 use wire::codes::StatementCode;
+use wire::codes::Statistic;
 use wire::codes::StreamCode;
 use wire::codes::TextSearch;
 use wire::codes::TextType;
@@ -114,6 +115,11 @@ pub fn value_class(code: u8) -> ValueClass
         blr::FID => ValueClass::Due(ValueCode::Reference(ReferenceCode::Fid)),
         blr::PARAMETER => ValueClass::Due(ValueCode::Reference(ReferenceCode::Parameter)),
         blr::PARAMETER2 => ValueClass::Due(ValueCode::Reference(ReferenceCode::Parameter2)),
+        blr::AVERAGE => ValueClass::Due(ValueCode::Statistic(Statistic::Average)),
+        blr::COUNT => ValueClass::Due(ValueCode::Count),
+        blr::MAXIMUM => ValueClass::Due(ValueCode::Statistic(Statistic::Maximum)),
+        blr::MINIMUM => ValueClass::Due(ValueCode::Statistic(Statistic::Minimum)),
+        blr::TOTAL => ValueClass::Due(ValueCode::Statistic(Statistic::Total)),
         blr::ADD => ValueClass::Due(ValueCode::Arithmetic(Operator::Add)),
         blr::SUBTRACT => ValueClass::Due(ValueCode::Arithmetic(Operator::Subtract)),
         blr::MULTIPLY => ValueClass::Due(ValueCode::Arithmetic(Operator::Multiply)),
@@ -121,11 +127,6 @@ pub fn value_class(code: u8) -> ValueClass
         blr::NEGATE => ValueClass::Due(ValueCode::Negate),
         blr::DBKEY
         | blr::VARIABLE
-        | blr::AVERAGE
-        | blr::COUNT
-        | blr::MAXIMUM
-        | blr::MINIMUM
-        | blr::TOTAL
         | blr::CONCATENATE
         | blr::SUBSTRING
         | blr::FROM

@@ -1,6 +1,7 @@
-// The program `evaluate`: reads the entries of a dictionary (kind 4), a request (5), the number of a boolean (9), any number of message
-// bytes (10), any number of records (3) and any number of runs (7) from standard input. Prints `true`, `false`, `missing`, a refusal, or that
-// the input is not these entries.
+// The program `evaluate`: reads the entries of a dictionary (kind 4), a request (5), the number of a boolean (9) or the row of an assignment
+// (11), any number of message bytes (10), any number of records (3) and any number of runs (7) from standard input. Prints `true`, `false` or
+// `missing`, or of an assignment the number, the text or the date that it puts into its target, or `missing`; a refusal; or that the input is
+// not these entries.
 mod show;
 
 ghost use Prim.Native.Nat.{_≤_};
@@ -11,14 +12,18 @@ use input::EvaluationInput;
 use input::MAX_INPUT_BYTES;
 use input::NUMBER_ENTRY_BYTES;
 use meaning::Evaluation;
+use meaning::ValueEvaluation;
 use show::bad_input;
 use show::evaluation;
+use show::value;
 use wire::bytes::word_at;
 use wire::entries::ENTRY_BODY;
 use wire::entries::MESSAGE_ENTRY;
 
+// Of a value also where request, records and runs begin in the input, for a text in one of them; messages stand in a space of their own.
 enum ProgramAnswer {
     Is(Evaluation),
+    Value(ValueEvaluation, usize, usize, usize),
     BadInput,
 }
 
@@ -29,23 +34,35 @@ fn evaluate_input(s: &[u8], images: &mut [u8]) -> ProgramAnswer
 {
     match input::evaluation_entries(s) {
         EvaluationInput::Entries(request, number, records, runs) => {
-            let n = input::join_bodies(s, number + NUMBER_ENTRY_BYTES, MESSAGE_ENTRY, images);
-            ProgramAnswer::Is(evaluator::evaluate(
-                &s[request + ENTRY_BODY..number],
-                &s[ENTRY_BODY..request],
-                word_at(s, number + ENTRY_BODY) as usize,
-                &images[..n],
-                &s[records..runs],
-                &s[runs..],
-            ))
+            let joined = input::join_bodies(s, number + NUMBER_ENTRY_BYTES, MESSAGE_ENTRY, images);
+            let bytes = &s[request + ENTRY_BODY..number];
+            let dictionary = &s[ENTRY_BODY..request];
+            let asked = word_at(s, number + ENTRY_BODY) as usize;
+            let messages = &images[..joined];
+            let rows = &s[records..runs];
+            let behind = &s[runs..];
+            if input::asks_row(s, number) {
+                let v = evaluator::evaluate_value(bytes, dictionary, asked, messages, rows, behind);
+                return ProgramAnswer::Value(v, request + ENTRY_BODY, records, runs);
+            }
+            ProgramAnswer::Is(evaluator::evaluate(bytes, dictionary, asked, messages, rows, behind))
         }
         EvaluationInput::Bad => ProgramAnswer::BadInput,
     }
 }
 
-fn show_answer(a: ProgramAnswer) {
+// The answer to an input, with the message bytes joined.
+fn show_answer(a: ProgramAnswer, s: &[u8], images: &[u8]) {
     match a {
         ProgramAnswer::Is(e) => evaluation(e),
+        ProgramAnswer::Value(v, request, records, runs) => value(
+            v,
+            s,
+            images,
+            request,
+            records,
+            runs,
+        ),
         ProgramAnswer::BadInput => bad_input(),
     }
 }
@@ -58,7 +75,8 @@ fn run(space: &mut [u8], images: &mut [u8])
     requires { ⌜ maxInputBytes ≤ length (now images) ⌝ }
 {
     let n = io::read_full(0, space);
-    show_answer(evaluate_input(&space[..n], images));
+    let answer = evaluate_input(&space[..n], images);
+    show_answer(answer, &space[..n], images);
 }
 
 // Lends the two arrays as slices, whose lengths are those of the arrays' types.

@@ -1,77 +1,72 @@
--- A condition that was asked for, once the request is read: a law for each answer.
-use Prim.Native.Nat.{ℕ, _+_, _-_, _*_, _/_, _≤_, min}
-use mathlib.Core.Path.{_≡_, refl, sym, ap, ap₂, subst, _∙_}
-use mathlib.Core.List.{List, [], _++_, map, append-nil}
+-- A condition and a from-value that were asked for, once the request is read: a law for each answer.
+use Prim.Native.Nat.{ℕ, _+_, _*_, _≤_, _<_}
+use mathlib.Core.Path.{_≡_, refl, sym, ap, subst, _∙_}
+use mathlib.Core.List.{List, []}
 use mathlib.Core.Option.{Option, none, some}
 use native.Mathlib.Omega.{arith}
-use lib.Dec.{eqb}
-use lib.ListN.{length, getD, getElem?, take, replicate, length-append, length-map}
-use lib.Seq.{sets, length-sets, length-take-le, take-at}
+use lib.ListN.{length, getD, getElem?, take}
 use borrow.Author.Tests.{eq-eqb, ne-eqb}
-use Rattle.wire.specs.Lists.{sumOf}
-use Rattle.dictionary.specs.Internal.Walk.{relationAt}
-use Rattle.records.specs.declared.proper.RunAnswer.the-variants.{AsDue, WrongAt}
-use Rattle.records.specs.Record.{Run, asDue, wrongAt, records}
-use Rattle.records.specs.Runs.{runs as runsFrom}
-use Rattle.records.specs.Internal.Answers.{runAnswer}
-use Rattle.grammar.specs.declared.Refusal.the-variants.{NoBoolean, BadMessageBytes, BadRecords}
-use Rattle.grammar.specs.Bytes.{booleanBytes, requestBytes}
-use Rattle.grammar.specs.Sizes.{messageSize, parameterCount, contextsCount}
-use Rattle.grammar.specs.Rules.{environment, BooleanAllowed}
-use Rattle.grammar.specs.Rows.{parameterRows}
+use Rattle.wire.specs.Codes as blr
+use Rattle.wire.specs.Limits.{maxDepth, maxRequestBytes, statementRowNumbers}
+use Rattle.grammar.specs.declared.Refusal.the-variants.{NoBoolean}
+use Rattle.grammar.specs.Bytes.{valueBytes, booleanBytes, requestBytes}
+use Rattle.grammar.specs.Sizes.{parameterCount}
+use Rattle.grammar.specs.Rules.{environment}
 use Rattle.grammar.specs.Conditions.{Condition, requestConditions}
-use Rattle.grammar.proofs.StepLaws.{absurd-eq}
-use Rattle.grammar.proofs.RowCounts.{parameter-rows}
+use Rattle.grammar.specs.Named.{FromValue, fromValue, FromTold}
 use Rattle.meaning.specs.declared.Truth.{Truth}
-use Rattle.meaning.specs.Data.{Result, is, refused, stray}
-use Rattle.meaning.specs.Runs.{dueRuns, runRelations}
-use Rattle.meaning.specs.Meaning.{meaning, booleanSize}
-use Rattle.meaning.specs.Evaluation.{refusal, outcome, dueRelations, afterRecords, afterRuns, afterMessages, evaluation}
-use Rattle.meaning.specs.Demand.{NotStray}
-use Rattle.walking.specs.Walk.{astray, ended, Sight, booleanAt}
-use Rattle.walking.proofs.Asked.{stands-after, site, allowed-there, walks, never}
-use Rattle.surroundings.specs.Slots.{Slot, slotsFrom, relationsIn}
-use Rattle.surroundings.specs.Parameters.{heldFrom}
-use Rattle.surroundings.specs.Bindings.{Binding, bindingRows, boundContexts, boundSight}
-use Rattle.surroundings.specs.Tables.{slotsIn, numbersIn, Laid, conditionPlace}
-use Rattle.surroundings.proofs.Parameters.{image-bytes}
-use Rattle.surroundings.proofs.Around.{run-due, slots-in-scope}
-use Rattle.surroundings.proofs.BindingRows.{contexts-count}
-use Rattle.surroundings.proofs.Slots.{slotFor}
-use Rattle.surroundings.proofs.Counts.{every-parameter, every-context}
-use Rattle.surroundings.proofs.Laid.{slots-few, slots-back, relations-back}
-use Rattle.runs.specs.Steps.{found}
-use Rattle.runs.specs.Filled.{rowRelations, relationsOf, filled, filledBindings}
-use Rattle.runs.specs.Found.{bindingsOf}
-use Rattle.runs.proofs.Leads.{seen}
-use Rattle.runs.proofs.ScanLaws.{found-all}
-use Rattle.runs.proofs.RowLaws.{few-bindings, bindings-relations}
-use Rattle.runs.proofs.Conditions.{asked-roomy}
-use Rattle.runs.proofs.FilledLaws.{laid, laid-relations, laid-filled, as-due}
-use Rattle.sights.proofs.Conditions.{tableFor, condition-sees}
-use Rattle.evaluator.specs.Slices.{sightOf}
-use Rattle.evaluator.specs.AfterReading.{AfterReading, settled}
-use Rattle.evaluator.specs.Bound.{Bound, bound, contextTable, scanned, rowsBound, runsChecked, tableBound, slicesBound, walkBound, Walkable, outcomeBound}
-use Rattle.evaluator.proofs.Slots.{slots-cut}
-use Rattle.evaluator.proofs.BoundLaws.{was-wrong}
+use Rattle.meaning.specs.Data.{Result, is, refused, stray, Datum}
+use Rattle.meaning.specs.Runs.{valueRuns, dueRuns}
+use Rattle.meaning.specs.Meaning.{meaning, valueMeaning, size, booleanSize}
+use Rattle.meaning.specs.Evaluation.{refusal, outcome, valueOutcome, onInputs, evaluation, valueEvaluation}
+use Rattle.walking.specs.Walk.{Walked, ended, Sight, valueAt, booleanAt}
+use Rattle.walking.proofs.Asked.{site, stands-after, allowed-there, walks, never}
+use Rattle.walking.proofs.Asked.{value-site, value-stands-after, value-allowed-there, value-walks, value-never}
+use Rattle.surroundings.specs.Bindings.{boundSight}
+use Rattle.surroundings.specs.Tables.{conditionPlace}
+use Rattle.surroundings.proofs.Around.{run-due, slots-in-scope, value-run-due, value-slots-in-scope}
+use Rattle.runs.specs.Found.{valueBindings, bindingsOf}
+use Rattle.runs.proofs.RowLaws.{value-relations, bindings-relations}
+use Rattle.runs.proofs.Conditions.{condition-found, value-found}
+use Rattle.sights.proofs.Conditions.{tableFor, condition-sees, valueTableFor, value-sees}
+use Rattle.evaluator.specs.AfterReading.{ReadSo, AfterReading, RowsRead, fromPlace, settled}
+use Rattle.evaluator.specs.Answers.{settledValue}
+use Rattle.evaluator.proofs.KindsNoted.{few-rows, kindsThere, kinds-are, kinds-count, kinds-relations, table-noted}
+use Rattle.evaluator.proofs.KindsNoted.{few-value-rows, valueKindsThere, value-kinds-are, value-kinds-count, value-kinds-relations, value-table-noted}
+use Rattle.evaluator.proofs.Parts.{Part, table-cut}
+use Rattle.evaluator.proofs.Ready.{Question}
+
+-- ---- the walks, and what they come out as
+
+abbrev pub conditionWalk : List ℕ → Sight (List ℕ) → List ℕ → ℕ → Walked Truth
+conditionWalk s y t p = booleanAt y t maxDepth s p
+
+abbrev pub valueWalk : List ℕ → Sight (List ℕ) → List ℕ → ℕ → Walked Datum
+valueWalk s y t p = valueAt y t maxDepth s p
 
 settled-ended : (x : Result Truth) (q : ℕ) → settled (ended x q) ≡ outcome x
 settled-ended (is a) q = refl
 settled-ended (refused r p) q = refl
 settled-ended stray q = refl
 
-ended-met : (x : Result Truth) (q : ℕ) → NotStray x → ended x q ≡ astray → ⊥
-ended-met (is a) q h e = absurd-eq (cc)
-ended-met (refused r p) q h e = absurd-eq (cc)
-ended-met stray q h e = h
+settled-value : (x : Result Datum) (q : ℕ) → settledValue (ended x q) ≡ valueOutcome x
+settled-value (is a) q = refl
+settled-value (refused r p) q = refl
+settled-value stray q = refl
 
-module _ {s d pa ct nd : List ℕ} {m o : ℕ} (w : AfterReading s d pa ct nd m o) (n : ℕ) (images rows runs : List ℕ) where
+short : {s d pa ct : List ℕ} {m o : ℕ} (w : ReadSo s d pa ct m o) → length s ≤ maxRequestBytes
+unfolding requestBytes
+short w = omega (arith, ap length (w .accepted .bytes), w .accepted .allowed .sized .bytes)
+
+-- ---- a condition
+
+module _ {s d pa ct nd : List ℕ} {m o : ℕ} (w : AfterReading s d pa ct nd m o) (n : ℕ) where
   abbrev asked : Option Condition
-  asked = getElem? (requestConditions (w .relations) (w .request)) n
+  asked = getElem? (requestConditions (w .so .relations) (w .so .request)) n
 
   -- no condition stands at 0
   not-zero : (x : Condition) → asked ≡ some x → x .place ≡ 0 → ⊥
-  not-zero x e z = omega (arith, stands-after s d (w .relations) (w .request) (w .accepted) n x e, z)
+  not-zero x e z = omega (arith, stands-after s d (w .so .relations) (w .so .request) (w .so .accepted) n x e, z)
 
   none-asked : getD nd n 0 ≡ 0 → asked ≡ none
   none-asked z = by asked refl
@@ -80,253 +75,191 @@ module _ {s d pa ct nd : List ℕ} {m o : ℕ} (w : AfterReading s d pa ct nd m 
       by none e = e
       by (some x) e = absurd (not-zero x e (sym (w .noted n ∙ ap conditionPlace e) ∙ z))
 
-  one-asked : (getD nd n 0 ≡ 0 → ⊥) → (x : Condition) × (asked ≡ some x) × (getD nd n 0 ≡ x .place)
-  one-asked z = by asked refl
-    where
-      by : (x : Option Condition) → asked ≡ x → (x : Condition) × (asked ≡ some x) × (getD nd n 0 ≡ x .place)
-      by none e = absurd (z (w .noted n ∙ ap conditionPlace e))
-      by (some x) e = (x, e, w .noted n ∙ ap conditionPlace e)
-
-  at-condition : (x : Condition) → asked ≡ some x →
-      evaluation s d n images rows runs ≡
-      afterMessages (eqb (length images) (sumOf messageSize (w .request .messages))) (length images)
-      (afterRecords (records (dueRelations (x .scope .contexts)) rows 0)
-      (afterRuns (runsFrom (runRelations (dueRuns (w .relations) (x .boolean) (x .place))) runs 0) (outcome (meaning s d n images rows runs))))
+  -- 20
+  pub no-condition : (images rows runs : List ℕ) → getD nd n 0 ≡ 0 → refusal NoBoolean 0 ≡ evaluation s d n images rows runs
   unfolding evaluation
-  at-condition x e = rw (w .reads, w .accepted .house, e)
+  no-condition images rows runs z = rw (w .so .reads, w .so .accepted .house, none-asked z)
 
-  -- the bytes that the rows hold are those of the messages
-  held-are : heldFrom pa (min m 256) 0 ≡ sumOf messageSize (w .request .messages)
-  held-are =
-      ap (λ z. heldFrom pa (min z 256) 0) (w .parameters-are)
-      ∙ ap (λ z. heldFrom pa z 0) (every-parameter (w .relations) (w .request) (w .accepted .allowed))
-      ∙ image-bytes (w .request .messages) pa (w .more-parameters) (w .parameter-rows)
+  at-condition : (images rows runs : List ℕ) (x : Condition) → asked ≡ some x →
+      evaluation s d n images rows runs ≡
+      onInputs (x .scope) (dueRuns (w .so .relations) (x .boolean) (x .place)) (w .so .request .messages) images rows runs
+      (outcome (meaning s d n images rows runs))
+  unfolding evaluation
+  at-condition images rows runs x e = rw (w .so .reads, w .so .accepted .house, e)
 
-  module _ (place : ℕ) (there : place ≡ getD nd n 0) where
-    -- 20
-    pub no-condition : place ≡ 0 → refusal NoBoolean 0 ≡ evaluation s d n images rows runs
-    unfolding evaluation
-    no-condition z = rw (w .reads, w .accepted .house, none-asked (sym there ∙ z))
+  abbrev condition-part : (rows : List ℕ) (x : Condition) → asked ≡ some x → Part (w .so) rows
+  condition-part rows x e =
+      let rs = w .so .relations in
+      let t = w .so .request in
+      let a = w .so .accepted in
+      let there = site s d rs t a n x e in
+      let scales = w .so .scale-bytes in
+      let after = w .so .more-parameters in
+      let f = w .so .parameter-rows in
+      let ks = kindsThere s d rs t a n x e scales pa after f rows in
+      record {
+        place = x .place;
+        end = x .place + length (booleanBytes (x .boolean));
+        scope = x .scope;
+        due = dueRuns rs (x .boolean) (x .place);
+        own = bindingsOf d (x .boolean) (x .place);
+        kinds = ks;
+        slots-are = slots-in-scope s d rs t a n x e ct (w .so .more-contexts) (w .so .context-rows);
+        records-are = run-due s d rs t a n x e ct (w .so .more-contexts) (w .so .context-rows) rows;
+        few = few-rows s d rs t a n x e scales pa after f rows;
+        found-are = λ z long. condition-found s d rs t n x (a .allowed) e _ _ _ _ _ there z long (short (w .so));
+        relations-are = bindings-relations d (environment rs t) (a .house) (x .boolean) (x .scope) (x .place) (there .allowed);
+        kinds-count = kinds-count s d rs t a n x e scales pa after f rows;
+        kinds-relations = kinds-relations s d rs t a n x e scales pa after f rows;
+        noted = table-noted s d rs t a n x e scales pa after f rows;
+      }
 
-    -- 21
-    pub wrong-images : (place ≡ 0 → ⊥) → (total : ℕ) → total ≡ heldFrom pa (min m 256) 0 → (length images ≡ total → ⊥) →
-        refusal BadMessageBytes (length images) ≡ evaluation s d n images rows runs
-    wrong-images some-place total t h =
-        let found = one-asked (λ z. some-place (there ∙ z)) in
-        sym (at-condition (found .0) (found .1)
-        ∙ rw (ne-eqb (length images) (sumOf messageSize (w .request .messages)) (λ z. h (z ∙ sym held-are ∙ sym t))))
+  abbrev question : (images rows runs : List ℕ) (x : Condition) → asked ≡ some x →
+      Question (w .so) images rows runs (conditionWalk s) settled (evaluation s d n images rows runs)
+  question images rows runs x e =
+      let rs = w .so .relations in
+      let t = w .so .request in
+      let a = w .so .accepted in
+      let scales = w .so .scale-bytes in
+      let part = condition-part rows x e in
+      let pt = take (m * 6) pa in
+      let sight : Sight (List ℕ) = boundSight d pt (parameterCount (t .messages)) images rows runs in
+      let result = meaning s d n images rows runs in
+      let after = x .place + booleanSize (x .boolean) in
+      record {
+        part = part;
+        result = result;
+        after = after;
+        not-stray = never s d rs t a n x e images rows runs;
+        walks-so =
+            λ due. walks s d rs t a n x e images rows runs sight (tableFor d x (part .kinds) rows runs)
+            (condition-sees s d rs t a n x e (part .kinds) rows runs scales pt [] (table-cut (w .so)) images
+            (allowed-there s d rs t a n x e) (due .records-due) (due .runs-due)
+            (kinds-are s d rs t a n x e scales pa (w .so .more-parameters) (w .so .parameter-rows) rows));
+        evaluated-so =
+            at-condition images rows runs x e
+            ∙ ap (onInputs (part .scope) (part .due) (t .messages) images rows runs) (sym (settled-ended result after));
+      }
 
-  -- there is such a condition, the images have their bytes, and the contexts in scope are laid over two tables
-  pub record Ready : Type 0 where
-    pub place : ℕ
-    pub there : place ≡ getD nd n 0
-    pub some-place : place ≡ 0 → ⊥
-    pub exact : length images ≡ heldFrom pa (min m 256) 0
-    pub numbers : List ℕ
-    pub relations : List ℕ
-    pub numbers′ : List ℕ
-    pub relations′ : List ℕ
-    pub count : ℕ
-    pub laid : Laid (slotsFrom d ct place (min o 32) 0) numbers relations numbers′ relations′ count
-    pub numbers-room : 32 ≤ length numbers
-    pub relations-room : 32 ≤ length relations
+  -- what stands at the place that was noted
+  pub condition-asked : (images rows runs : List ℕ) → (getD nd n 0 ≡ 0 → ⊥) →
+      (q : Question (w .so) images rows runs (conditionWalk s) settled (evaluation s d n images rows runs)) ×
+      (getD nd n 0 ≡ q .part .place)
+  condition-asked images rows runs z = by asked refl
+    where
+      by : (x : Option Condition) → asked ≡ x →
+          (q : Question (w .so) images rows runs (conditionWalk s) settled (evaluation s d n images rows runs)) ×
+          (getD nd n 0 ≡ q .part .place)
+      by none e = absurd (z (w .noted n ∙ ap conditionPlace e))
+      by (some x) e = (question images rows runs x e, w .noted n ∙ ap conditionPlace e)
 
-module _ {s d pa ct nd : List ℕ} {m o : ℕ} {w : AfterReading s d pa ct nd m o} {n : ℕ} {images rows runs : List ℕ}
-    (z : Ready w n images rows runs) where
-  found-condition : (x : Condition) × (asked w n images rows runs ≡ some x) × (getD nd n 0 ≡ x .place)
-  found-condition = one-asked w n images rows runs (λ q. z .some-place (z .there ∙ q))
+-- ---- a from-value
 
-  abbrev x : Condition
-  x = found-condition .0
+module _ {s d pa ct st : List ℕ} {c m o : ℕ} (w : RowsRead s d pa ct st c m o) (k : ℕ) where
+  abbrev asked-value : Option FromValue
+  asked-value = fromValue (w .so .relations) (w .so .request) k
 
-  here : z .place ≡ x .place
-  here = z .there ∙ found-condition .2
+  -- 20
+  not-asked : (images rows runs : List ℕ) → asked-value ≡ none → refusal NoBoolean 0 ≡ valueEvaluation s d k images rows runs
+  unfolding valueEvaluation
+  not-asked images rows runs e = rw (w .so .reads, w .so .accepted .house, e)
 
-  contexts-here : min o 32 ≡ contextsCount (w .request .statements)
-  contexts-here = ap (λ q. min q 32) (w .contexts-are) ∙ every-context (w .relations) (w .request) (w .accepted .allowed)
+  pub no-row : (images rows runs : List ℕ) → c ≤ k → refusal NoBoolean 0 ≡ valueEvaluation s d k images rows runs
+  no-row images rows runs h = not-asked images rows runs (w .no-more k h)
 
-  abbrev slots : List Slot
-  slots = slotsFrom d ct (z .place) (min o 32) 0
+  -- what the row tells
+  abbrev Told : Option FromValue → Type 0
+  Told x = FromTold x (getD st (k * statementRowNumbers) 0) (getD st (k * statementRowNumbers + 1) 0)
 
-  slots-here : slots ≡ slotsFrom d ct (x .place) (contextsCount (w .request .statements)) 0
-  slots-here = λ i. slotsFrom d ct (here i) (contexts-here i) 0
+  from-none : (asked-value ≡ none) → k < c → fromPlace st k ≡ 0
+  unfolding fromPlace
+  from-none e h = rw (ne-eqb (getD st (k * statementRowNumbers + 1) 0) blr.assignment (subst Told e (w .told k h)))
 
-  slots-scoped : slots ≡ map (slotFor d) (x .scope .contexts)
-  slots-scoped =
-      slots-here ∙ slots-in-scope s d (w .relations) (w .request) (w .accepted) n x (found-condition .1) ct (w .more-contexts) (w .context-rows)
+  from-some : (x : FromValue) → asked-value ≡ some x → k < c → fromPlace st k ≡ x .place
+  unfolding fromPlace
+  from-some x e h =
+      let q = subst Told e (w .told k h) in
+      rw (eq-eqb (getD st (k * statementRowNumbers + 1) 0) blr.assignment (q .0)) (sym (q .1))
 
-  few : length slots ≤ 32
-  few = omega (arith, slots-few d ct (z .place) (min o 32) 0)
+  value-not-zero : (x : FromValue) → asked-value ≡ some x → x .place ≡ 0 → ⊥
+  value-not-zero x e z = omega (arith, value-stands-after s d (w .so .relations) (w .so .request) (w .so .accepted) k x e, z)
 
-  numbers-hold : length slots ≤ length (z .numbers)
-  numbers-hold = omega (arith, few, z .numbers-room)
+  pub no-value : (images rows runs : List ℕ) → k < c → fromPlace st k ≡ 0 → refusal NoBoolean 0 ≡ valueEvaluation s d k images rows runs
+  no-value images rows runs h z = by asked-value refl
+    where
+      by : (x : Option FromValue) → asked-value ≡ x → refusal NoBoolean 0 ≡ valueEvaluation s d k images rows runs
+      by none e = not-asked images rows runs e
+      by (some x) e = absurd (value-not-zero x e (sym (from-some x e h) ∙ z))
 
-  relations-hold : length slots ≤ length (z .relations)
-  relations-hold = omega (arith, few, z .relations-room)
+  at-value : (images rows runs : List ℕ) (x : FromValue) → asked-value ≡ some x →
+      valueEvaluation s d k images rows runs ≡
+      onInputs (x .scope) (valueRuns (w .so .relations) (x .value) (x .place)) (w .so .request .messages) images rows runs
+      (valueOutcome (valueMeaning s d k images rows runs))
+  unfolding valueEvaluation
+  at-value images rows runs x e = rw (w .so .reads, w .so .accepted .house, e)
 
-  pub numbers-fit : z .count ≤ length (z .numbers′)
-  numbers-fit =
-      let e : length (z .numbers′) ≡ length (z .numbers) = ap length (z .laid .numbers-filled) ∙ length-sets (z .numbers) 0 (numbersIn slots) in
-      omega (arith, z .laid .counted, numbers-hold, e)
+  abbrev value-part : (rows : List ℕ) (x : FromValue) → asked-value ≡ some x → Part (w .so) rows
+  value-part rows x e =
+      let rs = w .so .relations in
+      let t = w .so .request in
+      let a = w .so .accepted in
+      let there = value-site s d rs t a k x e in
+      let scales = w .so .scale-bytes in
+      let after = w .so .more-parameters in
+      let f = w .so .parameter-rows in
+      let ks = valueKindsThere s d rs t a k x e scales pa after f rows in
+      record {
+        place = x .place;
+        end = x .place + length (valueBytes (x .value));
+        scope = x .scope;
+        due = valueRuns rs (x .value) (x .place);
+        own = valueBindings d (x .value) (x .place);
+        kinds = ks;
+        slots-are = value-slots-in-scope s d rs t a k x e ct (w .so .more-contexts) (w .so .context-rows);
+        records-are = value-run-due s d rs t a k x e ct (w .so .more-contexts) (w .so .context-rows) rows;
+        few = few-value-rows s d rs t a k x e scales pa after f rows;
+        found-are = λ z long. value-found s d rs t k x (a .allowed) e _ _ _ _ _ there z long (short (w .so));
+        relations-are = value-relations d (environment rs t) (a .house) (x .value) (x .scope) (x .place) (there .allowed);
+        kinds-count = value-kinds-count s d rs t a k x e scales pa after f rows;
+        kinds-relations = value-kinds-relations s d rs t a k x e scales pa after f rows;
+        noted = value-table-noted s d rs t a k x e scales pa after f rows;
+      }
 
-  pub relations-fit : z .count ≤ length (z .relations′)
-  relations-fit =
-      let e : length (z .relations′) ≡ length (z .relations) = ap length (z .laid .relations-filled) ∙ length-sets (z .relations) 0 (relationsIn slots) in
-      omega (arith, z .laid .counted, relations-hold, e)
+  abbrev value-question : (images rows runs : List ℕ) (x : FromValue) → asked-value ≡ some x →
+      Question (w .so) images rows runs (valueWalk s) settledValue (valueEvaluation s d k images rows runs)
+  value-question images rows runs x e =
+      let rs = w .so .relations in
+      let t = w .so .request in
+      let a = w .so .accepted in
+      let scales = w .so .scale-bytes in
+      let part = value-part rows x e in
+      let pt = take (m * 6) pa in
+      let sight : Sight (List ℕ) = boundSight d pt (parameterCount (t .messages)) images rows runs in
+      let result = valueMeaning s d k images rows runs in
+      let after = x .place + size (x .value) in
+      record {
+        part = part;
+        result = result;
+        after = after;
+        not-stray = value-never s d rs t a k x e images rows runs;
+        walks-so =
+            λ due. value-walks s d rs t a k x e images rows runs sight (valueTableFor d x (part .kinds) rows runs)
+            (value-sees s d rs t a k x e (part .kinds) rows runs scales pt [] (table-cut (w .so)) images
+            (value-allowed-there s d rs t a k x e) (due .records-due) (due .runs-due)
+            (value-kinds-are s d rs t a k x e scales pa (w .so .more-parameters) (w .so .parameter-rows) rows));
+        evaluated-so =
+            at-value images rows runs x e
+            ∙ ap (onInputs (part .scope) (part .due) (t .messages) images rows runs) (sym (settled-value result after));
+      }
 
-  -- the answer on the records
-  abbrev run : Run
-  run = records (map (relationAt d) (take (z .count) (z .relations′))) rows 0
-
-  run-same : run ≡ records (dueRelations (x .scope .contexts)) rows 0
-  run-same =
-      ap (λ q. records (map (relationAt d) q) rows 0) (relations-back (z .laid) few numbers-hold relations-hold ∙ ap relationsIn slots-here)
-      ∙ run-due s d (w .relations) (w .request) (w .accepted) n x (found-condition .1) ct (w .more-contexts) (w .context-rows) rows
-
-  -- and on the runs
-  abbrev due-run : Run
-  due-run = runsFrom (runRelations (dueRuns (w .relations) (x .boolean) (x .place))) runs 0
-
-  checked : evaluation s d n images rows runs ≡ afterRecords run (afterRuns due-run (outcome (meaning s d n images rows runs)))
-  checked =
-      at-condition w n images rows runs x (found-condition .1)
-      ∙ rw (eq-eqb (length images) (sumOf messageSize (w .request .messages)) (z .exact ∙ held-are w n images rows runs))
-      (ap (λ q. afterRecords q (afterRuns due-run (outcome (meaning s d n images rows runs)))) (sym run-same))
-
-  -- 22
-  pub wrong-records : (p : ℕ) → WrongAt p ≡ runAnswer run → refusal BadRecords p ≡ evaluation s d n images rows runs
-  wrong-records p f = sym (checked ∙ rw (was-wrong run p f))
-
-  -- ---- the parts of the tables that are handed on
-
-  rows-long : length (parameterRows (w .request .messages)) ≡ m * 6
-  rows-long = omega (arith, parameter-rows (w .request .messages), w .parameters-are)
-
-  pub rows-fit : m * 6 ≤ length pa
-  rows-fit =
-      omega (arith, rows-long, ap length (w .parameter-rows), length-append (parameterRows (w .request .messages)) (w .more-parameters))
-
-  table-cut : take (m * 6) pa ≡ parameterRows (w .request .messages) ++ []
-  table-cut =
-      ap (take (m * 6)) (w .parameter-rows) ∙ take-at (parameterRows (w .request .messages)) (w .more-parameters) (m * 6) rows-long
-      ∙ sym (append-nil (parameterRows (w .request .messages)))
-
-  abbrev handedAt : ℕ → Bound
-  handedAt p = bound s d (take (z .count) (z .numbers′)) (take (z .count) (z .relations′)) (take (m * 6) pa) images rows runs p
-
-  abbrev handed : Bound
-  handed = handedAt (x .place)
-
-  -- ---- the rows of the contexts in scope, and of the condition's any and unique codes
-
-  abbrev outer : List Binding
-  outer = boundContexts slots rows 0
-
-  abbrev inner : List Binding
-  inner = bindingsOf d (x .boolean) (x .place)
-
-  abbrev all-rows : ℕ
-  all-rows = length outer + length inner
-
-  abbrev zeros : List ℕ
-  zeros = replicate 256 0
-
-  numbers-long : length (handed .numbers) ≡ length outer
-  numbers-long = length-take-le (z .count) (z .numbers′) numbers-fit ∙ z .laid .counted ∙ sym (contexts-count slots rows 0)
-
-  slots-handed : slotsIn (handed .numbers) (handed .relations) (min (length (handed .numbers)) 32) 0 ≡ slots
-  slots-handed =
-      ap (λ q. slotsIn (handed .numbers) (handed .relations) (min q 32) 0) (length-take-le (z .count) (z .numbers′) numbers-fit)
-      ∙ slots-cut (z .numbers′) (z .relations′) (z .count) (min (z .count) 32) 0 (omega arith)
-      ∙ slots-back (z .laid) few numbers-hold relations-hold
-
-  contexts-laid : contextTable handed ≡ sets zeros 0 (bindingRows outer)
-  contexts-laid = ap (λ xs. sets zeros 0 (bindingRows (boundContexts xs rows 0))) slots-handed
-
-  few-all : all-rows ≤ 32
-  few-all =
-      omega (
-        arith,
-        contexts-count slots rows 0,
-        ap length slots-scoped,
-        length-map (x .scope .contexts) (slotFor d),
-        asked-roomy (w .relations) (w .request) n x (w .accepted .allowed) (found-condition .1),
-        few-bindings d (x .boolean) (x .place),
-      )
-
-  allowed : BooleanAllowed (environment (w .relations) (w .request)) (x .scope) (x .boolean)
-  allowed = allowed-there s d (w .relations) (w .request) (w .accepted) n x (found-condition .1)
-
-  abbrev table : List ℕ
-  table = laid d zeros outer inner all-rows refl few-all (omega (arith, few-all))
-
-  scan-is : scanned handed ≡ seen (x .place + length (booleanBytes (x .boolean))) 0 all-rows 32 table
-  unfolding scanned requestBytes
-  scan-is =
-      let there = site s d (w .relations) (w .request) (w .accepted) n x (found-condition .1) in
-      let short : length s ≤ 65535 = omega (arith, ap length (w .accepted .bytes), w .accepted .allowed .sized .bytes) in
-      ap₂ (found d s (x .place)) numbers-long contexts-laid
-      ∙ found-all d s (environment (w .relations) (w .request)) (x .boolean) (x .scope) (x .place) (there .rest) (length outer)
-      (sets zeros 0 (bindingRows outer)) allowed (there .stands) short few-all (omega (arith, length-sets zeros 0 (bindingRows outer)))
-
-  rows-found : rowsBound handed ≡ all-rows
-  rows-found = ap (λ q. q .scan .rows) scan-is
-
-  relations-due : relationsOf d inner ≡ runRelations (dueRuns (w .relations) (x .boolean) (x .place))
-  relations-due =
-      bindings-relations d (environment (w .relations) (w .request)) (w .accepted .house) (x .boolean) (x .scope) (x .place) allowed
-
-  runs-same : runsChecked handed ≡ due-run
-  unfolding runsChecked
-  runs-same =
-      (λ i. runsFrom (rowRelations d (scan-is i .table) (min (scan-is i .scan .rows) 32 - numbers-long i) (numbers-long i)) runs 0)
-      ∙ ap (λ rs. runsFrom rs runs 0) (laid-relations d zeros outer inner all-rows refl few-all (omega (arith, few-all)) ∙ relations-due)
-
-  table-whole : due-run ≡ asDue → tableBound handed ≡ tableFor d x rows runs
-  unfolding tableBound
-  table-whole e =
-      (λ i. take (scan-is i .scan .rows * 8)
-      (filled d runs (min (scan-is i .scan .rows) 32 - numbers-long i) (numbers-long i) 0 (scan-is i .table)))
-      ∙ laid-filled d zeros outer inner all-rows refl few-all (omega (arith, few-all)) runs (ap (λ rs. runsFrom rs runs 0) relations-due ∙ e)
-      ∙ ap (λ xs. bindingRows (boundContexts xs rows 0 ++ filledBindings d runs 0 inner)) slots-scoped
-
-  -- ---- the walk by them
-
-  module _ (due : AsDue ≡ runAnswer run) where
-    abbrev sight : Sight (List ℕ)
-    sight = boundSight d (take (m * 6) pa) (parameterCount (w .request .messages)) images rows runs
-
-    sight-same : sightOf (slicesBound handed) ≡ sight
-    unfolding sightOf
-    sight-same =
-        let b : length (take (m * 6) pa) ≡ m * 6 = length-take-le (m * 6) pa rows-fit in
-        let c : min (length (take (m * 6) pa) / 6) 256 ≡ parameterCount (w .request .messages) =
-        omega (arith, b, w .parameters-are, w .accepted .allowed .sized .parameters) in
-        ap (λ k. boundSight d (take (m * 6) pa) k images rows runs) c
-
-    walk-is : due-run ≡ asDue → walkBound handed ≡ ended (meaning s d n images rows runs) (x .place + booleanSize (x .boolean))
-    walk-is e =
-        ap₂ (λ y t. booleanAt y t 32 s (x .place)) sight-same (table-whole e)
-        ∙ walks s d (w .relations) (w .request) (w .accepted) n x (found-condition .1) images rows runs sight (tableFor d x rows runs)
-        (condition-sees s d (w .relations) (w .request) (w .accepted) n x (found-condition .1) rows runs (w .scale-bytes) (take (m * 6) pa) []
-        table-cut images allowed (sym run-same ∙ as-due run due) e)
-
-    never-astray : runsChecked handed ≡ asDue → walkBound handed ≡ astray → ⊥
-    never-astray e f =
-        ended-met (meaning s d n images rows runs) (x .place + booleanSize (x .boolean))
-        (never s d (w .relations) (w .request) (w .accepted) n x (found-condition .1) images rows runs)
-        (sym (walk-is (sym runs-same ∙ e)) ∙ f)
-
-    comes-out : (r : Run) → due-run ≡ r → afterRuns r (settled (walkBound handed)) ≡ afterRuns r (outcome (meaning s d n images rows runs))
-    comes-out asDue e = ap settled (walk-is e) ∙ settled-ended (meaning s d n images rows runs) (x .place + booleanSize (x .boolean))
-    comes-out (wrongAt p) e = refl
-
-    pub walkable : Walkable (handedAt (z .place))
-    walkable =
-        subst (λ p. Walkable (handedAt p)) (sym here)
-        (record { room = omega (arith, rows-found, few-all); never = never-astray })
-
-    pub walked : outcomeBound (handedAt (z .place)) ≡ evaluation s d n images rows runs
-    walked =
-        ap (λ p. outcomeBound (handedAt p)) here ∙ ap (λ r. afterRuns r (settled (walkBound handed))) runs-same ∙ comes-out due-run refl
-        ∙ sym (checked ∙ rw (as-due run due))
+  -- what stands at the place that the row tells
+  pub value-asked : (images rows runs : List ℕ) → k < c → (fromPlace st k ≡ 0 → ⊥) →
+      (q : Question (w .so) images rows runs (valueWalk s) settledValue (valueEvaluation s d k images rows runs)) ×
+      (fromPlace st k ≡ q .part .place)
+  value-asked images rows runs h z = by asked-value refl
+    where
+      by : (x : Option FromValue) → asked-value ≡ x →
+          (q : Question (w .so) images rows runs (valueWalk s) settledValue (valueEvaluation s d k images rows runs)) ×
+          (fromPlace st k ≡ q .part .place)
+      by none e = absurd (z (from-none e h))
+      by (some x) e = (value-question images rows runs x e, from-some x e h)

@@ -1,18 +1,25 @@
--- The contexts in scope that are laid in two tables are those of the parts of the tables that hold them.
-use Prim.Native.Nat.{ℕ, zero, suc, _+_, _≤_, _<_, min}
-use mathlib.Core.Path.{_≡_, refl, sym, ap, ap₂, _∙_}
-use mathlib.Core.List.{List, [], _∷_}
+-- Contexts in scope are those of the two tables that hold their numbers and the places of their relations.
+use Prim.Native.Nat.{_+_, _≤_, min}
+use mathlib.Core.Path.{_≡_, sym, ap, _∙_}
+use mathlib.Core.List.{List, _++_, append-nil}
 use native.Mathlib.Omega.{arith}
-use lib.ListN.{length, getD, take}
-use lib.Seq.{getD-take}
-use Rattle.surroundings.specs.Slots.{Slot}
-use Rattle.surroundings.specs.Tables.{slotsIn}
+use lib.ListN.{length, length-map, drop-of-length-le}
+use lib.Seq.{sets, sets-eq}
+use Rattle.wire.specs.Limits.{maxContexts}
+use Rattle.surroundings.specs.Slots.{Slot, relationsIn}
+use Rattle.surroundings.specs.Tables.{slotsIn, numbersIn}
+use Rattle.surroundings.proofs.Laid.{slots-back}
 
-pub slots-cut : (numbers relations : List ℕ) (c n k : ℕ) → k + n ≤ c →
-    slotsIn (take c numbers) (take c relations) n k ≡ slotsIn numbers relations n k
-unfolding slotsIn
-slots-cut numbers relations c zero k h = refl
-slots-cut numbers relations c (suc n) k h =
-    let a = getD-take c numbers k 0 (omega arith) in
-    let b = getD-take c relations k 0 (omega arith) in
-    ap₂ (λ y l. y ∷ l) (λ p. record { number = a p; relation = b p }) (slots-cut numbers relations c n (k + 1) (omega arith))
+-- a list stored over itself
+over-itself : {A : Type 0} (l : List A) → l ≡ sets l 0 l
+over-itself l =
+    sym (sets-eq l l 0 (omega arith) ∙ ap (λ z. l ++ z) (drop-of-length-le l {i = 0 + length l} (omega arith)) ∙ append-nil l)
+
+pub slots-own : (xs : List Slot) → length xs ≤ maxContexts →
+    slotsIn (numbersIn xs) (relationsIn xs) (min (length (numbersIn xs)) maxContexts) 0 ≡ xs
+slots-own xs few =
+    let a = length-map xs (λ x. x .number) in
+    let b = length-map xs (λ x. x .relation) in
+    slots-back {numbers = numbersIn xs} {relations = relationsIn xs}
+    (record { counted = a; numbers-filled = over-itself (numbersIn xs); relations-filled = over-itself (relationsIn xs) })
+    few (omega (arith, a)) (omega (arith, b))

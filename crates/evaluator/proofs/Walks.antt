@@ -20,12 +20,11 @@ use Rattle.classes.specs.declared.BooleanClass.the-variants as BooleanClass
 use Rattle.classes.specs.Classes.{valueClassOf, booleanClassOf}
 use Rattle.meaning.specs.declared.Truth.{Truth}
 use Rattle.meaning.specs.Data.{Datum, arithmeticOf, negateOf, compareOf, searchOf, betweenOf, missingOf, connected, opposite}
-use Rattle.walking.specs.Walk.{Walked, at, astray, _▷_, ended, onClass, literalAt, referenceAt, valueUnder, valueAt, booleanUnder}
+use Rattle.walking.specs.Walk.{Walked, at, astray, _▷_, ended, onClass, literalAt, referenceAt, valueUnder, booleanUnder}
 use Rattle.walking.proofs.Laws.{second-after, third-after, no-further, value-level, value-by, value-past, value-inside, boolean-level, boolean-by, boolean-past}
 use Rattle.values.specs.declared.Valued.{Valued}
 use Rattle.values.specs.Values.{valued}
 use Rattle.inputs.proofs.LiteralLaws.{no-literal}
-use Rattle.surroundings.specs.Bindings.{boundSight}
 use Rattle.evaluator.specs.declared.forms.OperationCode.{OperationCode}
 use Rattle.evaluator.specs.declared.forms.OperationCode.the-variants as Operation
 use Rattle.evaluator.specs.declared.forms.ValueForm.{ValueForm}
@@ -38,7 +37,7 @@ use Rattle.evaluator.specs.declared.forms.LogicCode.{LogicCode}
 use Rattle.evaluator.specs.declared.forms.LogicCode.the-variants as Logic
 use Rattle.evaluator.specs.declared.forms.BooleanForm.{BooleanForm}
 use Rattle.evaluator.specs.Forms.{operationCode, valueCode, pairCode, testCode, logicCode, booleanCode, judged}
-use Rattle.evaluator.specs.Slices.{Slices, lentOf, fetchedBy, sightOf, valuesOf, booleansOf, runsOf}
+use Rattle.evaluator.specs.Slices.{Slices, lentOf, fetchedBy, sightOf, valuesOf, booleansOf, runsOf, underOf}
 
 module _ (g : Slices) where
   abbrev next : ℕ → ℕ
@@ -47,11 +46,11 @@ module _ (g : Slices) where
   -- ---- a value at a place
 
   pub no-level : (l p : ℕ) → l ≡ 0 → astray ≡ valuesOf g l p
-  no-level l p e = sym (ap (λ z. valuesOf g z p) e ∙ value-level (fetchedBy g) (g .request) p)
+  no-level l p e = sym (ap (λ z. valuesOf g z p) e ∙ value-level (sightOf g) (g .bindings) (g .request) p)
 
   module _ (l p : ℕ) {b : ℕ} (x : ValueClass) (level : l ≡ 0 → ⊥) (is : b ≡ byteAt (g .request) p) (class : valueClassOf x ≡ valueClass b) where
-    by-class : valuesOf g l p ≡ onClass (valueClassOf x) (λ k. valueUnder (fetchedBy g) (valuesOf g (l - 1)) (g .request) p k)
-    by-class = value-by (fetchedBy g) (g .request) l p (valueClassOf x) level (class ∙ ap valueClass is)
+    by-class : valuesOf g l p ≡ onClass (valueClassOf x) (λ k. underOf g (l - 1) p k)
+    by-class = value-by (sightOf g) (g .bindings) (g .request) l p (valueClassOf x) level (class ∙ ap valueClass is)
 
     pub no-value : x ≡ ValueClass.LeftOut → astray ≡ valuesOf g l p
     no-value e = sym (by-class ∙ rw e)
@@ -60,18 +59,18 @@ module _ (g : Slices) where
     no-code e = sym (by-class ∙ rw e)
 
     pub due-value : {k : ValueCode} {r : Walked Datum} → x ≡ ValueClass.Due k →
-        (p < length (g .request) → r ≡ valueUnder (fetchedBy g) (valuesOf g (l - 1)) (g .request) p k) → r ≡ valuesOf g l p
-    due-value {k} e h = h (value-inside (fetchedBy g) (g .request) p k (sym (class ∙ ap valueClass is) ∙ ap valueClassOf e)) ∙ sym (by-class ∙ rw e)
+        (p < length (g .request) → r ≡ underOf g (l - 1) p k) → r ≡ valuesOf g l p
+    due-value {k} e h = h (value-inside (g .request) p k (sym (class ∙ ap valueClass is) ∙ ap valueClassOf e)) ∙ sym (by-class ∙ rw e)
 
   -- the value after a byte
   next-value : (l p : ℕ) {q : ℕ} {a : Walked Datum} → q ≡ next p → a ≡ valuesOf g l q → a ≡ valuesOf g l (p + 1)
-  next-value l p n i = i ∙ ap (valuesOf g l) n ∙ no-further (g .request) (valuesOf g l) (value-past (fetchedBy g) (g .request) l) (p + 1)
+  next-value l p n i = i ∙ ap (valuesOf g l) n ∙ no-further (g .request) (valuesOf g l) (value-past (sightOf g) (g .bindings) (g .request) l) (p + 1)
 
   -- ---- a value under its code
 
   module _ (l p : ℕ) where
     abbrev under : ValueCode → Walked Datum
-    under k = valueUnder (fetchedBy g) (valuesOf g l) (g .request) p k
+    under k = underOf g l p k
 
     module _ {k : ValueCode} (x : ValueForm) (form : valueCode x ≡ k) where
       pub value-formed : {y : ValueForm} {r : Walked Datum} → x ≡ y → r ≡ under (valueCode y) → r ≡ under k
@@ -104,20 +103,12 @@ module _ (g : Slices) where
 
   -- ---- a boolean at a place
 
-  -- what is seen at a reference
-  sees-fetched : sightOf g .fetch (g .bindings) ≡ fetchedBy g
-  unfolding sightOf fetchedBy boundSight
-  sees-fetched = refl
-
   pub no-boolean-level : (l p : ℕ) → l ≡ 0 → astray ≡ booleansOf g l p
   no-boolean-level l p e = sym (ap (λ z. booleansOf g z p) e ∙ boolean-level (sightOf g) (g .bindings) (g .request) p)
 
   module _ (l p : ℕ) {b : ℕ} (x : BooleanClass) (level : l ≡ 0 → ⊥) (is : b ≡ byteAt (g .request) p) (class : booleanClassOf x ≡ booleanClass b) where
     by-boolean : booleansOf g l p ≡ onClass (booleanClassOf x) (λ k. booleanUnder (valuesOf g (l - 1)) (booleansOf g (l - 1)) (runsOf g (l - 1) p) p k)
-    by-boolean =
-        boolean-by (sightOf g) (g .bindings) (g .request) l p (booleanClassOf x) level (class ∙ ap booleanClass is)
-        ∙ ap (λ f. onClass (booleanClassOf x) (λ k. booleanUnder (λ q. valueAt f (l - 1) (g .request) q) (booleansOf g (l - 1))
-        (runsOf g (l - 1) p) p k)) sees-fetched
+    by-boolean = boolean-by (sightOf g) (g .bindings) (g .request) l p (booleanClassOf x) level (class ∙ ap booleanClass is)
 
     pub no-boolean : x ≡ BooleanClass.LeftOut → astray ≡ booleansOf g l p
     no-boolean e = sym (by-boolean ∙ rw e)

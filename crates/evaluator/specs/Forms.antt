@@ -9,6 +9,8 @@ use Rattle.meaning.specs.Data.{Datum, compareOf, searchOf, betweenOf}
 use Rattle.walking.specs.Walk.{Walked, _▷_, ended}
 use Rattle.evaluator.specs.declared.forms.OperationCode.{OperationCode}
 use Rattle.evaluator.specs.declared.forms.OperationCode.the-variants as Operation
+use Rattle.evaluator.specs.declared.forms.StatisticCode.{StatisticCode}
+use Rattle.evaluator.specs.declared.forms.StatisticCode.the-variants as Statistic
 use Rattle.evaluator.specs.declared.forms.ValueForm.{ValueForm}
 use Rattle.evaluator.specs.declared.forms.ValueForm.the-variants as ValueForm
 use Rattle.evaluator.specs.declared.forms.PairCode.{PairCode}
@@ -24,10 +26,15 @@ abbrev pub operationCode : OperationCode → ValueCode
 operationCode (Operation.Arithmetic o) = Value.Arithmetic o
 operationCode Operation.Negate = Value.Negate
 
+abbrev pub statisticCode : StatisticCode → ValueCode
+statisticCode (Statistic.Of k) = Value.Statistic k
+statisticCode Statistic.Count = Value.Count
+
 abbrev pub valueCode : ValueForm → ValueCode
 valueCode ValueForm.Literal = Value.Literal
 valueCode (ValueForm.Reference c) = Value.Reference c
 valueCode (ValueForm.Operation k) = operationCode k
+valueCode (ValueForm.Run k) = statisticCode k
 
 abbrev pub pairCode : PairCode → BooleanCode
 pairCode (Pair.Compare c) = Boolean.Compare c

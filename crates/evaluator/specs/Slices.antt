@@ -8,17 +8,24 @@ use Rattle.wire.specs.Limits.{maxParameters, parameterRowNumbers}
 use Rattle.wire.specs.declared.codes.ValueCode.{ValueCode}
 use Rattle.wire.specs.declared.codes.BooleanCode.{BooleanCode}
 use Rattle.wire.specs.declared.codes.Quantifier.{Quantifier}
+use Rattle.wire.specs.declared.codes.Statistic.{Statistic}
 use Rattle.grammar.specs.Tree.{Reference}
 use Rattle.meaning.specs.declared.Truth.{Truth}
-use Rattle.meaning.specs.Data.{Datum, betweenOf}
+use Rattle.meaning.specs.Data.{Datum, _>>=_, betweenOf}
 use Rattle.meaning.specs.Inputs.{Fetched}
-use Rattle.walking.specs.Walk.{Walked, _▷_, ended, valueUnder, valueAt, Over, Sight, overAt, booleanUnder, booleanAt}
+use Rattle.meaning.specs.Meaning.{ifKept}
+use Rattle.walking.specs.Walk.{Walked, _▷_, ended, Over, Sight, resultOf, suchAt, overAt, numbersAt, countAt, valueUnder, booleanUnder, valueAt, booleanAt}
 use Rattle.values.specs.declared.Valued.{Valued}
 use Rattle.values.specs.declared.Tested.{Tested}
+use Rattle.values.specs.declared.statistics.Gathered.{Gathered}
+use Rattle.values.specs.declared.statistics.Gathering.{Gathering}
 use Rattle.values.specs.Values.{Lent, lent, valued, tested}
-use Rattle.surroundings.specs.Bindings.{boundAround, boundSight, runOf}
+use Rattle.values.specs.Statistics.{gatheredIn, gathering}
+use Rattle.surroundings.specs.Bindings.{placeIf, boundSight, runOf}
 use Rattle.evaluator.specs.declared.forms.PairCode.{PairCode}
+use Rattle.evaluator.specs.declared.quantifiers.Kept.{Kept}
 use Rattle.evaluator.specs.Forms.{judged}
+use Rattle.evaluator.specs.Kept.{keptIn, keptOver}
 
 -- the request, the dictionary, the rows of the bindings, the rows of the parameters, the images, the records and the runs
 pub record Slices : Type 0 where
@@ -49,17 +56,17 @@ lentOf g = lent (g .request) (g .images) (g .records) (g .runs)
 abbrev pub parametersOf : Slices → ℕ
 parametersOf g = min (length (g .parameters) / parameterRowNumbers) maxParameters
 
--- what references give
-unfoldable pub fetchedBy : Slices → Reference → Fetched
-fetchedBy g = boundAround (g .dictionary) (g .parameters) (parametersOf g) (g .images) (g .records) (g .runs) (g .bindings)
-
 -- what is seen by a table of bindings
 unfoldable pub sightOf : Slices → Sight (List ℕ)
 sightOf g = boundSight (g .dictionary) (g .parameters) (parametersOf g) (g .images) (g .records) (g .runs)
 
--- the greatest table of bindings: 8 numbers for each of 32 contexts
+-- what references give
+abbrev pub fetchedBy : Slices → Reference → Fetched
+fetchedBy g = sightOf g .fetch (g .bindings)
+
+-- the greatest table of bindings: 10 numbers for each of 32 contexts
 abbrev pub bindingNumbers : ℕ
-bindingNumbers = 256
+bindingNumbers = 320
 
 -- the bytes of 32 runs of 65,535 bytes
 abbrev pub runBytes : ℕ
@@ -69,22 +76,34 @@ runBytes = 2097120
 abbrev pub Fits : List ℕ → List ℕ → Type 0
 Fits bindings runs = (length bindings ≤ bindingNumbers) × (length runs ≤ runBytes)
 
--- the values and the booleans at a place, with so many levels left; the booleans also as they are seen from another table of bindings
-abbrev pub valuesOf : Slices → ℕ → ℕ → Walked Datum
-valuesOf g levels q = valueAt (fetchedBy g) levels (g .request) q
-
-abbrev pub booleansOf : Slices → ℕ → ℕ → Walked Truth
-booleansOf g levels q = booleanAt (sightOf g) (g .bindings) levels (g .request) q
+-- the values and the booleans at a place, with so many levels left, as they are seen from a table of bindings, and from the one there is
+abbrev pub valuesFrom : Slices → ℕ → List ℕ → ℕ → Walked Datum
+valuesFrom g levels t q = valueAt (sightOf g) t levels (g .request) q
 
 abbrev pub booleansFrom : Slices → ℕ → List ℕ → ℕ → Walked Truth
 booleansFrom g levels t q = booleanAt (sightOf g) t levels (g .request) q
 
--- an any or a unique: over a run, and over that of the code at a place
-abbrev pub overOf : Slices → ℕ → Quantifier → Option (Over (List ℕ)) → Walked Truth
-overOf g levels q o = overAt q o (booleansFrom g levels)
+abbrev pub valuesOf : Slices → ℕ → ℕ → Walked Datum
+valuesOf g levels q = valuesFrom g levels (g .bindings) q
+
+abbrev pub booleansOf : Slices → ℕ → ℕ → Walked Truth
+booleansOf g levels q = booleansFrom g levels (g .bindings) q
+
+-- over the run of the code at a place: an any or a unique, a statistic, a count, and how many records are kept
+abbrev pub runThere : Slices → ℕ → Option (Over (List ℕ))
+runThere g p = sightOf g .over (g .bindings) p
 
 abbrev pub runsOf : Slices → ℕ → ℕ → Quantifier → Walked Truth
-runsOf g levels p q = overOf g levels q (sightOf g .over (g .bindings) p)
+runsOf g levels p q = overAt q (runThere g p) (booleansFrom g levels)
+
+abbrev pub numbersOf : Slices → ℕ → ℕ → Statistic → Walked Datum
+numbersOf g levels p k = numbersAt k p (runThere g p) (booleansFrom g levels) (valuesFrom g levels)
+
+abbrev pub countsOf : Slices → ℕ → ℕ → Walked Datum
+countsOf g levels p = countAt (runThere g p) (booleansFrom g levels)
+
+abbrev pub keptsOf : Slices → ℕ → ℕ → Walked ℕ
+keptsOf g levels p = keptOver (runThere g p) (booleansFrom g levels)
 
 -- a value at a place, and the value after another
 abbrev pub ValueAt : Slices → ℕ → ℕ → Valued → Type 0
@@ -94,8 +113,12 @@ abbrev pub ValueAfter : Slices → ℕ → Valued → Valued → Type 0
 ValueAfter g levels a r = valued (lentOf g) r ≡ (valued (lentOf g) a ▷ λ x q. valuesOf g levels q)
 
 -- what stands under a value's code at a place, and the same where that place is before the end
+abbrev pub underOf : Slices → ℕ → ℕ → ValueCode → Walked Datum
+underOf g levels p code =
+    valueUnder (fetchedBy g) (valuesOf g levels) (numbersOf g levels p) (countsOf g levels p) (g .request) p code
+
 abbrev pub ValueUnder : Slices → ℕ → ℕ → ValueCode → Valued → Type 0
-ValueUnder g levels p code r = valued (lentOf g) r ≡ valueUnder (fetchedBy g) (valuesOf g levels) (g .request) p code
+ValueUnder g levels p code r = valued (lentOf g) r ≡ underOf g levels p code
 
 abbrev pub ValueInside : Slices → ℕ → ℕ → ValueCode → Valued → Type 0
 ValueInside g levels p code r = p < length (g .request) → ValueUnder g levels p code r
@@ -110,10 +133,6 @@ BooleanAfter g levels a r = tested r ≡ (tested a ▷ λ x q. booleansOf g leve
 abbrev pub BooleanUnder : Slices → ℕ → ℕ → BooleanCode → Tested → Type 0
 BooleanUnder g levels p code r = tested r ≡ booleanUnder (valuesOf g levels) (booleansOf g levels) (runsOf g levels p) p code
 
--- an any or a unique over the run of a row
-abbrev pub OverRun : Slices → ℕ → ℕ → Quantifier → Tested → Type 0
-OverRun g levels row q r = tested r ≡ overOf g levels q (some (runOf (g .runs) (g .bindings) row))
-
 -- a test on two values or three, after its first value, and between after its second
 abbrev pub PairAfter : Slices → ℕ → Valued → PairCode → Tested → Type 0
 PairAfter g levels a code r =
@@ -122,3 +141,26 @@ PairAfter g levels a code r =
 abbrev pub BetweenAfter : Slices → ℕ → Valued → Valued → Tested → Type 0
 BetweenAfter g levels a b r =
     tested r ≡ (valued (lentOf g) a ▷ λ x q. valued (lentOf g) b ▷ λ y u. valuesOf g levels u ▷ λ z e. ended (betweenOf x y z) e)
+
+-- how many records are kept of the run of the code at a place, and of that of a row
+abbrev pub KeptAt : Slices → ℕ → ℕ → Kept → Type 0
+KeptAt g levels p r = keptIn r ≡ keptsOf g levels p
+
+abbrev pub OverRun : Slices → ℕ → ℕ → Kept → Type 0
+OverRun g levels row r = keptIn r ≡ keptOver (some (runOf (g .runs) (g .bindings) row)) (booleansFrom g levels)
+
+-- the statistic at a place over the run of a row
+abbrev pub OverNumbers : Slices → ℕ → ℕ → ℕ → Statistic → Valued → Type 0
+OverNumbers g levels p row k r =
+    valued (lentOf g) r ≡ numbersAt k p (some (runOf (g .runs) (g .bindings) row)) (booleansFrom g levels) (valuesFrom g levels)
+
+-- the condition of an rse at a place, with the record in turn; 0 says that it has none
+abbrev pub SuchAt : Slices → ℕ → ℕ → Tested → Type 0
+SuchAt g levels such r = resultOf (tested r) ≡ suchAt (placeIf such) (booleansOf g levels)
+
+-- what the record in turn makes of what is gathered, for the statistic at p, whose number stands after its rse
+abbrev pub GatheredWith : Slices → ℕ → ℕ → ℕ → ℕ → Statistic → Gathered → Gathering → Type 0
+GatheredWith g levels p such after k h r =
+    gathering (h .values) (h .number) r ≡
+    (suchAt (placeIf such) (booleansOf g levels) >>= λ t.
+    ifKept t k p (λ y. resultOf (valuesFrom g levels y after)) (gatheredIn h) (g .bindings))

@@ -1,63 +1,28 @@
-// A condition by its number, once the request is read: 20, 21, 22 and 26, and then the walk over its bytes.
+// A condition by its number, and a from-value by its row, once the request is read: 20, then what a walk needs, and the walk over its bytes.
 ghost use mathlib.Core.Path.{_≡_};
-ghost use Rattle.meaning.specs.Evaluated.{outcomeOf, Evaluates};
-ghost use Rattle.evaluator.specs.AfterReading.{AfterReading};
-ghost use Rattle.evaluator.specs.Slices.{slices};
-ghost use Rattle.evaluator.specs.Bound.{bound, Walkable, outcomeBound};
+ghost use Prim.Native.Nat.{ℕ, _<_};
+ghost use Rattle.wire.specs.Limits.{maxStatements};
+ghost use Rattle.meaning.specs.Evaluated.{Evaluates};
+ghost use Rattle.evaluator.specs.AfterReading.{AfterReading, RowsRead, fromPlace};
+ghost use Rattle.meaning.specs.ValueEvaluated.{ValueEvaluates};
 use crate::answers::answer_of;
-use crate::booleans::boolean_at;
+use crate::answers::value_answer;
+use crate::prepared::Prepared;
+use crate::prepared::prepare;
+use crate::walk::boolean_at;
+use crate::walk::value_at;
 use grammar::Refusal;
 use meaning::Evaluation;
-use records::proper::RunAnswer;
-use runs::check::check_runs;
-use runs::scan::find_runs;
+use meaning::ValueEvaluation;
 use surroundings::bindings::BINDING_ROW;
 use surroundings::bindings::BINDING_TABLE;
-use surroundings::bindings::lay_contexts;
-use surroundings::images::image_bytes;
-use surroundings::scope::in_scope;
-use wire::limits::MAX_CONTEXTS;
+use wire::blr;
 use wire::limits::MAX_DEPTH;
 use wire::limits::PARAMETER_ROW;
+use wire::limits::STATEMENT_ROW;
+use wire::rows::STATEMENT_CODE;
+use wire::rows::STATEMENT_PLACE;
 use wire::table::number_at;
-
-// The condition at a place, with records as due for the contexts in scope there: their numbers, and where the entries of their relations
-// stand.
-fn evaluate_bound<'a>(
-    request: &'a [u8],
-    dictionary: &[u8],
-    numbers: &[u32],
-    relations: &[u32],
-    parameters: &[u32],
-    images: &'a [u8],
-    records: &'a [u8],
-    runs: &'a [u8],
-    at: usize,
-) -> Evaluation
-    requires { ⌜ Walkable (bound (now request) (now dictionary) (now numbers) (now relations) (now parameters) (now images)
-        (now records) (now runs) at) ⌝ }
-    ensures { λ r. ⌜ outcomeOf r ≡ outcomeBound (bound (now (request .entry)) (now (dictionary .entry)) (now (numbers .entry))
-        (now (relations .entry)) (now (parameters .entry)) (now (images .entry)) (now (records .entry)) (now (runs .entry)) at) ⌝ }
-{
-    let mut bindings = [0u32; BINDING_TABLE];
-    lay_contexts(numbers, relations, numbers.len(), records, &mut bindings);
-    let rows = find_runs(request, dictionary, at, &mut bindings, numbers.len());
-    let answer = check_runs(dictionary, &mut bindings, numbers.len(), rows, runs);
-    match answer {
-        RunAnswer::AsDue => answer_of(boolean_at(
-            request,
-            dictionary,
-            &bindings[..rows * BINDING_ROW],
-            parameters,
-            images,
-            records,
-            runs,
-            MAX_DEPTH,
-            at,
-        )),
-        RunAnswer::WrongAt(p) => Evaluation::Refused(Refusal::BadRuns, p),
-    }
-}
 
 // The condition of a number, of a request that was read: the tables hold so many rows of parameters and of contexts, and the places.
 pub(crate) fn evaluate_read<'a>(
@@ -81,33 +46,103 @@ pub(crate) fn evaluate_read<'a>(
     if at == 0 {
         return Evaluation::Refused(Refusal::NoBoolean, 0);
     }
-    let total = image_bytes(parameters, rows);
-    if images.len() != total {
-        return Evaluation::Refused(Refusal::BadMessageBytes, images.len());
-    }
-    let mut numbers = [0u32; MAX_CONTEXTS];
-    let mut relations = [0u32; MAX_CONTEXTS];
-    let count = in_scope(
+    let mut bindings = [0u32; BINDING_TABLE];
+    let prepared = prepare(
+        request,
         dictionary,
+        parameters,
         contexts,
+        rows,
         declared,
+        images,
+        records,
+        runs,
         at,
-        &mut numbers,
-        &mut relations,
+        &mut bindings,
     );
-    let answer = records::proper::records(dictionary, &relations[..count], records);
-    match answer {
-        RunAnswer::AsDue => evaluate_bound(
+    match prepared {
+        Prepared::Rows(n) => answer_of(boolean_at(
             request,
             dictionary,
-            &numbers[..count],
-            &relations[..count],
+            &bindings[..n * BINDING_ROW],
             &parameters[..rows * PARAMETER_ROW],
             images,
             records,
             runs,
+            MAX_DEPTH,
             at,
-        ),
-        RunAnswer::WrongAt(p) => Evaluation::Refused(Refusal::BadRecords, p),
+        )),
+        Prepared::Refused(r, p) => Evaluation::Refused(r, p),
+    }
+}
+
+// Where the from-value of a row's statement stands, if the statement is an assignment; 0 if not.
+fn from_value(statements: &[u32], row: usize) -> usize
+    requires { ⌜ row < maxStatements ⌝ }
+    ensures { λ r. ⌜ r ≡ fromPlace (now (statements .entry)) row ⌝ }
+{
+    let start = row * STATEMENT_ROW;
+    if number_at(statements, start + STATEMENT_CODE) != blr::ASSIGNMENT as u32 {
+        return 0;
+    }
+    number_at(statements, start + STATEMENT_PLACE) as usize + 1
+}
+
+// The from-value of a row, of a request that was read: the statement table has so many rows.
+pub(crate) fn evaluate_row<'a>(
+    request: &'a [u8],
+    dictionary: &[u8],
+    parameters: &[u32],
+    contexts: &[u32],
+    statements: &[u32],
+    count: usize,
+    rows: usize,
+    declared: usize,
+    row: usize,
+    images: &'a [u8],
+    records: &'a [u8],
+    runs: &'a [u8],
+) -> ValueEvaluation
+    requires { ⌜ RowsRead (now request) (now dictionary) (now parameters) (now contexts) (now statements) count rows declared ⌝ }
+    ensures { λ r. ⌜ ValueEvaluates (now (request .entry)) (now (dictionary .entry)) row (now (images .entry)) (now (records .entry))
+        (now (runs .entry)) r ⌝ }
+{
+    if count <= row {
+        return ValueEvaluation::Refused(Refusal::NoBoolean, 0);
+    }
+    let at = from_value(statements, row);
+    if at == 0 {
+        return ValueEvaluation::Refused(Refusal::NoBoolean, 0);
+    }
+    let mut bindings = [0u32; BINDING_TABLE];
+    let prepared = prepare(
+        request,
+        dictionary,
+        parameters,
+        contexts,
+        rows,
+        declared,
+        images,
+        records,
+        runs,
+        at,
+        &mut bindings,
+    );
+    match prepared {
+        Prepared::Rows(n) => {
+            let walk = value_at(
+                request,
+                dictionary,
+                &bindings[..n * BINDING_ROW],
+                &parameters[..rows * PARAMETER_ROW],
+                images,
+                records,
+                runs,
+                MAX_DEPTH,
+                at,
+            );
+            value_answer(request, images, records, runs, walk)
+        }
+        Prepared::Refused(r, p) => ValueEvaluation::Refused(r, p),
     }
 }

@@ -7,6 +7,7 @@ use wire::codes::Connective;
 use wire::codes::Operator;
 use wire::codes::Quantifier;
 use wire::codes::ReferenceCode;
+use wire::codes::Statistic;
 use wire::codes::TextSearch;
 use wire::codes::ValueCode;
 
@@ -16,11 +17,18 @@ pub(crate) enum OperationCode {
     Negate,
 }
 
+// A value over the records of a run.
+pub(crate) enum StatisticCode {
+    Of(Statistic),
+    Count,
+}
+
 // What a value is, by its code.
 pub(crate) enum ValueForm {
     Literal,
     Reference(ReferenceCode),
     Operation(OperationCode),
+    Run(StatisticCode),
 }
 
 // A test on two values, and between on three.
@@ -58,6 +66,8 @@ pub(crate) fn value_form(code: ValueCode) -> ValueForm
         ValueCode::Reference(c) => ValueForm::Reference(c),
         ValueCode::Arithmetic(o) => ValueForm::Operation(OperationCode::Arithmetic(o)),
         ValueCode::Negate => ValueForm::Operation(OperationCode::Negate),
+        ValueCode::Statistic(k) => ValueForm::Run(StatisticCode::Of(k)),
+        ValueCode::Count => ValueForm::Run(StatisticCode::Count),
     }
 }
 

@@ -1,50 +1,31 @@
-// The run of an any or a unique: its row in the bindings, and how many of its records are kept.
+// How many records of a run are kept, and what an any, a unique or a count comes out as by that.
 ghost use mathlib.Core.Path.{_≡_};
-ghost use Prim.Native.Nat.{ℕ, _+_, _*_, _<_, _≤_};
-ghost use lib.Seq.{sets};
+ghost use Prim.Native.Nat.{ℕ, _<_, _≤_};
 ghost use Rattle.meaning.specs.Meaning.{kept, answerOf};
 ghost use Rattle.walking.specs.Walk.{at};
-ghost use Rattle.values.specs.Values.{tested};
-ghost use Rattle.surroundings.specs.Bindings.{bindingRowNumbers, bindingEnd, bindingCount, rowsIn, cell};
+ghost use Rattle.surroundings.specs.Bindings.{bindingEnd, bindingCount, cell};
+ghost use Rattle.evaluator.specs.Kept.{keptIn, AnsweredBy, CountedBy};
+use crate::rows::cell_of;
+use meaning::Fault;
 use meaning::Truth;
 use surroundings::bindings::BINDING_COUNT;
 use surroundings::bindings::BINDING_END;
-use surroundings::bindings::BINDING_ROW;
 use values::Position;
 use values::Tested;
+use values::Valued;
+use values::statistics::count_of;
 use wire::codes::Quantifier;
-use wire::table::number_at;
-use wire::table::put;
 
-// Where a number of a row stands in a table of bindings.
-pub(crate) fn cell_place(row: usize, column: usize) -> usize
-    requires { ⌜ (row ≤ 32) × (column < 8) ⌝ }
-    ensures { λ r. ⌜ r ≡ row * bindingRowNumbers + column ⌝ }
-{
-    row * BINDING_ROW + column
-}
-
-// A number of a row.
-pub(crate) fn cell_of(bindings: &[u32], row: usize, column: usize) -> usize
-    requires { ⌜ (row ≤ 32) × (column < 8) ⌝ }
-    ensures { λ r. ⌜ (r ≡ cell (now (bindings .entry)) row column) × (r < 4294967296) ⌝ }
-{
-    number_at(bindings, cell_place(row, column)) as usize
-}
-
-// Lays a table over the start of another.
-pub(crate) fn copy(from: &[u32], to: &mut [u32])
-    ensures { λ _. ⌜ now (to .exit) ≡ sets (now (to .entry)) 0 (now (from .entry)) ⌝ }
-{
-    let mut i: usize = 0;
-    while i < from.len() {
-        put(to, i, from[i]);
-        i += 1;
-    }
+// How many records of a run are kept, and the place after what asked for it; or a refusal and its place; or that something is not there or
+// does not fit.
+pub(crate) enum Kept {
+    Is(u32, Position),
+    Refused(Fault, usize),
+    Stray,
 }
 
 // How many are kept of one record whose condition comes out so: where it is missing none is.
-fn kept_by(condition: Truth) -> usize
+fn kept_by(condition: Truth) -> u32
     ensures { λ r. ⌜ (r ≡ kept condition 0) × (r ≤ 1) ⌝ }
 {
     match condition {
@@ -55,15 +36,33 @@ fn kept_by(condition: Truth) -> usize
 }
 
 // How many are kept of the records before and that one.
-pub(crate) fn kept_with(condition: Truth, n: usize) -> usize
-    requires { ⌜ n < 4294967296 ⌝ }
+pub(crate) fn kept_with(condition: Truth, n: u32) -> u32
+    requires { ⌜ n < 4294967295 ⌝ }
     ensures { λ r. ⌜ r ≡ kept condition n ⌝ }
 {
     n + kept_by(condition)
 }
 
+// So many kept, and the place after what a row stands for.
+pub(crate) fn kept_end(bindings: &[u32], row: usize, n: u32) -> Kept
+    requires { ⌜ row ≤ 32 ⌝ }
+    ensures { λ r. ⌜ keptIn r ≡ at n (cell (now (bindings .entry)) row bindingEnd) ⌝ }
+{
+    let end = cell_of(bindings, row, BINDING_END);
+    Kept::Is(n, Position { at: end })
+}
+
+// The same for a row whose rse has no condition: every record of its run is kept.
+pub(crate) fn all_kept(bindings: &[u32], row: usize) -> Kept
+    requires { ⌜ row ≤ 32 ⌝ }
+    ensures { λ r. ⌜ keptIn r ≡
+        at (cell (now (bindings .entry)) row bindingCount) (cell (now (bindings .entry)) row bindingEnd) ⌝ }
+{
+    kept_end(bindings, row, cell_of(bindings, row, BINDING_COUNT) as u32)
+}
+
 // What an any or a unique comes out as, where so many records are kept.
-fn answer_of_run(code: Quantifier, n: usize) -> Truth
+fn answer_of_run(code: Quantifier, n: u32) -> Truth
     ensures { λ r. ⌜ r ≡ answerOf code n ⌝ }
 {
     match code {
@@ -72,20 +71,24 @@ fn answer_of_run(code: Quantifier, n: usize) -> Truth
     }
 }
 
-// The same, and the place after the rse of a row.
-pub(crate) fn kept_answer(bindings: &[u32], row: usize, code: Quantifier, n: usize) -> Tested
-    requires { ⌜ row ≤ 32 ⌝ }
-    ensures { λ r. ⌜ tested r ≡ at (answerOf code n) (cell (now (bindings .entry)) row bindingEnd) ⌝ }
+// An any or a unique by what is kept.
+pub(crate) fn answered(code: Quantifier, kept: Kept) -> Tested
+    ensures { λ r. ⌜ AnsweredBy code kept r ⌝ }
 {
-    let end = cell_of(bindings, row, BINDING_END);
-    Tested::Is(answer_of_run(code, n), Position { at: end })
+    match kept {
+        Kept::Is(n, end) => Tested::Is(answer_of_run(code, n), end),
+        Kept::Refused(f, p) => Tested::Refused(f, p),
+        Kept::Stray => Tested::Stray,
+    }
 }
 
-// The answer for a row whose rse has no condition: every record of its run is kept.
-pub(crate) fn all_kept(bindings: &[u32], row: usize, code: Quantifier) -> Tested
-    requires { ⌜ row ≤ 32 ⌝ }
-    ensures { λ r. ⌜ tested r ≡
-        at (answerOf code (cell (now (bindings .entry)) row bindingCount)) (cell (now (bindings .entry)) row bindingEnd) ⌝ }
+// A count by what is kept.
+pub(crate) fn counted(kept: Kept) -> Valued
+    ensures { λ r. ⌜ CountedBy kept r ⌝ }
 {
-    kept_answer(bindings, row, code, cell_of(bindings, row, BINDING_COUNT))
+    match kept {
+        Kept::Is(n, end) => count_of(n, end),
+        Kept::Refused(f, p) => Valued::Refused(f, p),
+        Kept::Stray => Valued::Stray,
+    }
 }

@@ -1,6 +1,7 @@
--- What reading and evaluation answer, as document 01 writes it: rows, a truth value, or a refusal's number and place.
+-- What reading and evaluation answer, as document 01 writes it: rows, a truth value, a from-value, or a refusal's number and place.
 use Prim.Native.Nat.{ℕ}
 use mathlib.Core.List.{List}
+use lib.IntN.{ℤ}
 use Rattle.grammar.specs.Refusals.{number}
 use Rattle.grammar.specs.Tree.{Request}
 use Rattle.grammar.specs.Reader.{Read, read, refused}
@@ -17,6 +18,7 @@ use Rattle.grammar.specs.Bytes
 use Rattle.grammar.specs.Conditions
 use Rattle.grammar.specs.Kinds
 use Rattle.grammar.specs.Messages
+use Rattle.grammar.specs.Named
 use Rattle.grammar.specs.Environment as GrammarNames
 use Rattle.grammar.specs.Reader
 use Rattle.grammar.specs.Reading
@@ -47,6 +49,9 @@ pub data Answer : Type 0 where
   rows : List ℕ → List ℕ → List ℕ → Answer
   isTrue isFalse isStray : Answer
   isMissing : Cause → Answer
+  isNumber : ℤ → ℤ → Answer
+  isText : List ℕ → Answer
+  isDate : ℤ → ℕ → Answer
   refusal : ℕ → ℕ → Answer
 
 abbrev pub readingAnswer : List ℕ → Read Request → Answer
@@ -55,12 +60,20 @@ readingAnswer d (read r c) =
     (Rows.requestContextRows (Reading.relationsOf (Dictionary.dictionary d)) r)
 readingAnswer d (refused x p) = refusal (number x) p
 
-abbrev pub truthAnswer : Outcome → Answer
+abbrev pub truthAnswer : Outcome Truth → Answer
 truthAnswer (answered Truth.True) = isTrue
 truthAnswer (answered Truth.False) = isFalse
 truthAnswer (answered (Truth.Missing w)) = isMissing w
 truthAnswer (Evaluation.refusal x p) = refusal (number x) p
 truthAnswer strayed = isStray
+
+abbrev pub fromAnswer : Outcome Evaluation.Answer → Answer
+fromAnswer (answered (Evaluation.number a)) = isNumber (a .value) (a .scale)
+fromAnswer (answered (Evaluation.text t)) = isText t
+fromAnswer (answered (Evaluation.date day fraction)) = isDate day fraction
+fromAnswer (answered (Evaluation.missing w)) = isMissing w
+fromAnswer (Evaluation.refusal x p) = refusal (number x) p
+fromAnswer strayed = isStray
 
 -- an answer of which no cause is told
 abbrev pub anyCause : Answer → Answer
@@ -69,6 +82,9 @@ anyCause isTrue = isTrue
 anyCause isFalse = isFalse
 anyCause isStray = isStray
 anyCause (isMissing w) = isMissing Cause.Bit
+anyCause (isNumber a scale) = isNumber a scale
+anyCause (isText t) = isText t
+anyCause (isDate day fraction) = isDate day fraction
 anyCause (refusal n p) = refusal n p
 
 -- every definition of a file: to unfold one of these is to unfold them all, so that an answer computes
@@ -147,6 +163,10 @@ openMessages = tt
 unfoldable pub openMessages2 : Unit {0}
 unfolding Messages.messages
 openMessages2 = tt
+
+unfoldable pub openNamed : Unit {0}
+unfolding Named.ownBooleans Named.ownValue Named.ownsBelow Named.ownsOf Named.receivesOwns Named.requestOwns Named.fromValue
+openNamed = tt
 
 unfoldable pub openGrammarNames : Unit {0}
 unfolding GrammarNames.contextOf GrammarNames.messageOf GrammarNames.relationOfContext GrammarNames.underStreams
@@ -249,7 +269,7 @@ unfolding Values.readField Values.readReference Values.readTarget Values.valueUn
 openValues2 = tt
 
 unfoldable pub openValues3 : Unit {0}
-unfolding Values.readBoolean Values.quantifierUnder
+unfolding Values.readBoolean Values.oneStreamRse Values.statisticUnder Values.countUnder Values.quantifierUnder
 openValues3 = tt
 
 unfoldable pub openData : Unit {0}
@@ -257,7 +277,7 @@ unfolding Data.kind Data.pair Data.arithmeticOf Data.negateOf Data.dateOrder Dat
 openData = tt
 
 unfoldable pub openData2 : Unit {0}
-unfolding Data.connected
+unfolding Data.connected Data.withValue Data.statisticOf
 openData2 = tt
 
 unfoldable pub openDecoding : Unit {0}
@@ -281,7 +301,7 @@ unfolding Decoding.int64 Decoding.atEnd Decoding.descriptor Decoding.version Dec
 openDecoding5 = tt
 
 unfoldable pub openEvaluation : Unit {0}
-unfolding Evaluation.dueRelations Evaluation.evaluation
+unfolding Evaluation.dueRelations Evaluation.evaluation Evaluation.valueEvaluation
 openEvaluation = tt
 
 unfoldable pub openHouse : Unit {0}
@@ -300,8 +320,12 @@ unfoldable pub openMeaning : Unit {0}
 unfolding Meaning.valueOf Meaning.keptOf Meaning.answerOf Meaning.truthOf Meaning.rseTruth Meaning.clausesTruth Meaning.around Meaning.meaning
 openMeaning = tt
 
+unfoldable pub openMeaning2 : Unit {0}
+unfolding Meaning.gatheredOf Meaning.rseNumber Meaning.rseCount Meaning.aroundValue Meaning.valueMeaning
+openMeaning2 = tt
+
 unfoldable pub openRuns : Unit {0}
-unfolding Runs.dueRuns Runs.rseRuns Runs.clausesRuns Runs.runRelations Runs.parts Runs.lentRuns Runs.fetchAround Runs.within Runs.withinEach
+unfolding Runs.valueRuns Runs.dueRuns Runs.rseRuns Runs.clausesRuns Runs.runRelations Runs.parts Runs.lentRuns Runs.fetchAround Runs.within Runs.withinEach
 openRuns = tt
 
 unfoldable pub openTests : Unit {0}
@@ -365,7 +389,7 @@ unfolding openDecoding2 openDecoding3 openDecoding4 openDecoding5 openEvaluation
 everything6 = tt
 
 unfoldable pub everything7 : Unit {0}
-unfolding openTests openTests2 openValue openClasses openClasses2 openLists openOrders openWords openVersions
+unfolding openTests openTests2 openValue openClasses openClasses2 openLists openOrders openWords openVersions openNamed openMeaning2
 everything7 = tt
 
 unfoldable pub readAnswer : List ℕ → List ℕ → ℕ → ℕ → ℕ → Answer
@@ -375,3 +399,7 @@ readAnswer s d a b c = readingAnswer d (Reading.answer s d a b c)
 unfoldable pub evaluateAnswer : List ℕ → List ℕ → ℕ → List ℕ → List ℕ → List ℕ → Answer
 unfolding everything1 everything2 everything3 everything4 everything5 everything6 everything7
 evaluateAnswer s d n images records runs = truthAnswer (Evaluation.evaluation s d n images records runs)
+
+unfoldable pub valueAnswer : List ℕ → List ℕ → ℕ → List ℕ → List ℕ → List ℕ → Answer
+unfolding everything1 everything2 everything3 everything4 everything5 everything6 everything7
+valueAnswer s d k images records runs = fromAnswer (Evaluation.valueEvaluation s d k images records runs)

@@ -10,15 +10,15 @@ use Rattle.examples.proofs.Examples.{S, dictionary, bed}
 -- ---- requests
 
 -- an if whose condition, at 3, is a boolean of these bytes
-pub condition : List ℕ → List ℕ
+unfoldable pub condition : List ℕ → List ℕ
 condition bytes = 0x04 ∷ 0x02 ∷ 0x08 ∷ bytes ++ (0x02 ∷ 0xFF ∷ 0xFF ∷ 0xFF ∷ 0x4C ∷ [])
 
 -- an any (60) or a unique (62) of relation 1, BEDS, with a context of that number and these clauses
-pub over : ℕ → ℕ → List ℕ → List ℕ
+unfoldable pub over : ℕ → ℕ → List ℕ → List ℕ
 over code context clauses = code ∷ 0x43 ∷ 0x01 ∷ 0x4B ∷ 0x01 ∷ 0x00 ∷ context ∷ clauses ++ (0xFF ∷ [])
 
 -- HEAT of a context is above 30.0
-pub above : ℕ → List ℕ
+unfoldable pub above : ℕ → List ℕ
 above context = 0x31 ∷ 0x18 ∷ context ∷ 0x00 ∷ 0x00 ∷ 0x15 ∷ 0x07 ∷ 0xFF ∷ 0x2C ∷ 0x01 ∷ []
 
 -- 30.0 by HEAT of context 0 is above 0
@@ -36,13 +36,13 @@ nested = 0x3A ∷ over 60 1 (0x47 ∷ warmer) ++ above 0
 -- ---- runs
 
 -- HEAT 29.9, 30.1, 30.2, 10.0, 0.0 and 65535
-pub cool : List ℕ
+unfoldable pub cool : List ℕ
 cool = bed 0 0x2B 0x01
 
-pub warm : List ℕ
+unfoldable pub warm : List ℕ
 warm = bed 0 0x2D 0x01
 
-pub hot : List ℕ
+unfoldable pub hot : List ℕ
 hot = bed 0 0x2E 0x01
 
 pub ten : List ℕ
@@ -51,11 +51,11 @@ ten = bed 0 100 0
 pub zeroed : List ℕ
 zeroed = bed 0 0 0
 
-pub unread : List ℕ
+unfoldable pub unread : List ℕ
 unread = bed 0 0xFF 0xFF
 
 -- an entry of kind 7 of fewer than 252 bytes
-pub run : List ℕ → List ℕ
+unfoldable pub run : List ℕ → List ℕ
 run beds = (4 + length beds) ∷ 0 ∷ 7 ∷ 0 ∷ beds
 
 -- ---- answers

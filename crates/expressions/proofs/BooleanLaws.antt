@@ -13,6 +13,7 @@ use denote.Enum.Declared.{tagOf}
 use Rattle.wire.specs.Classes.{booleanClass}
 use Rattle.wire.specs.declared.codes.TextSearch.{TextSearch}
 use Rattle.wire.specs.declared.codes.Connective.{Connective}
+use Rattle.wire.specs.declared.codes.Quantifier.{Quantifier}
 use Rattle.wire.specs.declared.codes.BooleanCode.{BooleanCode}
 use Rattle.wire.specs.declared.codes.BooleanCode.the-variants.{Compare, Search, Between, Connect, Not, Missing, Quantify}
 use Rattle.wire.proofs.codes.BooleanCode.{the-type}
@@ -26,13 +27,13 @@ use Rattle.grammar.specs.declared.Fit.the-variants as Fit
 use Rattle.grammar.specs.declared.Step.{Step}
 use Rattle.grammar.specs.declared.Step.the-variants as Step
 use Rattle.grammar.specs.Tree.{Value, Boolean}
-use Rattle.grammar.specs.Bytes.{valueBytes, booleanBytes}
+use Rattle.grammar.specs.Bytes.{quantifierCode, valueBytes, booleanBytes}
 use Rattle.grammar.specs.Sizes.{booleanContexts}
 use Rattle.grammar.specs.Rows.{valueRows, booleanRows}
 use Rattle.grammar.specs.Environment.{Environment, Scope}
 use Rattle.grammar.specs.Kinds.{kindOf, oneKind, bothText, allOneKind}
 use Rattle.grammar.specs.Reader.{read, onRead, need}
-use Rattle.grammar.specs.Values.{readValue, booleanUnder, readBoolean}
+use Rattle.grammar.specs.Values.{oneStreamRse, readValue, quantifierUnder, booleanUnder, readBoolean}
 use Rattle.grammar.specs.Internal.Steps.{kindIn, stepOf, noKind}
 use Rattle.grammar.proofs.SoundValues.{boolean-sound}
 use Rattle.grammar.proofs.RowCounts.{boolean-rows}
@@ -41,7 +42,7 @@ use Rattle.tables.specs.Tables.{Tables, Wrote}
 use Rattle.tables.proofs.Chains.{stop, likewise, wrote-moved}
 use Rattle.expressions.specs.declared.heads.BooleanHead.{BooleanHead}
 use Rattle.expressions.specs.declared.heads.BooleanHead.the-variants as BooleanHead
-use Rattle.expressions.specs.Promises.{leveled, booleanHead, testStep, testsValues, booleanTables, operandsAt}
+use Rattle.expressions.specs.Promises.{leveled, booleanHead, testStep, testsValues, booleanTables, rseTables, operandsAt}
 use Rattle.expressions.proofs.Codes.{boolean-is, boolean-not, boolean-stands, leveled-of}
 use Rattle.expressions.proofs.Parts.{Bytes, octets, at-start, reached-on, Part, part-read, stops, made-of, made-if}
 use Rattle.expressions.proofs.ValueLaws.{ValueWrote, value-part}
@@ -209,6 +210,12 @@ module _ (s : List ℕ) (e : Environment) (sc : Scope) (l : ℕ) (c : Cursor) {h
     pub test-wrote : {t′ : Tables} {r : Step} → TestWrote s e sc (l - 1) (c .at) k q t t′ r → BooleanWrote s e sc l c t t′ r
     test-wrote w = likewise (boolean-leveled ∙ rw (boolean-is (leveled booleanClass l s c) (sym u ∙ i)))
         (wrote-moved (boolean-stands l s c u i .counts) w)
+
+    pub quantify-wrote : {x : Quantifier} {o : ℕ} {t′ : Tables} {r : Step} → k ≡ Quantify x → o ≡ quantifierCode x →
+        Wrote (oneStreamRse (operandsAt (l - 1) e) e sc o s q) noKind q (rseTables e sc o (q .at)) t t′ r → BooleanWrote s e sc l c t t′ r
+    unfolding booleanUnder quantifierUnder booleanRows
+    quantify-wrote {x} ke oe w = test-wrote (rw ke (made-of at-start {x = oneStreamRse (operandsAt (l - 1) e) e sc (quantifierCode x) s q}
+        (Boolean.quantify x) (λ r. refl) (λ r. rw (boolean-stands l s c u i .place)) (rw oe at w)))
 
     module _ {a : Step} {t₁ : Tables} (w : BooleanWrote s e sc (l - 1) q t t₁ a) where
       pub not-wrote : k ≡ Not → BooleanWrote s e sc l c t t₁ a

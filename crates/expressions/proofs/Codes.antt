@@ -202,8 +202,15 @@ module _ (l : ℕ) (s : List ℕ) (c : Cursor) {q : Cursor} where
     pub value-level : 1 ≤ l
     value-level = omega (arith, value-stands .some)
 
-    pub value-falls : {t : ℕ} → l ≡ t → l - 1 < t
+    pub value-falls : {t : ℕ} → l * 1024 ≡ t → (l - 1) * 1024 < t
     value-falls e = omega (arith, e, value-stands .some)
+
+    -- to the reader of a statistic or of an rse
+    pub value-rse-falls : {t : ℕ} → l * 1024 ≡ t → (l - 1) * 1024 + 306 < t
+    value-rse-falls e = omega (arith, e, value-stands .some)
+
+    pub value-place : q .at ≡ c .at + 1
+    value-place = value-stands .place
 
   module _ {h : BooleanHead} {k : BooleanCode} (u : h ≡ booleanHead (leveled booleanClass l s c)) (i : h ≡ BooleanHead.Is k q) where
     pub boolean-stands : Stands l s c q
@@ -212,11 +219,14 @@ module _ (l : ℕ) (s : List ℕ) (c : Cursor) {q : Cursor} where
     pub boolean-level : 1 ≤ l
     boolean-level = omega (arith, boolean-stands .some)
 
-    pub boolean-falls : {t : ℕ} → l * 8 ≡ t → (l - 1) * 8 < t
+    pub boolean-falls : {t : ℕ} → l * 1024 ≡ t → (l - 1) * 1024 < t
     boolean-falls e = omega (arith, e, boolean-stands .some)
 
-    pub quantifier-falls : {t : ℕ} → l * 8 ≡ t → (l - 1) * 8 + 6 < t
-    quantifier-falls e = omega (arith, e, boolean-stands .some)
+    pub test-falls : {t : ℕ} → l * 1024 ≡ t → (l - 1) * 1024 + 1 < t
+    test-falls e = omega (arith, e, boolean-stands .some)
+
+    pub boolean-rse-falls : {t : ℕ} → l * 1024 ≡ t → (l - 1) * 1024 + 306 < t
+    boolean-rse-falls e = omega (arith, e, boolean-stands .some)
 
     pub boolean-place : q .at ≡ c .at + 1
     boolean-place = boolean-stands .place
@@ -233,5 +243,5 @@ module _ (n : ℕ) (b t : Bool) (s : List ℕ) (c : Cursor) {h : ClauseHead} {k 
   pub clause-left : 1 ≤ n
   clause-left = omega (arith, clause-stood .0 .some)
 
-  pub clause-falls : (l : ℕ) {t : ℕ} → l * 8 + (1 + n) ≡ t → l * 8 + (1 + (n - 1)) < t
+  pub clause-falls : (l : ℕ) {t : ℕ} → l * 1024 + (301 + n) ≡ t → l * 1024 + (301 + (n - 1)) < t
   clause-falls l e = omega (arith, e, clause-stood .0 .some)

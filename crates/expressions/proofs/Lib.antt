@@ -4,4 +4,7 @@ pub mod ValueLaws
 pub mod BooleanLaws
 pub mod ClauseLaws
 pub mod ReadyLaws
-pub mod QuantifierLaws
+pub mod ValuesReady
+pub mod ClausesReady
+pub mod RseLaws
+pub mod StatisticLaws

@@ -4,12 +4,15 @@ use mathlib.Core.Path.{_≡_, refl, sym, ap, _∙_}
 use mathlib.Core.List.{List}
 use mathlib.Core.Option.{Option, none, some}
 use native.Mathlib.Omega.{arith}
+use lib.IntN.{pos}
 use lib.ListN.{length}
+use Rattle.wire.specs.Codes as blr
 use Rattle.wire.specs.Lists.{isSome}
 use Rattle.wire.specs.Classes.{valueClass}
 use Rattle.wire.specs.declared.codes.Version.{Version}
 use Rattle.wire.specs.declared.codes.Operator.{Operator}
 use Rattle.wire.specs.declared.codes.ReferenceCode.{ReferenceCode}
+use Rattle.wire.specs.declared.codes.Statistic.{Statistic}
 use Rattle.wire.specs.declared.codes.ValueCode.{ValueCode}
 use Rattle.wire.specs.declared.codes.ValueCode.the-variants as Code
 use Rattle.grammar.specs.Kind.{Kind}
@@ -18,26 +21,27 @@ use Rattle.grammar.specs.declared.Refusal.{Refusal}
 use Rattle.grammar.specs.declared.Refusal.the-variants.{Unfit}
 use Rattle.grammar.specs.declared.Role.the-variants.{AsValue}
 use Rattle.grammar.specs.declared.Fit.{Fit}
+use Rattle.grammar.specs.declared.Fit.the-variants as Fit
 use Rattle.grammar.specs.declared.Step.{Step}
 use Rattle.grammar.specs.declared.Step.the-variants as Step
-use Rattle.grammar.specs.Tree.{literal, reference, arithmetic, negate}
+use Rattle.grammar.specs.Tree.{literal, reference, arithmetic, negate, count}
 use Rattle.grammar.specs.Bytes.{valueBytes}
 use Rattle.grammar.specs.Sizes.{valueContexts}
 use Rattle.grammar.specs.Rows.{valueRows}
 use Rattle.grammar.specs.Environment.{Environment, Scope}
 use Rattle.grammar.specs.Kinds.{kindOf, arithmeticKind, negatedKind}
-use Rattle.grammar.specs.Reader.{read, refused, onRead, need}
-use Rattle.grammar.specs.Values.{readLiteral, readReference, valueUnder, readValue}
-use Rattle.grammar.specs.Internal.Steps.{fitOf, kindIn, stepOf}
+use Rattle.grammar.specs.Reader.{Read, read, refused, onRead, need}
+use Rattle.grammar.specs.Values.{readLiteral, readReference, oneStreamRse, statisticUnder, countUnder, valueUnder, readValue}
+use Rattle.grammar.specs.Internal.Steps.{fitOf, kindIn, stepOf, noKind}
 use Rattle.grammar.proofs.SoundValues.{value-sound}
 use Rattle.grammar.proofs.RowCounts.{value-rows}
 use Rattle.scopes.proofs.Scopes.{kind-fit}
 use Rattle.references.specs.Promises.{literalFit, referenceStep}
 use Rattle.tables.specs.Tables.{Tables, Wrote}
-use Rattle.tables.proofs.Chains.{stop, kept, likewise, wrote-moved}
+use Rattle.tables.proofs.Chains.{by-read, stop, kept, likewise, wrote-moved}
 use Rattle.expressions.specs.declared.heads.ValueHead.{ValueHead}
 use Rattle.expressions.specs.declared.heads.ValueHead.the-variants as ValueHead
-use Rattle.expressions.specs.Promises.{leveled, valueHead, kindStep, valueFit, valueTables, operandsAt}
+use Rattle.expressions.specs.Promises.{leveled, valueHead, kindStep, countStep, valueFit, valueTables, rseTables, operandsAt}
 use Rattle.expressions.proofs.Codes.{value-is, value-not, value-stands, leveled-of}
 use Rattle.expressions.proofs.Parts.{Bytes, octets, at-start, reached-on, Part, part-read, stops, made-of, made-if}
 
@@ -50,6 +54,13 @@ kind-step k (some x) v p s q e = rw e
 pub fitted-kind : (x : Option Kind) (f : Fit) (p : ℕ) (c : Cursor) {r : Step} → r ≡ kindStep (kindIn f) p c → f ≡ fitOf x →
     r ≡ kindStep x p c
 fitted-kind x f p c h e = h ∙ rw (e, kind-fit x)
+
+-- a count as its answer
+as-count : {A : Type 0} {x : Read A} {c : Cursor} {rows : A → Tables} {t t′ : Tables} {a r : Step} → Wrote x noKind c rows t t′ a →
+    r ≡ countStep a → Wrote x (λ b. Fit.Number (pos 0)) c rows t t′ r
+as-count {A} {x} w h = by-read x
+    (λ b q e. record { answer = h ∙ ap countStep (w .answer) ∙ rw e; filled = w .filled })
+    (λ n p e. record { answer = h ∙ ap countStep (w .answer) ∙ rw e; filled = w .filled })
 
 module _ (s : List ℕ) (e : Environment) (sc : Scope) (l : ℕ) where
   -- what is promised of a value, and a value that was read
@@ -97,6 +108,19 @@ module _ (s : List ℕ) (e : Environment) (sc : Scope) (l : ℕ) (c : Cursor) {h
       unfolding valueUnder kindOf valueRows referenceStep
       reference-wrote {r} {code} ke h = under (Code.Reference code) ke
           (made-of at-start {x = readReference e sc AsValue (c .at) code s q} reference (λ a. refl) (λ a. refl) (kept h))
+
+      pub statistic-wrote : {m : Statistic} {t₁ : Tables} {r : Step} → k ≡ Code.Statistic m →
+          Wrote (statisticUnder (operandsAt (l - 1) e) e sc (c .at) m s q) (valueFit e sc) q (valueTables e sc (c .at)) t t₁ r →
+          ValueWrote s e sc l c t t₁ r
+      unfolding valueUnder
+      statistic-wrote {m} ke w = under (Code.Statistic m) ke w
+
+      pub count-wrote : {t₁ : Tables} {a r : Step} → k ≡ Code.Count →
+          Wrote (oneStreamRse (operandsAt (l - 1) e) e sc blr.count s q) noKind q (rseTables e sc blr.count (q .at)) t t₁ a →
+          r ≡ countStep a → ValueWrote s e sc l c t t₁ r
+      unfolding valueUnder countUnder kindOf valueRows
+      count-wrote ke w h = under Code.Count ke (made-of at-start {x = oneStreamRse (operandsAt (l - 1) e) e sc blr.count s q} count
+          (λ a. refl) (λ a. rw (value-stands l s c u i .place)) (as-count w h))
 
       module _ {a : Step} {t₁ : Tables} (w : ValueWrote s e sc (l - 1) q t t₁ a) where
         -- a refused operand refuses the whole

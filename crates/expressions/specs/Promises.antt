@@ -5,13 +5,14 @@ use mathlib.Core.Bool.{Bool, true, false, not as negation}
 use mathlib.Core.List.{List, _++_, map}
 use mathlib.Core.Option.{Option, none, some}
 use lib.Dec.{eqb, ltb}
+use lib.IntN.{pos}
 use lib.ListN.{length}
 use Rattle.wire.specs.Limits.{maxRequestBytes, maxDepth, maxContexts}
 use Rattle.wire.specs.Classes.{Class, clauseClass}
 use Rattle.wire.specs.declared.codes.ValueCode.{ValueCode}
 use Rattle.wire.specs.declared.codes.BooleanCode.{BooleanCode}
 use Rattle.wire.specs.declared.codes.BooleanCode.the-variants.{Compare, Search, Between, Connect, Not, Missing, Quantify}
-use Rattle.wire.specs.declared.codes.Quantifier.{Quantifier}
+use Rattle.wire.specs.declared.codes.Statistic.{Statistic}
 use Rattle.wire.specs.declared.codes.ClauseCode.{ClauseCode}
 use Rattle.wire.specs.declared.codes.ClauseCode.the-variants as Clause
 use Rattle.grammar.specs.Kind.{Kind}
@@ -22,14 +23,15 @@ use Rattle.grammar.specs.declared.Step.the-variants as Step
 use Rattle.grammar.specs.declared.Fit.{Fit}
 use Rattle.grammar.specs.declared.Fit.the-variants as Fit
 use Rattle.grammar.specs.Tree as Tree
-use Rattle.grammar.specs.Tree.{Value, Boolean, Keys}
+use Rattle.grammar.specs.Tree.{Value, Boolean, Keys, Rse}
+use Rattle.grammar.specs.Bytes.{rseBytes}
 use Rattle.grammar.specs.Environment.{Environment, Scope}
 use Rattle.grammar.specs.Kinds.{kindOf}
-use Rattle.grammar.specs.Rows.{valueRows, booleanRows, keysRows, clausesRows}
+use Rattle.grammar.specs.Rows.{valueRows, booleanRows, keysRows, clausesRows, rseRows}
 use Rattle.grammar.specs.Conditions.{clausesConditions}
 use Rattle.grammar.specs.Reader.{Read, read, refused, Reader, _>>=_, _>>_, return, need, place, coded}
 use Rattle.grammar.specs.Rses.{keys, sort, clauses}
-use Rattle.grammar.specs.Values.{Operands, operands, readValue, quantifierUnder, booleanUnder, readBoolean}
+use Rattle.grammar.specs.Values.{Operands, operands, oneStreamRse, statisticUnder, readValue, booleanUnder, readBoolean}
 use Rattle.grammar.specs.Internal.Steps.{fitOf, noKind}
 use Rattle.tables.specs.Tables.{Tables, contextsAlone, Wrote}
 use Rattle.tables.specs.Written.{listed}
@@ -91,6 +93,11 @@ abbrev pub testStep : Bool → ℕ → Cursor → Step
 testStep true p c = Step.Next Fit.NoKind c
 testStep false p c = Step.Refused Unfit p
 
+-- a count of what was read, a number of scale 0
+abbrev pub countStep : Step → Step
+countStep (Step.Next f c) = Step.Next (Fit.Number (pos 0)) c
+countStep (Step.Refused r p) = Step.Refused r p
+
 -- a boolean of this code has values under it, and no booleans
 abbrev pub testsValues : BooleanCode → Bool
 testsValues (Compare o) = true
@@ -142,10 +149,18 @@ abbrev pub TestRead : ℕ → Environment → Scope → ℕ → BooleanCode → 
 TestRead l e sc p k s c ct ct′ r =
     Wrote (booleanUnder (operandsAt l e) e sc p k s c) noKind c (booleanTables e sc p) (contextsAlone ct) (contextsAlone ct′) r
 
--- an any or a unique after its code at p
-abbrev pub QuantifierRead : ℕ → Environment → Scope → ℕ → Quantifier → List ℕ → Cursor → List ℕ → List ℕ → Step → Type 0
-QuantifierRead l e sc p q s c ct ct′ r =
-    Wrote (quantifierUnder (operandsAt l e) e sc q s c) noKind c (booleanTables e sc p) (contextsAlone ct) (contextsAlone ct′) r
+-- the rse of an any, a unique or a count, which a code opens
+abbrev pub rseTables : Environment → Scope → ℕ → ℕ → Rse → Tables
+rseTables e sc o p r = contextsAlone (rseRows (e .relations) o sc r p (p + length (rseBytes r)))
+
+abbrev pub RseRead : ℕ → Environment → Scope → ℕ → List ℕ → Cursor → List ℕ → List ℕ → Step → Type 0
+RseRead l e sc o s c ct ct′ r =
+    Wrote (oneStreamRse (operandsAt l e) e sc o s c) noKind c (rseTables e sc o (c .at)) (contextsAlone ct) (contextsAlone ct′) r
+
+-- a statistic after its code at p
+abbrev pub StatisticRead : ℕ → Environment → Scope → ℕ → Statistic → List ℕ → Cursor → List ℕ → List ℕ → Step → Type 0
+StatisticRead l e sc p k s c ct ct′ r =
+    Wrote (statisticUnder (operandsAt l e) e sc p k s c) (valueFit e sc) c (valueTables e sc p) (contextsAlone ct) (contextsAlone ct′) r
 
 abbrev pub keysTables : Environment → Scope → ℕ → Keys → Tables
 keysTables e sc p ks = contextsAlone (keysRows (e .relations) sc ks p)

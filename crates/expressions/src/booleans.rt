@@ -5,22 +5,20 @@ ghost use Prim.Native.Nat.{_+_};
 ghost use Rattle.references.specs.Promises.{environmentOf};
 ghost use Rattle.scopes.specs.Scopes.{scopeOf};
 ghost use Rattle.grammar.specs.Bytes.{quantifierCode};
-ghost use Rattle.expressions.specs.Promises.{Ready, testsValues, TestRead, QuantifierRead, BooleanRead};
-use crate::clauses::read_clauses;
+ghost use Rattle.expressions.specs.Promises.{Ready, testsValues, TestRead, BooleanRead};
 use crate::fits::tested;
 use crate::heads::BooleanHead;
 use crate::heads::boolean_at;
+use crate::rses::read_rse;
 use crate::values::read_value;
 use grammar::Cursor;
 use grammar::Fit;
 use grammar::Step;
 use messages::declared::AROUND;
-use openings::opening::read_head;
 use scopes::kinds::all_one_kind;
 use scopes::kinds::both_text;
 use scopes::kinds::one_kind;
 use scopes::scope::SCOPE;
-use tables::contexts::close;
 use wire::blr::ANY;
 use wire::blr::UNIQUE;
 use wire::codes::BooleanCode;
@@ -39,9 +37,10 @@ fn read_test(
     levels: usize,
 ) -> Step
     requires { ⌜ (testsValues k ≡ true) × (c .at ≡ at + 1) ⌝ }
-    ensures { λ r. ⌜ TestRead levels (environmentOf (now (dictionary .entry)) (now (around .entry)))
+    ensures { λ r. ⌜ (Ready (now (request .entry)) (now (dictionary .entry)) (now (scope .entry)) c levels →
+        TestRead levels (environmentOf (now (dictionary .entry)) (now (around .entry)))
         (scopeOf (now (dictionary .entry)) (now (scope .entry))) at k (now (request .entry)) c
-        (now (contexts .entry)) (now (contexts .exit)) r ⌝ }
+        (now (contexts .entry)) (now (contexts .exit)) r) ⌝ }
 {
     let a = read_value(request, dictionary, around, scope, contexts, c, levels);
     let Step::Next(x, second) = a else {
@@ -74,51 +73,6 @@ fn quantifier_code(q: Quantifier) -> u8
         Quantifier::Any => ANY,
         Quantifier::Unique => UNIQUE,
     }
-}
-
-// An any or a unique after its code at a place: an rse of one stream, whose context is in scope inside it.
-fn read_quantifier(
-    request: &[u8],
-    dictionary: &[u8],
-    around: &[u32; AROUND],
-    scope: &[u16; SCOPE],
-    contexts: &mut [u32],
-    q: Quantifier,
-    at: usize,
-    c: Cursor,
-    levels: usize,
-) -> Step
-    requires { ⌜ c .at ≡ at + 1 ⌝ }
-    ensures { λ r. ⌜ (Ready (now (request .entry)) (now (dictionary .entry)) (now (scope .entry)) c (levels + 1) →
-        QuantifierRead levels (environmentOf (now (dictionary .entry)) (now (around .entry)))
-        (scopeOf (now (dictionary .entry)) (now (scope .entry))) at q (now (request .entry)) c
-        (now (contexts .entry)) (now (contexts .exit)) r) ⌝ }
-{
-    let mut inside = *scope;
-    let head = read_head(
-        request,
-        dictionary,
-        contexts,
-        &mut inside,
-        1,
-        quantifier_code(q),
-        c,
-    );
-    let Step::Next(_, first) = head else {
-        return head;
-    };
-    let cs = read_clauses(
-        request,
-        dictionary,
-        around,
-        &inside,
-        contexts,
-        first,
-        levels,
-    );
-    let clauses = cs.step;
-    close(contexts, c.contexts as usize, first, clauses);
-    clauses
 }
 
 // A boolean, with so many levels left for it.
@@ -156,14 +110,13 @@ pub fn read_boolean(
                     levels - 1,
                 )
             }
-            BooleanCode::Quantify(q) => read_quantifier(
+            BooleanCode::Quantify(q) => read_rse(
                 request,
                 dictionary,
                 around,
                 scope,
                 contexts,
-                q,
-                c.at,
+                quantifier_code(q),
                 first,
                 levels - 1,
             ),

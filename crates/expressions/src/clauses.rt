@@ -46,9 +46,10 @@ fn read_keys(
     levels: usize,
     left: usize,
 ) -> Step
-    ensures { λ r. ⌜ KeysRead left levels (environmentOf (now (dictionary .entry)) (now (around .entry)))
+    ensures { λ r. ⌜ (Ready (now (request .entry)) (now (dictionary .entry)) (now (scope .entry)) c levels →
+        KeysRead left levels (environmentOf (now (dictionary .entry)) (now (around .entry)))
         (scopeOf (now (dictionary .entry)) (now (scope .entry))) (now (request .entry)) c
-        (now (contexts .entry)) (now (contexts .exit)) r ⌝ }
+        (now (contexts .entry)) (now (contexts .exit)) r) ⌝ }
 {
     if left == 0 {
         return Step::Next(Fit::NoKind, c);
@@ -83,9 +84,10 @@ fn read_sort(
     c: Cursor,
     levels: usize,
 ) -> Step
-    ensures { λ r. ⌜ SortRead levels (environmentOf (now (dictionary .entry)) (now (around .entry)))
+    ensures { λ r. ⌜ (Ready (now (request .entry)) (now (dictionary .entry)) (now (scope .entry)) c levels →
+        SortRead levels (environmentOf (now (dictionary .entry)) (now (around .entry)))
         (scopeOf (now (dictionary .entry)) (now (scope .entry))) (now (request .entry)) c
-        (now (contexts .entry)) (now (contexts .exit)) r ⌝ }
+        (now (contexts .entry)) (now (contexts .exit)) r) ⌝ }
 {
     match count_byte(request, c) {
         ByteStep::Is(n, first) => read_keys(

@@ -2,7 +2,7 @@
 ghost use mathlib.Core.Path.{_≡_};
 ghost use Rattle.grammar.specs.Kinds.{arithmeticKind, negatedKind};
 ghost use Rattle.grammar.specs.Internal.Steps.{kindIn};
-ghost use Rattle.expressions.specs.Promises.{kindStep, testStep};
+ghost use Rattle.expressions.specs.Promises.{kindStep, testStep, countStep};
 use grammar::Cursor;
 use grammar::Fit;
 use grammar::Refusal;
@@ -45,4 +45,14 @@ pub(crate) fn negation(x: Fit, at: usize, c: Cursor) -> Step
     ensures { λ r. ⌜ r ≡ kindStep (negatedKind (kindIn x)) at c ⌝ }
 {
     fitted(negated_fit(x), at, c)
+}
+
+// A count of what was read.
+pub(crate) fn counted(r: Step) -> Step
+    ensures { λ x. ⌜ x ≡ countStep r ⌝ }
+{
+    match r {
+        Step::Next(_, c) => Step::Next(Fit::Number(0), c),
+        Step::Refused(n, p) => Step::Refused(n, p),
+    }
 }

@@ -3,4 +3,5 @@ pub mod booleans;
 pub mod clauses;
 pub mod fits;
 mod heads;
+mod rses;
 pub mod values;

@@ -9,7 +9,9 @@ use Rattle.wire.specs.declared.codes.DataType.the-variants.{Number, Chars}
 use Rattle.wire.specs.declared.codes.LiteralType.the-variants.{NumberLiteral}
 use Rattle.wire.specs.declared.codes.Operator.{Operator}
 use Rattle.wire.specs.declared.codes.Operator.the-variants.{Add, Subtract, Multiply, Divide}
-use Rattle.wire.specs.declared.codes.ValueCode.the-variants.{Arithmetic}
+use Rattle.wire.specs.declared.codes.ValueCode.the-variants as Code
+use Rattle.wire.specs.declared.codes.Statistic.{Statistic}
+use Rattle.wire.specs.declared.codes.Statistic.the-variants.{Average, Maximum, Minimum, Total}
 use Rattle.wire.specs.declared.codes.Comparison.{Comparison}
 use Rattle.wire.specs.declared.codes.Comparison.the-variants.{Eql, Neq, Gtr, Geq, Lss, Leq}
 use Rattle.wire.specs.declared.codes.TextSearch.{TextSearch}
@@ -21,7 +23,7 @@ use Rattle.wire.specs.declared.codes.Quantifier.{Quantifier}
 use Rattle.wire.specs.declared.codes.Quantifier.the-variants.{Any, Unique}
 use Rattle.wire.specs.declared.codes.Direction.{Direction}
 use Rattle.wire.specs.declared.codes.Direction.the-variants.{Ascending, Descending}
-use Rattle.grammar.specs.Bytes.{widthCode, textCode, operatorCode, comparisonCode, searchCode, connectiveCode, quantifierCode, directionCode}
+use Rattle.grammar.specs.Bytes.{widthCode, textCode, operatorCode, statisticCode, comparisonCode, searchCode, connectiveCode, quantifierCode, directionCode}
 
 pub width-due : (w : Width) → descriptorClass (widthCode w) ≡ due (Number w)
 unfolding descriptorClass classify
@@ -41,12 +43,19 @@ number-due Short = refl
 number-due Long = refl
 number-due Int64 = refl
 
-pub operator-due : (o : Operator) → valueClass (operatorCode o) ≡ due (Arithmetic o)
+pub operator-due : (o : Operator) → valueClass (operatorCode o) ≡ due (Code.Arithmetic o)
 unfolding valueClass classify
 operator-due Add = refl
 operator-due Subtract = refl
 operator-due Multiply = refl
 operator-due Divide = refl
+
+pub statistic-due : (k : Statistic) → valueClass (statisticCode k) ≡ due (Code.Statistic k)
+unfolding valueClass classify
+statistic-due Average = refl
+statistic-due Maximum = refl
+statistic-due Minimum = refl
+statistic-due Total = refl
 
 pub comparison-due : (c : Comparison) → booleanClass (comparisonCode c) ≡ due (Compare c)
 unfolding booleanClass classify

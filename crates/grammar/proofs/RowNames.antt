@@ -1,4 +1,4 @@
--- The boolean that a statement's row names is the condition of that number.
+-- The boolean that a statement's row names is the condition of that number, and the row of an assignment tells where its from-value stands.
 use Prim.Native.Nat.{ℕ, zero, suc, _+_, _-_, _*_, _≤_}
 use mathlib.Core.Path.{_≡_, refl, sym, ap, ap₂, _∙_, subst}
 use mathlib.Core.List.{List, [], _∷_, _++_, append-assoc}
@@ -6,15 +6,16 @@ use mathlib.Core.Option.{Option, some}
 use native.Mathlib.Nat.{zero-add, add-zero, suc-add, add-assoc}
 use native.Mathlib.Omega.{arith}
 use lib.ListN.{length, getD, getElem?, length-append}
+use Rattle.wire.specs.Codes as blr
 use Rattle.wire.specs.Words.{byteAt}
 use Rattle.dictionary.specs.Dictionary.{Relation}
-use Rattle.grammar.specs.Tree.{Statement, assignment, begin, erase, for, headed, leave, if, ifElse, select, Statements, none as nothing, _then_, Receives, last, more, Request}
+use Rattle.grammar.specs.Tree.{Heading, loop, modify, handler, receive, send, store, label, Statement, assignment, begin, erase, for, headed, leave, if, ifElse, select, Statements, none as nothing, _then_, Receives, last, more, Request}
 use Rattle.grammar.specs.Bytes.{rseBytes, headingBytes, booleanBytes, statementBytes}
 use Rattle.grammar.specs.Environment.{Scope, outermost, underRse, underHeading}
 use Rattle.grammar.specs.Sizes.{rseBooleans, ownConditions, statementCount, conditionCount}
 use Rattle.grammar.specs.Rows.{size, booleanNumber, rowsBelow, statementRows, statementsRows, receivesRows, statementsStart, requestStatementRows}
 use Rattle.grammar.specs.Conditions.{Condition, condition, rseConditions, conditions, statementsConditions, receivesConditions, requestConditions}
-use Rattle.grammar.specs.Named.{Own, own, ownBooleans, ownsBelow, ownsOf, receivesOwns, requestOwns, rowBoolean, Named}
+use Rattle.grammar.specs.Named.{Own, own, ownBooleans, ownValue, ownsBelow, ownsOf, receivesOwns, requestOwns, rowPlace, rowCode, rowBoolean, Named, fromOf, fromValue, FromTold}
 use Rattle.grammar.proofs.FewConditions.{rse-count, conditions-count}
 
 -- ---- rows tell the places of statements and the numbers of their booleans, before which k have a number
@@ -23,10 +24,11 @@ abbrev Told : List Own → ℕ → List ℕ → Type 0
 Told [] k rows = rows ≡ []
 Told (o ∷ os) k rows =
     (a : ℕ) × (b : ℕ) × (c : ℕ) × (rest : List ℕ) ×
-    (rows ≡ o .place ∷ a ∷ b ∷ c ∷ booleanNumber (length (o .conditions)) k ∷ rest) × Told os (k + length (o .conditions)) rest
+    (rows ≡ o .place ∷ a ∷ b ∷ c ∷ booleanNumber (length (o .conditions)) k ∷ rest) × Told os (k + length (o .conditions)) rest ×
+    FromTold (o .from) (o .place) a
 
 -- the conditions of all
-abbrev allOwn : List Own → List Condition
+abbrev pub allOwn : List Own → List Condition
 allOwn [] = []
 allOwn (o ∷ os) = o .conditions ++ allOwn os
 
@@ -45,6 +47,7 @@ told-append (o ∷ a) b k j rows rows′ e t u = (
   rw (t .4),
   told-append a b (k + length (o .conditions)) j (t .3) rows′
       (e ∙ ap (λ z. k + z) (length-append (o .conditions) (allOwn a)) ∙ sym (add-assoc k (length (o .conditions)) (length (allOwn a)))) (t .5) u,
+  t .6,
 )
 
 module _ (d : List Relation) where
@@ -78,7 +81,7 @@ module _ (d : List Relation) where
         ap₂ (λ x y. x ++ y) (all-own sc s q) (all-own sc t (q + size s)))
     all-own sc (select rs) p = all-received sc rs (p + 1)
 
-    all-owns : (sc : Scope) (ts : Statements) (p : ℕ) → allOwn (ownsOf d sc ts p) ≡ statementsConditions d sc ts p
+    pub all-owns : (sc : Scope) (ts : Statements) (p : ℕ) → allOwn (ownsOf d sc ts p) ≡ statementsConditions d sc ts p
     all-owns sc nothing p = refl
     all-owns sc (t then ts) p =
         all-append (own d sc t p ∷ ownsBelow d sc t p) _ ∙ ap₂ (λ x y. x ++ y) (all-own sc t p) (all-owns sc ts (p + size t))
@@ -94,6 +97,28 @@ module _ (d : List Relation) where
       k + conditionCount t ≡ k + length (allOwn (own d sc t p ∷ ownsBelow d sc t p))
   after-one sc t p k = ap (λ z. k + z) (sym (ap length (all-own sc t p) ∙ conditions-count d sc t p))
 
+  -- the code of a statement tells whether it has a from-value
+  own-told : (sc : Scope) (t : Statement) (p : ℕ) → FromTold (ownValue sc t p) p (byteAt (statementBytes t) 0)
+  unfolding ownValue statementBytes headingBytes
+  own-told sc (assignment v t) p = (refl, refl)
+  own-told sc (begin ss) p = λ e. omega arith
+  own-told sc (erase c) p = λ e. omega arith
+  own-told sc (for r s) p = λ e. omega arith
+  own-told sc (headed h s) p = heading-told h
+    where
+      heading-told : (h : Heading) → byteAt (headingBytes h ++ statementBytes s) 0 ≡ blr.assignment → ⊥
+      heading-told loop e = omega arith
+      heading-told (modify from to) e = omega arith
+      heading-told handler e = omega arith
+      heading-told (receive m) e = omega arith
+      heading-told (send m) e = omega arith
+      heading-told (store x) e = omega arith
+      heading-told (label n) e = omega arith
+  own-told sc (leave n) p = λ e. omega arith
+  own-told sc (if b s) p = λ e. omega arith
+  own-told sc (ifElse b s t) p = λ e. omega arith
+  own-told sc (select rs) p = λ e. omega arith
+
   -- the row of a statement, above those of the statements inside it
   told-one : (sc : Scope) (t : Statement) (p n parent k : ℕ) → Told (ownsBelow d sc t p) (k + ownConditions t) (rowsBelow t p (n + 1) k) →
       Told (own d sc t p ∷ ownsBelow d sc t p) k (statementRows t p n parent k)
@@ -104,6 +129,7 @@ module _ (d : List Relation) where
     rowsBelow t p (n + 1) k,
     rw (own-count sc t p) refl,
     rw (own-count sc t p) u,
+    own-told sc t p,
   )
 
   -- the rows tell them
@@ -133,7 +159,7 @@ module _ (d : List Relation) where
         (told-all sc ts (p + size t) (n + statementCount t) parent (k + conditionCount t))
 
     told-received : (sc : Scope) (rs : Receives) (p n parent k : ℕ) → Told (receivesOwns d sc rs p) k (receivesRows rs p n parent k)
-    told-received sc (last m s) p n parent k = (_, _, _, _, refl, rw (add-zero k) (told-one sc s (p + 2) (n + 1) (n + 1) k (told-below sc s (p + 2) (n + 1 + 1) k)))
+    told-received sc (last m s) p n parent k = (_, _, _, _, refl, rw (add-zero k) (told-one sc s (p + 2) (n + 1) (n + 1) k (told-below sc s (p + 2) (n + 1 + 1) k)), λ e. omega arith)
     told-received sc (more m s rs) p n parent k = (
       _,
       _,
@@ -146,6 +172,7 @@ module _ (d : List Relation) where
           (after-one sc s (p + 2) k)
           (told-one sc s (p + 2) (n + 1) (n + 1) k (told-below sc s (p + 2) (n + 1 + 1) k))
           (told-received sc rs (p + 2 + size s) (n + 1 + statementCount s) parent (k + conditionCount s))),
+      λ e. omega arith,
     )
 
   -- ---- a row's fifth number
@@ -204,12 +231,15 @@ module _ (d : List Relation) where
         numbered = rw (on, skip l (allOwn os) (n - (k + length l))) (u .numbered);
       }
 
+  request-told : (r : Request) → Told (requestOwns d r) 0 (requestStatementRows r)
+  unfolding requestOwns requestStatementRows
+  request-told r = (_, _, _, _, refl, told-all outermost (r .statements) (statementsStart r) 1 1 0, λ e. omega arith)
+
   -- 02, No. 7: the boolean that row k names is the condition of that number
   pub row-names : (r : Request) (k n : ℕ) → rowBoolean r k ≡ suc n → Named d r k n
   unfolding requestOwns requestStatementRows requestConditions
   row-names r k n e =
-      let told : Told (requestOwns d r) 0 (requestStatementRows r) =
-      (_, _, _, _, refl, told-all outermost (r .statements) (statementsStart r) 1 1 0) in
+      let told = request-told r in
       let u = tells (requestOwns d r) 0 (requestStatementRows r) told k n e in
       let same : n - 0 ≡ n = omega arith in
       record {
@@ -222,3 +252,19 @@ module _ (d : List Relation) where
         numbered = ap (λ z. getElem? (requestConditions d r) z) (sym same) ∙
             ap (λ z. getElem? z (n - 0)) (sym (all-owns outermost (r .statements) (statementsStart r))) ∙ u .numbered;
       }
+
+  -- ---- a row's first two numbers
+
+  from-told : (os : List Own) (k : ℕ) (rows : List ℕ) → Told os k rows → (i : ℕ) →
+      FromTold (fromOf (getElem? os i)) (getD rows (i * 5) 0) (getD rows (i * 5 + 1) 0)
+  from-told [] k rows t i = λ e. let zeros : _≡_ {A = ℕ} 0 1 = ap (λ z. getD z (i * 5 + 1) 0) (sym t) ∙ e in omega arith
+  from-told (o ∷ os) k rows t zero = rw (t .4) (t .6)
+  from-told (o ∷ os) k rows t (suc i) =
+      let five : (suc i) * 5 ≡ suc (suc (suc (suc (suc (i * 5))))) = omega arith in
+      let six : suc (suc (suc (suc (suc (i * 5))))) + 1 ≡ suc (suc (suc (suc (suc (i * 5 + 1))))) = omega arith in
+      rw (t .4, five, six) (from-told os (k + length (o .conditions)) (t .3) (t .5) i)
+
+  -- 02, No. 9: "An assignment's from-value can be asked for by its row (from 0)"
+  pub row-values : (r : Request) (k : ℕ) → FromTold (fromValue d r k) (rowPlace r k) (rowCode r k)
+  unfolding fromValue
+  row-values r k = from-told (requestOwns d r) 0 (requestStatementRows r) (request-told r) k

@@ -7,29 +7,31 @@ use native.Mathlib.Omega.{arith}
 use lib.Dec.{leb}
 use lib.ListN.{length, drop}
 use borrow.Author.Tests.{leb-true}
+use Rattle.wire.specs.Codes as blr
 use Rattle.wire.specs.Lists.{isSome}
 use Rattle.wire.specs.declared.codes.ValueCode.{ValueCode}
 use Rattle.wire.specs.declared.codes.ValueCode.the-variants as Code
+use Rattle.wire.specs.declared.codes.Statistic.{Statistic}
 use Rattle.wire.specs.declared.codes.Quantifier.{Quantifier}
 use Rattle.wire.specs.declared.codes.BooleanCode.{BooleanCode}
 use Rattle.wire.specs.declared.codes.BooleanCode.the-variants.{Compare, Search, Between, Connect, Not, Missing, Quantify}
 use Rattle.grammar.specs.declared.Cursor.{Cursor}
 use Rattle.grammar.specs.declared.Role.the-variants.{AsValue}
 use Rattle.grammar.specs.declared.Refusal.the-variants.{Unfit}
-use Rattle.grammar.specs.Tree.{Stream, Literal, Reference, Value, arithmetic, negate, Boolean, compare, search}
-use Rattle.grammar.specs.Bytes.{quantifierCode, valueBytes, booleanBytes}
-use Rattle.grammar.specs.Environment.{Environment, Scope, underStreams}
+use Rattle.grammar.specs.Tree.{Stream, Literal, Reference, Value, arithmetic, negate, statistic, Boolean, compare, search, Rse}
+use Rattle.grammar.specs.Bytes.{statisticCode, quantifierCode, valueBytes, booleanBytes}
+use Rattle.grammar.specs.Environment.{Environment, Scope, underStreams, underRseOf}
 use Rattle.grammar.specs.Kinds.{kindOf, oneKind, bothText, allOneKind}
-use Rattle.grammar.specs.Sizes.{valueDepth, booleanDepth, valueContexts, booleanContexts, countInRange, StreamsInRange}
+use Rattle.grammar.specs.Sizes.{valueDepth, booleanDepth, valueContexts, booleanContexts, countInRange, StreamsInRange, OneStream}
 use Rattle.grammar.specs.Rules.{ValueAllowed, BooleanAllowed}
 use Rattle.grammar.specs.Reader.{read, onRead, need, coded}
 use Rattle.grammar.specs.Rses.{rseHead, clauses}
-use Rattle.grammar.specs.Values.{readLiteral, readReference, Operands, operands, valueUnder, readValue, quantifierUnder, booleanUnder, readBoolean}
+use Rattle.grammar.specs.Values.{readLiteral, readReference, Operands, operands, oneStreamRse, statisticUnder, countUnder, valueUnder, readValue, quantifierUnder, booleanUnder, readBoolean}
 use Rattle.grammar.specs.Demands.{Octets}
 use Rattle.grammar.proofs.Went.{Went, never, undo, same, needed, both, onward, coded-onward}
 use Rattle.grammar.proofs.Codes.{valueCode, booleanCode, value-due, boolean-due, coded-went}
 use Rattle.grammar.proofs.SoundReferences.{literal-sound, reference-sound}
-use Rattle.grammar.proofs.SoundRses.{ReadsValues, ReadsBooleans, head-sound, clauses-sound, rse-sound}
+use Rattle.grammar.proofs.SoundRses.{ReadsValues, ReadsBooleans, RseSound, head-sound, clauses-sound, rse-sound}
 
 -- readers of booleans and values, one level down, that are sound
 pub record OperandsSound (l : ℕ) (e : Environment) (s : List ℕ) (below : Operands) : Type 0 where
@@ -64,7 +66,50 @@ one-stream ss t u =
 
 module _ (s : List ℕ) (octets : Octets s) (e : Environment) (below : Operands) (l : ℕ) (sound : OperandsSound l e s below) where
   module _ (sc : Scope) (p : ℕ) where
+    -- ---- the rse of an any, a unique or a statistic
+
+    one-rse-sound : (opener : ℕ) (c : Cursor) (r : Rse) (c′ : Cursor) → oneStreamRse below e sc opener s c ≡ read r c′ →
+        OneStream r × RseSound l e opener sc s c r c′
+    unfolding oneStreamRse
+    one-rse-sound opener c r c′ h = undo (rseHead 1 (e .relations) opener sc s c) _ h (λ ss q e₁ w.
+        let under = underStreams (e .relations) opener sc ss in
+        undo (clauses 3 (below .boolean under) (below .value under) false false s q) _ w (λ cs q₁ e₂ w₁.
+        let i = head-sound s octets (e .relations) 1 opener sc c ss q e₁ in
+        let j = clauses-sound l e under s (below .boolean under) (below .value under) (sound .boolean under) (sound .value under) 3 false
+        false q cs q₁ e₂ in
+        same w₁ (λ r c′. OneStream r × RseSound l e opener sc s c r c′)
+        (one-stream ss (i .ranged) (i .few-streams), rse-sound l e opener sc s c ss q cs q₁ i j)))
+
     -- ---- values
+
+    statistic-sound : (k : Statistic) (c : Cursor) (v : Value) (c′ : Cursor) →
+        statisticUnder below e sc p k s c ≡ read v c′ → ValueUnderSound l e sc (Code.Statistic k) s c v c′
+    unfolding statisticUnder valueBytes valueDepth valueContexts
+    statistic-sound k c v c′ h = undo (oneStreamRse below e sc (statisticCode k) s c) _ h (λ r q e₁ w.
+        let under = underRseOf (e .relations) (statisticCode k) sc r in
+        undo (below .value under s q) _ w (λ a q₁ e₂ w₁. needed (isSome (kindOf e sc (statistic k r a))) _ _ _ _ _ w₁ (λ t w₂.
+        let i = one-rse-sound (statisticCode k) c r q e₁ in
+        let j = sound .value under q a q₁ e₂ in
+        same w₂ (λ v c′. ValueUnderSound l e sc (Code.Statistic k) s c v c′) (record {
+          went = onward (i .1 .went) (j .went);
+          starts = refl;
+          depth = omega (arith, i .1 .depth, j .depth);
+          allowed = (i .0, i .1 .allowed, j .allowed, t);
+          few = λ f. j .few (i .1 .few f);
+        }))))
+
+    count-sound : (c : Cursor) (v : Value) (c′ : Cursor) →
+        countUnder below e sc s c ≡ read v c′ → ValueUnderSound l e sc Code.Count s c v c′
+    unfolding countUnder valueBytes valueDepth valueContexts
+    count-sound c v c′ h = undo (oneStreamRse below e sc blr.count s c) _ h (λ r q e₁ w.
+        let i = one-rse-sound blr.count c r q e₁ in
+        same w (λ v c′. ValueUnderSound l e sc Code.Count s c v c′) (record {
+          went = i .1 .went;
+          starts = refl;
+          depth = omega (arith, i .1 .depth);
+          allowed = (i .0, i .1 .allowed);
+          few = i .1 .few;
+        }))
 
     pub value-under-sound : (k : ValueCode) (c : Cursor) (v : Value) (c′ : Cursor) → valueUnder below e sc p k s c ≡ read v c′ →
         ValueUnderSound l e sc k s c v c′
@@ -108,6 +153,8 @@ module _ (s : List ℕ) (octets : Octets s) (e : Environment) (below : Operands)
           allowed = (i .allowed, t);
           few = i .few;
         })))
+    value-under-sound (Code.Statistic k) c v c′ h = statistic-sound k c v c′ h
+    value-under-sound Code.Count c v c′ h = count-sound c v c′ h
 
     -- ---- booleans
 
@@ -135,20 +182,15 @@ module _ (s : List ℕ) (octets : Octets s) (e : Environment) (below : Operands)
     quantifier-sound : (k : Quantifier) (c : Cursor) (b : Boolean) (c′ : Cursor) →
         quantifierUnder below e sc k s c ≡ read b c′ → BooleanUnderSound l e sc (Quantify k) s c b c′
     unfolding quantifierUnder booleanBytes booleanDepth booleanContexts
-    quantifier-sound k c b c′ h = undo (rseHead 1 (e .relations) (quantifierCode k) sc s c) _ h (λ ss q e₁ w.
-        let under = underStreams (e .relations) (quantifierCode k) sc ss in
-        undo (clauses 3 (below .boolean under) (below .value under) false false s q) _ w (λ cs q₁ e₂ w₁.
-        let i = head-sound s octets (e .relations) 1 (quantifierCode k) sc c ss q e₁ in
-        let j = clauses-sound l e under s (below .boolean under) (below .value under) (sound .boolean under) (sound .value under) 3 false
-        false q cs q₁ e₂ in
-        let r = rse-sound l e (quantifierCode k) sc s c ss q cs q₁ i j in
-        same w₁ (λ b c′. BooleanUnderSound l e sc (Quantify k) s c b c′) (record {
-          went = r .went;
+    quantifier-sound k c b c′ h = undo (oneStreamRse below e sc (quantifierCode k) s c) _ h (λ r q e₁ w.
+        let i = one-rse-sound (quantifierCode k) c r q e₁ in
+        same w (λ b c′. BooleanUnderSound l e sc (Quantify k) s c b c′) (record {
+          went = i .1 .went;
           starts = refl;
-          depth = omega (arith, r .depth);
-          allowed = (one-stream ss (i .ranged) (i .few-streams), r .allowed);
-          few = r .few;
-        })))
+          depth = omega (arith, i .1 .depth);
+          allowed = (i .0, i .1 .allowed);
+          few = i .1 .few;
+        }))
 
     pub boolean-under-sound : (k : BooleanCode) (c : Cursor) (b : Boolean) (c′ : Cursor) →
         booleanUnder below e sc p k s c ≡ read b c′ → BooleanUnderSound l e sc k s c b c′

@@ -20,7 +20,7 @@ pub record Environment : Type 0 where
   pub relations : List Relation
   pub messages : List Message
 
--- a context: its number, its relation if that is known, and the code that opened it: for, store, modify, any or unique
+-- a context: its number, its relation if that is known, and the code that opened it: for, store, modify, any, unique or a statistic
 pub record Context : Type 0 where
   pub number : ℕ
   pub relation : Option Relation
@@ -61,9 +61,13 @@ abbrev pub withContexts : Scope → List Context → Scope
 withContexts sc xs =
     record { contexts = sc .contexts ++ xs; target = sc .target; sends = sc .sends; labels = sc .labels }
 
--- below the streams of an rse, which a code opens
+-- below streams, which a code opens
 unfoldable pub underStreams : List Relation → ℕ → Scope → List Stream → Scope
 underStreams d opener sc ss = withContexts sc (map (streamContext d opener) ss)
+
+-- below the streams of an rse, which a code opens
+abbrev pub underRseOf : List Relation → ℕ → Scope → Rse → Scope
+underRseOf d opener sc (rse ss cs) = underStreams d opener sc ss
 
 -- 01: "A context of an rse is in scope from the byte after its last stream to the end of its for"
 unfoldable pub underRse : List Relation → Scope → Rse → Scope

@@ -18,8 +18,9 @@ use Rattle.wire.specs.declared.codes.FieldType.{FieldType}
 use Rattle.wire.specs.declared.codes.FieldType.the-variants.{Plain, Reading}
 use Rattle.dictionary.specs.Format.{Format}
 use Rattle.grammar.specs.Kind.{Kind, Number, Text, Date}
-use Rattle.grammar.specs.Tree.{Literal, Reference, field, parameter, parameter2, Value, literal, reference, arithmetic, negate}
-use Rattle.grammar.specs.Environment.{Environment, Scope, parameterFormat, fieldFormat}
+use Rattle.grammar.specs.Tree.{Literal, Reference, field, parameter, parameter2, Value, literal, reference, arithmetic, negate, statistic, count}
+use Rattle.grammar.specs.Bytes.{statisticCode}
+use Rattle.grammar.specs.Environment.{Environment, Scope, underRseOf, parameterFormat, fieldFormat}
 
 -- ---- the kind of a value, if its parts fit
 
@@ -68,7 +69,7 @@ resultScale Version5 Divide a b = a +ℤ b
 abbrev pub arithmeticRange : ℤ → Option Kind
 arithmeticRange s = cond (leZ minArithmeticScale s && leZ s (pos 0)) (some (Number s)) none
 
--- 01: "arithmetic numbers"
+-- what a negate or a statistic makes of a kind; 01: "arithmetic numbers"; 02, No. 9: "at the statistic's code 13 over text or date"
 abbrev pub negatedKind : Option Kind → Option Kind
 negatedKind (some (Number s)) = some (Number s)
 negatedKind (some Text) = none
@@ -87,11 +88,14 @@ arithmeticKind v o (some Text) k = none
 arithmeticKind v o (some Date) k = none
 arithmeticKind v o none k = none
 
+-- 02, No. 9: "the scope reaching over the number"; a count is a number of scale 0
 unfoldable pub kindOf : Environment → Scope → Value → Option Kind
 kindOf e sc (literal l) = some (literalKind l)
 kindOf e sc (reference r) = referenceKind e sc r
 kindOf e sc (arithmetic o v w) = arithmeticKind (e .version) o (kindOf e sc v) (kindOf e sc w)
 kindOf e sc (negate v) = negatedKind (kindOf e sc v)
+kindOf e sc (statistic k r v) = negatedKind (kindOf e (underRseOf (e .relations) (statisticCode k) sc r) v)
+kindOf e sc (count r) = some (Number (pos 0))
 
 -- ---- tests, which reading makes too
 

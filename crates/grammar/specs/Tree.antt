@@ -5,6 +5,7 @@ use Rattle.wire.specs.declared.codes.Version.{Version}
 use Rattle.wire.specs.declared.codes.Width.{Width}
 use Rattle.wire.specs.declared.codes.TextType.{TextType}
 use Rattle.wire.specs.declared.codes.Operator.{Operator}
+use Rattle.wire.specs.declared.codes.Statistic.{Statistic}
 use Rattle.wire.specs.declared.codes.Comparison.{Comparison}
 use Rattle.wire.specs.declared.codes.TextSearch.{TextSearch}
 use Rattle.wire.specs.declared.codes.Connective.{Connective}
@@ -58,6 +59,9 @@ mutual
     reference : Reference → Value
     arithmetic : Operator → Value → Value → Value
     negate : Value → Value
+    -- 02, No. 9: "average 27, maximum 29, minimum 30 and total 31 with an rse of one stream and a number, and count 28 with an rse only"
+    statistic : Statistic → Rse → Value → Value
+    count : Rse → Value
 
   pub data Boolean : Type 0 where
     compare : Comparison → Value → Value → Boolean

@@ -46,11 +46,12 @@ three-set (x ∷ y ∷ []) a b c h = absurd (omega arith)
 three-set (x ∷ y ∷ z ∷ []) a b c h = refl
 three-set (x ∷ y ∷ z ∷ w ∷ l) a b c h = absurd (omega arith)
 
--- no number of a cause is above 3
-pub cause-few : (w : Cause) → causeGiven w ≤ 3
+-- no number of a cause is above 4
+pub cause-few : (w : Cause) → causeGiven w ≤ 4
 cause-few Cause.Bit = omega arith
 cause-few Cause.Reading = omega arith
 cause-few Cause.Flag = omega arith
+cause-few Cause.Nothing = omega arith
 
 -- no number is above 26
 pub number-few : (x : Refusal) → number x ≤ 26

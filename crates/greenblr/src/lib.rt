@@ -2,16 +2,19 @@
 ghost use mathlib.Core.Path.{_≡_};
 ghost use Prim.Native.Nat.{min};
 ghost use Rattle.meaning.specs.Evaluation.{evaluation};
-ghost use Rattle.greenblr.specs.Exports.{Exported, causeGiven, truthGiven, greatestPlace, refusalGiven, outcomeGiven};
+ghost use Rattle.greenblr.specs.Exports.{Exported, causeGiven, truthGiven, greatestPlace, refusalGiven, outcomeGiven, sourceGiven, valueGiven, valueNumbers, ValueExported};
 ghost use Rattle.greenblr.specs.Version.{versionGiven};
 
 pub mod stores;
+mod texts;
 
 use grammar::ReadAnswer;
 use grammar::Refusal;
 use grammar::number_of;
 use meaning::Evaluation;
+use meaning::Source;
 use meaning::Truth;
+use meaning::ValueEvaluation;
 use records::missing::Cause;
 
 // The library's version (the file VERSION), in three numbers.
@@ -61,6 +64,7 @@ fn cause_number(cause: Cause) -> u64
         Cause::Bit => 1,
         Cause::Reading => 2,
         Cause::Flag => 3,
+        Cause::Nothing => 4,
     }
 }
 
@@ -72,6 +76,13 @@ const TRUE: u64 = 1;
 const MISSING: u64 = 2;
 
 const REFUSED: u64 = 3;
+
+// Of the answer of a from-value.
+const NUMBER: u64 = 4;
+
+const TEXT: u64 = 5;
+
+const DATE: u64 = 6;
 
 // One in the byte above it, where a cause or the number of a refusal stands; and one in the bits above that, where its place stands.
 const SECOND_BYTE: u64 = 256;
@@ -127,4 +138,66 @@ pub extern "C" fn greenblr_evaluate<'a>(
         Evaluation::Is(t) => truth_number(t),
         Evaluation::Refused(r, p) => refusal_number(r, p),
     }
+}
+
+// What a text stands in, as a number.
+fn source_number(source: Source) -> i64
+    ensures { λ r. ⌜ r ≡ sourceGiven source ⌝ }
+{
+    match source {
+        Source::Request => 0,
+        Source::Images => 2,
+        Source::Records => 3,
+        Source::Runs => 4,
+    }
+}
+
+// What a from-value comes out as, as a number, with three more in the answer.
+fn value_number(value: ValueEvaluation, answer: &mut [i64; 3]) -> u64
+    ensures { λ r. ⌜ (r ≡ valueGiven value) × (now (answer .exit) ≡ valueNumbers value) ⌝ }
+{
+    match value {
+        ValueEvaluation::Number(n) => {
+            *answer = [n.value, n.scale as i64, 0];
+            NUMBER
+        }
+        ValueEvaluation::Text(source, start, end) => {
+            *answer = [
+                source_number(source),
+                held_place(start) as i64,
+                held_place(end) as i64,
+            ];
+            TEXT
+        }
+        ValueEvaluation::Date(day, fraction) => {
+            *answer = [day, fraction as i64, 0];
+            DATE
+        }
+        ValueEvaluation::Missing(w) => {
+            *answer = [0, 0, 0];
+            truth_number(Truth::Missing(w))
+        }
+        ValueEvaluation::Refused(r, p) => {
+            *answer = [0, 0, 0];
+            refusal_number(r, p)
+        }
+    }
+}
+
+// Evaluates the from-value of an assignment by its row: what it comes out as, or the refusal and its place (include/greenblr.h).
+#[no_mangle]
+pub extern "C" fn greenblr_evaluate_value<'a>(
+    request: &'a [u8],
+    dictionary: &[u8],
+    row: usize,
+    images: &'a [u8],
+    records: &'a [u8],
+    runs: &'a [u8],
+    answer: &mut [i64; 3],
+) -> u64
+    ensures { λ r. ⌜ ValueExported (now (request .entry)) (now (dictionary .entry)) row (now (images .entry)) (now (records .entry))
+        (now (runs .entry)) (now (answer .exit)) r ⌝ }
+{
+    let value = evaluator::evaluate_value(request, dictionary, row, images, records, runs);
+    value_number(texts::inside(request, images, records, runs, value), answer)
 }

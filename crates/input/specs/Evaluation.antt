@@ -1,7 +1,8 @@
 -- The input of the program `evaluate`. 02, No. 6: "It reads entries of kinds 4, 5, 9 (the boolean's number, a word), then any of kind 10
--- (message bytes, joined), then of 3, then of 7, in all at most 3,000,000 bytes, else `bad input`."
+-- (message bytes, joined), then of 3, then of 7, in all at most 3,000,000 bytes, else `bad input`." In place of the entry of kind 9 one of
+-- kind 11 may stand: the row of an assignment, a word, whose from-value is asked for (02, No. 9).
 use Prim.Native.Nat.{ℕ, zero, suc, _+_, _-_}
-use mathlib.Core.Bool.{Bool, true, false, cond, _&&_}
+use mathlib.Core.Bool.{Bool, true, false, cond, _&&_, _||_}
 use mathlib.Core.Path.{_≡_}
 use mathlib.Core.List.{List, [], _∷_, _++_}
 use lib.Dec.{eqb, leb}
@@ -9,6 +10,7 @@ use lib.ListN.{length, take, drop}
 use lib.Seq.{sets}
 use Rattle.wire.specs.Words.{wordAt}
 use Rattle.wire.specs.Entries.{
+  entryKind,
   entryBody,
   dictionaryEntryKind,
   requestEntryKind,
@@ -70,9 +72,21 @@ maxInputBytes = 3000000
 abbrev pub numberEntryBytes : ℕ
 numberEntryBytes = 6
 
--- an entry of kind 9 with one word
+-- the kind of an entry that has the row of an assignment
+abbrev pub rowEntryKind : ℕ
+rowEntryKind = 11
+
+-- an entry of a kind with one word
+unfoldable pub wholeWord : List ℕ → ℕ → ℕ → Bool
+wholeWord s p kind = whole s p kind && eqb (wordAt s p) numberEntryBytes
+
+-- the number of a boolean, or the row of an assignment
 unfoldable pub wholeNumber : List ℕ → ℕ → Bool
-wholeNumber s p = whole s p numberEntryKind && eqb (wordAt s p) numberEntryBytes
+wholeNumber s p = wholeWord s p numberEntryKind || wholeWord s p rowEntryKind
+
+-- of such an entry, whether it is one of kind 11
+unfoldable pub asksRow : List ℕ → ℕ → Bool
+asksRow s p = eqb (wordAt s (p + entryKind)) rowEntryKind
 
 -- where the request's entry, the number's, the messages', the records' and the runs' begin
 abbrev pub requestAt : List ℕ → ℕ

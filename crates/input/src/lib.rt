@@ -4,8 +4,9 @@ ghost use Prim.Native.Nat.{_+_, _^_, _<_};
 ghost use lib.ListN.{length, set};
 ghost use lib.Seq.{sets};
 ghost use Rattle.input.specs.Input.{whole, inputAnswer, requestEntry};
-ghost use Rattle.input.specs.Evaluation.{wholeNumber, afterEntries, evaluationInput, Joined};
+ghost use Rattle.input.specs.Evaluation.{wholeWord, wholeNumber, asksRow, afterEntries, evaluationInput, Joined};
 use wire::bytes::word_at;
+use wire::bytes::word_on;
 use wire::entries::DICTIONARY_ENTRY;
 use wire::entries::ENTRY_BODY;
 use wire::entries::ENTRY_KIND;
@@ -18,8 +19,11 @@ use wire::entries::RUN_ENTRY;
 // The longest input of the program `evaluate`, in bytes.
 pub const MAX_INPUT_BYTES: usize = 3000000;
 
-// The bytes of the entry of a boolean's number: length, kind, and the number, a word each.
+// The bytes of the entry of a boolean's number or an assignment's row: length, kind, and the number, a word each.
 pub const NUMBER_ENTRY_BYTES: usize = 6;
+
+// The kind of an entry that has the row of an assignment.
+const ROW_ENTRY: u32 = 11;
 
 // The place of the request's entry after the dictionary's, or that the input is not these two entries.
 pub enum Input {
@@ -69,14 +73,31 @@ pub fn request_entry(s: &[u8]) -> Input
     }
 }
 
-// Whether an entry of kind 9 with one word stands at a place.
-fn is_number(s: &[u8], at: usize) -> bool
-    ensures { λ r. ⌜ r ≡ wholeNumber (now (s .entry)) at ⌝ }
+// Whether an entry of a kind with one word stands at a place.
+fn is_word(s: &[u8], at: usize, kind: u32) -> bool
+    ensures { λ r. ⌜ r ≡ wholeWord (now (s .entry)) at kind ⌝ }
 {
-    if !is_whole(s, at, NUMBER_ENTRY) {
+    if !is_whole(s, at, kind) {
         return false;
     }
     word_at(s, at) as usize == NUMBER_ENTRY_BYTES
+}
+
+// Whether the number of a boolean or the row of an assignment stands at a place.
+fn is_number(s: &[u8], at: usize) -> bool
+    ensures { λ r. ⌜ r ≡ wholeNumber (now (s .entry)) at ⌝ }
+{
+    if is_word(s, at, NUMBER_ENTRY) {
+        return true;
+    }
+    is_word(s, at, ROW_ENTRY)
+}
+
+// Whether the number's entry at a place is that of a row.
+pub fn asks_row(s: &[u8], at: usize) -> bool
+    ensures { λ r. ⌜ r ≡ asksRow (now (s .entry)) at ⌝ }
+{
+    word_on(s, at, ENTRY_KIND) == ROW_ENTRY
 }
 
 // The place after the entries of a kind that stand one after another from a place on.
@@ -90,7 +111,7 @@ fn after_entries(s: &[u8], at: usize, kind: u32) -> usize
     p
 }
 
-// The entries of the program `evaluate`: of kinds 4, 5 and 9, then those of kind 10, then those of kind 3, then those of kind 7, and
+// The entries of the program `evaluate`: of kinds 4, 5, and 9 or 11, then those of kind 10, then those of kind 3, then those of kind 7, and
 // nothing more.
 pub fn evaluation_entries(s: &[u8]) -> EvaluationInput
     ensures { λ r. ⌜ r ≡ evaluationInput (now (s .entry)) ⌝ }

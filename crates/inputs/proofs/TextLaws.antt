@@ -13,7 +13,7 @@ use Rattle.grammar.specs.Tree as Tree
 use Rattle.meaning.specs.Data.{text}
 use Rattle.meaning.specs.Inputs.{value, malformed, literalValue}
 use Rattle.meaning.specs.Inputs as Inputs
-use Rattle.values.specs.declared.Source.{Source}
+use Rattle.meaning.specs.declared.Source.{Source}
 use Rattle.values.specs.declared.Held.{Held}
 use Rattle.values.specs.Values.{Lent, sourceIn, heldIn, textIn}
 use Rattle.inputs.specs.Answers.{Holds}

@@ -19,7 +19,7 @@ use Rattle.grammar.specs.Tree.{Reference, field, parameter, parameter2}
 use Rattle.meaning.specs.Inputs as Inputs
 use Rattle.meaning.specs.Inputs.{onFound, flagged, unlessFlagged}
 use Rattle.walking.specs.Walk as Walk
-use Rattle.values.specs.declared.Source.{Source}
+use Rattle.meaning.specs.declared.Source.{Source}
 use Rattle.values.specs.declared.Held.{Held}
 use Rattle.values.specs.declared.Date.{Date}
 use Rattle.values.specs.declared.Valued.{Valued}

@@ -13,10 +13,10 @@ use crate::Fetched;
 use crate::stored::kind_held;
 use crate::stored::value_at;
 use dictionary::field::Description;
+use meaning::Source;
 use records::missing::Cause;
 use surroundings::Parameter;
 use surroundings::images::parameter_of;
-use values::Source;
 use values::Value;
 use wire::numbers::MessageNumber;
 

@@ -148,6 +148,7 @@ presenceGiven There = 0
 presenceGiven (Missing Cause.Bit) = 1
 presenceGiven (Missing Cause.Reading) = 2
 presenceGiven (Missing Cause.Flag) = 3
+presenceGiven (Missing Cause.Nothing) = 4
 
 abbrev pub lengthOf : Length → ℕ
 lengthOf (Length.Is n) = n

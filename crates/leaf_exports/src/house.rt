@@ -96,6 +96,7 @@ fn presence_number(p: Presence) -> u32
             Cause::Bit => 1,
             Cause::Reading => 2,
             Cause::Flag => 3,
+            Cause::Nothing => 4,
         },
     }
 }

@@ -30,7 +30,7 @@ use Rattle.wire.specs.declared.codes.LiteralType.{LiteralType}
 use Rattle.wire.specs.declared.codes.LiteralType.the-variants as LiteralType
 use Rattle.dictionary.specs.Naming.{Name, named, numbered}
 use Rattle.grammar.specs.Tree as Tree
-use Rattle.grammar.specs.Tree.{Descriptor, Message, Stream, Literal, Reference, field, parameter, parameter2, Heading, loop, modify, handler, receive, send, store, label, Value, literal, reference, arithmetic, negate, Boolean, compare, search, between, connect, not, missing, quantify, Keys, noKeys, key, Clauses, noClauses, such, sorted, Rse, rse, Statement, assignment, begin, erase, for, headed, leave, if, ifElse, select, Statements, none as nothing, Receives, last, more, Request}
+use Rattle.grammar.specs.Tree.{Descriptor, Message, Stream, Literal, Reference, field, parameter, parameter2, Heading, loop, modify, handler, receive, send, store, label, Value, literal, reference, arithmetic, negate, statistic, count, Boolean, compare, search, between, connect, not, missing, quantify, Keys, noKeys, key, Clauses, noClauses, such, sorted, Rse, rse, Statement, assignment, begin, erase, for, headed, leave, if, ifElse, select, Statements, none as nothing, Receives, last, more, Request}
 
 -- ---- decoders: what stands at the front of a list, and the bytes after it
 
@@ -127,7 +127,7 @@ unfoldable pub messages : ℕ → Decoder (List Message)
 messages zero = return []
 messages (suc k) = peek >>= λ x. cond (eqb x blr.message) (message >>= λ m. messages k >>= λ ms. return (m ∷ ms)) (return [])
 
--- ---- values
+-- ---- names, literals and references
 
 unfoldable pub countedName : Decoder Name
 countedName = one named (byte >>= bytes)
@@ -149,18 +149,6 @@ referenceUnder ReferenceCode.Field = two field byte countedName
 referenceUnder ReferenceCode.Fid = two field byte id
 referenceUnder ReferenceCode.Parameter = two parameter byte word
 referenceUnder ReferenceCode.Parameter2 = three parameter2 byte word word
-
--- what stands under a value's code; `inner` decodes the values one level down
-unfoldable pub valueUnder : Decoder Value → ValueCode → Decoder Value
-valueUnder inner ValueCode.Literal = one literal (coded literalClass >>= literalUnder)
-valueUnder inner (ValueCode.Reference c) = one reference (referenceUnder c)
-valueUnder inner (ValueCode.Arithmetic o) = two (arithmetic o) inner inner
-valueUnder inner ValueCode.Negate = one negate inner
-
--- with so many levels at most
-unfoldable pub value : ℕ → Decoder Value
-value zero = fail
-value (suc l) = coded valueClass >>= λ c. valueUnder (value l) c
 
 -- ---- rses
 
@@ -191,9 +179,17 @@ clauses (suc n) booleans values = coded clauseClass >>= λ c. clausesUnder (clau
 unfoldable pub rseOf : ℕ → Decoder Boolean → Decoder Value → Decoder Rse
 rseOf n booleans values = two rse (code blr.rse then byte >>= λ k. several k stream) (clauses n booleans values)
 
--- ---- booleans
+-- ---- values and booleans
 
--- what stands under a boolean's code; n bounds the clauses of an rse
+-- what stands under a value's or a boolean's code; n bounds the clauses of an rse, `inner` and `values` decode what stands one level down
+unfoldable pub valueUnder : ℕ → Decoder Boolean → Decoder Value → ValueCode → Decoder Value
+valueUnder n inner values ValueCode.Literal = one literal (coded literalClass >>= literalUnder)
+valueUnder n inner values (ValueCode.Reference c) = one reference (referenceUnder c)
+valueUnder n inner values (ValueCode.Arithmetic o) = two (arithmetic o) values values
+valueUnder n inner values ValueCode.Negate = one negate values
+valueUnder n inner values (ValueCode.Statistic k) = two (statistic k) (rseOf n inner values) values
+valueUnder n inner values ValueCode.Count = one count (rseOf n inner values)
+
 unfoldable pub booleanUnder : ℕ → Decoder Boolean → Decoder Value → BooleanCode → Decoder Boolean
 booleanUnder n inner values (BooleanCode.Compare c) = two (compare c) values values
 booleanUnder n inner values (BooleanCode.Search t) = two (search t) values values
@@ -203,9 +199,15 @@ booleanUnder n inner values BooleanCode.Not = one not inner
 booleanUnder n inner values BooleanCode.Missing = one missing values
 booleanUnder n inner values (BooleanCode.Quantify q) = one (quantify q) (rseOf n inner values)
 
-unfoldable pub boolean : ℕ → ℕ → Decoder Boolean
-boolean n zero = fail
-boolean n (suc l) = coded booleanClass >>= λ c. booleanUnder n (boolean n l) (value l) c
+-- with so many levels at most
+unfoldable mutual
+  pub value : ℕ → ℕ → Decoder Value
+  value n zero = fail
+  value n (suc l) = coded valueClass >>= λ c. valueUnder n (boolean n l) (value n l) c
+
+  pub boolean : ℕ → ℕ → Decoder Boolean
+  boolean n zero = fail
+  boolean n (suc l) = coded booleanClass >>= λ c. booleanUnder n (boolean n l) (value n l) c
 
 -- ---- statements
 
@@ -238,7 +240,7 @@ statementUnder n inner booleans values Code.Select = one select (manyReceives n 
 
 unfoldable pub statement : ℕ → ℕ → Decoder Statement
 statement n zero = fail
-statement n (suc l) = coded statementClass >>= λ c. statementUnder n (statement n l) (boolean n l) (value l) c
+statement n (suc l) = coded statementClass >>= λ c. statementUnder n (statement n l) (boolean n l) (value n l) c
 
 abbrev pub requestOf : Version → List Message → Statements → Request
 requestOf v ms ss = record { version = v; messages = ms; statements = ss }

@@ -1,5 +1,5 @@
 -- Demand 3: for any condition of any accepted request, messages of its sizes, proper records and proper runs, the evaluator's answer is the
--- meaning's.
+-- meaning's; 02, No. 9: "demand 3 holds for it as for a condition", a from-value.
 use Prim.Native.Nat.{ℕ, zero, suc, _+_, _<_, _≤_}
 use mathlib.Core.Path.{_≡_}
 use mathlib.Core.Logic.{_⊎_}
@@ -24,12 +24,13 @@ use Rattle.grammar.specs.Environment.{Context}
 use Rattle.grammar.specs.Sizes.{messageSize}
 use Rattle.grammar.specs.Rules.{Allowed}
 use Rattle.grammar.specs.Conditions.{Condition, requestConditions}
+use Rattle.grammar.specs.Named.{FromValue, fromValue}
 use Rattle.meaning.specs.Data.{Result, is, refused, stray}
 use Rattle.meaning.specs.declared.Evaluation.{Evaluation}
 use Rattle.meaning.specs.Inputs.{lengthOf}
 use Rattle.meaning.specs.Runs.{DueRun}
-use Rattle.meaning.specs.Meaning.{meaning}
-use Rattle.meaning.specs.Evaluation.{outcome}
+use Rattle.meaning.specs.Meaning.{meaning, valueMeaning}
+use Rattle.meaning.specs.Evaluation.{Outcome, outcome, Answer, valueOutcome}
 use Rattle.meaning.specs.Evaluated.{outcomeOf}
 
 -- ---- what is given
@@ -43,6 +44,10 @@ pub record Accepted (s d : List ℕ) (rs : List Relation) (t : Request) : Type 0
 -- 01: "a condition, that is a boolean with a number"
 abbrev pub Asked : List Relation → Request → ℕ → Condition → Type 0
 Asked rs t n x = getElem? (requestConditions rs t) n ≡ some x
+
+-- 02, No. 9: "An assignment's from-value can be asked for by its row (from 0)"
+abbrev pub AskedValue : List Relation → Request → ℕ → FromValue → Type 0
+AskedValue rs t k x = fromValue rs t k ≡ some x
 
 -- 01: "Messages of the request's sizes are one image of the declared bytes for each message."
 pub data Images : List Message → List ℕ → Type 0 where
@@ -148,6 +153,15 @@ pub record AsMeant (s d : List ℕ) (n : ℕ) (images rows runs : List ℕ) (r :
 -- answer that is missing holds its cause
 pub record SameAnswer (s d : List ℕ) (n : ℕ) (images rows rows′ runs runs′ : List ℕ) (r r′ : Evaluation) : Type 0 where
   pub same-meaning : meaning s d n images rows runs ≡ meaning s d n images rows′ runs′
+  pub same-answer : r ≡ r′
+
+-- both of a from-value; r and r′ are what the code answers, as outcomes
+pub record ValueAsMeant (s d : List ℕ) (k : ℕ) (images rows runs : List ℕ) (r : Outcome Answer) : Type 0 where
+  pub meant : r ≡ valueOutcome (valueMeaning s d k images rows runs)
+  pub not-stray : NotStray (valueMeaning s d k images rows runs)
+
+pub record SameValue (s d : List ℕ) (k : ℕ) (images rows rows′ runs runs′ : List ℕ) (r r′ : Outcome Answer) : Type 0 where
+  pub same-meaning : valueMeaning s d k images rows runs ≡ valueMeaning s d k images rows′ runs′
   pub same-answer : r ≡ r′
 
 -- the bytes that the place of a refusal of evaluation lies in: 3 is in the dictionary, 21 in the images, 22 in the

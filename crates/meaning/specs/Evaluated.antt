@@ -3,12 +3,13 @@ use Prim.Native.Nat.{ℕ}
 use mathlib.Core.Path.{_≡_}
 use mathlib.Core.List.{List}
 use Rattle.grammar.specs.Demands.{Octets}
+use Rattle.meaning.specs.declared.Truth.{Truth}
 use Rattle.meaning.specs.declared.Evaluation.{Evaluation}
 use Rattle.meaning.specs.declared.Evaluation.the-variants.{Is, Refused}
 use Rattle.meaning.specs.Evaluation.{Outcome, answered as truth, refusal, evaluation}
 
 -- an answer of the code, as an outcome
-abbrev pub outcomeOf : Evaluation → Outcome
+abbrev pub outcomeOf : Evaluation → Outcome Truth
 outcomeOf (Is t) = truth t
 outcomeOf (Refused r p) = refusal r p
 

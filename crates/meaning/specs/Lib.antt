@@ -8,3 +8,5 @@ pub mod Meaning
 pub mod Evaluation
 pub mod Evaluated
 pub mod Demand
+pub mod TakenOut
+pub mod ValueEvaluated

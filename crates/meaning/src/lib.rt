@@ -1,4 +1,5 @@
 // The meaning of a condition: the types that its definitions and the evaluator share.
+use decimal::Number;
 use grammar::Refusal;
 use records::missing::Cause;
 
@@ -26,5 +27,23 @@ pub enum Fault {
 // The answer of evaluation: what the condition comes out as; or the refusal and its place.
 pub enum Evaluation {
     Is(Truth),
+    Refused(Refusal, usize),
+}
+
+// What a text stands in, of what evaluation is lent.
+pub enum Source {
+    Request,
+    Images,
+    Records,
+    Runs,
+}
+
+// The answer of evaluation for a from-value: a number; a text, by what it stands in, where it starts there and where it ends; a date's day and
+// fraction; missing, with the cause; or the refusal and its place.
+pub enum ValueEvaluation {
+    Number(Number),
+    Text(Source, usize, usize),
+    Date(i64, u32),
+    Missing(Cause),
     Refused(Refusal, usize),
 }

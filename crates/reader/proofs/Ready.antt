@@ -94,7 +94,7 @@ module _ {s d sc : List ℕ} {c : Cursor} {l : ℕ} (g : Given s d sc c l) where
   pub given-below : {l′ : ℕ} → l′ ≤ l → Given s d sc c l′
   given-below h = given-at fine-of (omega arith) h
 
-  -- for the readers of booleans and clauses
+  -- for the readers of values, booleans and clauses
   pub given-ready : Ready s d sc c l
   given-ready = record {
     short = g .short;
@@ -148,6 +148,9 @@ coded-inside {s} {c} {l} g u i =
 module _ (level : Level) {s d sc : List ℕ} {x : Coded} {inner : Level} (i : Inside s d sc x (level .left)) (e : inner ≡ levelBelow (x .after) level) where
   pub below-given : Given s d sc (x .after) (inner .left) × (inner .parent ≤ maxStatements)
   below-given = rw e (given-below (i .given) (omega arith), i .given .statements-few)
+
+  pub below-ready : Ready s d sc (x .after) (inner .left) × (x .after .at ≡ x .at + 1)
+  below-ready = (given-ready (below-given .0), i .here)
 
   pub below-inside : Below s d sc x inner
   below-inside =

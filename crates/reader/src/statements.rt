@@ -6,6 +6,7 @@ ghost use Rattle.wire.specs.Limits.{maxStatements};
 ghost use Rattle.references.specs.Promises.{environmentOf};
 ghost use Rattle.scopes.specs.Scopes.{scopeOf};
 ghost use Rattle.tables.specs.Tables.{tables};
+ghost use Rattle.expressions.specs.Promises.{Ready};
 ghost use Rattle.reader.specs.Given.{Given, Inside, Below, holdsStatements, hasHeading, opensScope};
 ghost use Rattle.reader.specs.Readers.{levelBelow, StatementRead, StatementsRead, CodedRead, HeadingRead, AssignmentRead, IfRead, SelectRead};
 use expressions::booleans::read_boolean;
@@ -317,7 +318,7 @@ fn read_assignment(
     x: Coded,
     levels: usize,
 ) -> Step
-    requires { ⌜ x .after .at ≡ x .at + 1 ⌝ }
+    requires { ⌜ (Ready (now request) (now dictionary) (now scope) (x .after) levels) × (x .after .at ≡ x .at + 1) ⌝ }
     ensures { λ r. ⌜ AssignmentRead levels (environmentOf (now (dictionary .entry)) (now (around .entry)))
         (scopeOf (now (dictionary .entry)) (now (scope .entry))) (now (request .entry)) x
         (now (contexts .entry)) (now (contexts .exit)) r ⌝ }

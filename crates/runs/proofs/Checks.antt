@@ -23,8 +23,8 @@ unfolding rowRelations
 relations-kept d t row a b zero j = refl
 relations-kept d t row a b (suc n) j =
     let c : cell (withRun t row a b) j 2 ≡ cell t j 2 =
-    getD-set-other (set t (row * 8 + 6) a) (row * 8 + 7) (j * 8 + 2) b 0 (λ e. absurd (omega (arith, e)))
-    ∙ getD-set-other t (row * 8 + 6) (j * 8 + 2) a 0 (λ e. absurd (omega (arith, e))) in
+    getD-set-other (set t (row * 10 + 6) a) (row * 10 + 7) (j * 10 + 2) b 0 (λ e. absurd (omega (arith, e)))
+    ∙ getD-set-other t (row * 10 + 6) (j * 10 + 2) a 0 (λ e. absurd (omega (arith, e))) in
     ap₂ (λ (q : ℕ) (rs : List Relation). relationAt d q ∷ rs) c (relations-kept d t row a b n (j + 1))
 
 -- how far the rows are filled: the answer for the rest, and the table that it gives, are those for all
@@ -64,7 +64,7 @@ module _ (d s : List ℕ) (rows from : ℕ) (t₀ : List ℕ) where
           let kept = relations-kept d t row (p + 4) m (rows - (row + 1)) (row + 1) in
           let a = f .near in
           let long-as : length (withRun t row (p + 4) m) ≡ length t =
-          length-set (set t (row * 8 + 6) (p + 4)) (row * 8 + 7) m ∙ length-set t (row * 8 + 6) (p + 4) in
+          length-set (set t (row * 10 + 6) (p + 4)) (row * 10 + 7) m ∙ length-set t (row * 10 + 6) (p + 4) in
           record {
             answered = rw (f .answered, more, rowRelations, runs, ← is, e, kept, i);
             filling = rw (f .filling, more, filled, ← is, e, ← k, ← i);

@@ -34,25 +34,25 @@ next-run r rs s p e = by (properRun r s p) e
 
 -- ---- a row after others
 
-set-after : (l m : List ℕ) (i v : ℕ) → set (l ++ m) (length l + i) v ≡ l ++ set m i v
+pub set-after : (l m : List ℕ) (i v : ℕ) → set (l ++ m) (length l + i) v ≡ l ++ set m i v
 set-after [] m i v = let z : 0 + i ≡ i = omega arith in ap (λ (j : ℕ). set m j v) z
 set-after (x ∷ l) m i v =
     let z : suc (length l) + i ≡ suc (length l + i) = omega arith in
     ap (λ (j : ℕ). set (x ∷ (l ++ m)) j v) z ∙ ap (λ (k : List ℕ). x ∷ k) (set-after l m i v)
 
-module _ (before : List ℕ) (row : ℕ) (long : length before ≡ row * 8) (b : Binding) (rest : List ℕ) where
+module _ (before : List ℕ) (row : ℕ) (long : length before ≡ row * 10) (b : Binding) (rest : List ℕ) where
   abbrev table : List ℕ
   table = before ++ (bindingRow b ++ rest)
 
   row-relation : cell table row 2 ≡ b .relation
   row-relation =
-      let n : row * 8 + 2 ≡ length before + 2 = omega (arith, long) in
+      let n : row * 10 + 2 ≡ length before + 2 = omega (arith, long) in
       ap (λ (j : ℕ). getD table j 0) n ∙ getD-append-add before (bindingRow b ++ rest) 2 0
 
   row-run : (p n : ℕ) → withRun table row p n ≡ before ++ (bindingRow (withRunOf b p n) ++ rest)
   row-run p n =
-      let i : row * 8 + 6 ≡ length before + 6 = omega (arith, long) in
-      let j : row * 8 + 7 ≡ length before + 7 = omega (arith, long) in
+      let i : row * 10 + 6 ≡ length before + 6 = omega (arith, long) in
+      let j : row * 10 + 7 ≡ length before + 7 = omega (arith, long) in
       ap₂ (λ (x y : ℕ). set (set table x p) y n) i j
       ∙ ap (λ (l : List ℕ). set l (length before + 7) n) (set-after before (bindingRow b ++ rest) 6 p)
       ∙ set-after before (set (bindingRow b ++ rest) 6 p) 7 n
@@ -60,14 +60,14 @@ module _ (before : List ℕ) (row : ℕ) (long : length before ≡ row * 8) (b :
   row-on : (m : List ℕ) (c : Binding) → before ++ (bindingRow c ++ m) ≡ (before ++ bindingRow c) ++ m
   row-on m c = sym (append-assoc before (bindingRow c) m)
 
-  row-long : (c : Binding) → length (before ++ bindingRow c) ≡ (row + 1) * 8
+  row-long : (c : Binding) → length (before ++ bindingRow c) ≡ (row + 1) * 10
   row-long c = let k = length-append before (bindingRow c) in omega (arith, k, long)
 
 -- ---- the rows of bindings
 
 module _ (d : List ℕ) (rest : List ℕ) where
   -- their relations
-  pub rows-relations : (bs : List Binding) (before : List ℕ) (row : ℕ) → length before ≡ row * 8 →
+  pub rows-relations : (bs : List Binding) (before : List ℕ) (row : ℕ) → length before ≡ row * 10 →
       rowRelations d (before ++ (bindingRows bs ++ rest)) (length bs) row ≡ relationsOf d bs
   unfolding rowRelations bindingRows
   rows-relations [] before row h = refl
@@ -78,7 +78,7 @@ module _ (d : List ℕ) (rest : List ℕ) where
       (ap (λ (t : List ℕ). rowRelations d t (length bs) (row + 1)) (row-on before row h b m m b) ∙ i)
 
   -- where their runs are as due, they get them
-  pub rows-filled : (s : List ℕ) (bs : List Binding) (before : List ℕ) (row p : ℕ) → length before ≡ row * 8 →
+  pub rows-filled : (s : List ℕ) (bs : List Binding) (before : List ℕ) (row p : ℕ) → length before ≡ row * 10 →
       runs (relationsOf d bs) s p ≡ asDue →
       filled d s (length bs) row p (before ++ (bindingRows bs ++ rest)) ≡ before ++ (bindingRows (filledBindings d s p bs) ++ rest)
   unfolding filled filledBindings bindingRows
@@ -126,50 +126,50 @@ filled-count d s [] p = refl
 filled-count d s (b ∷ bs) p = ap suc (filled-count d s bs (p + wordAt s p))
 
 -- rows from the start on, and rows after them
-pub rows-laid : (t : List ℕ) (outer bs : List Binding) → (length outer + length bs) * 8 ≤ length t →
-    sets (sets t 0 (bindingRows outer)) (length outer * 8) (bindingRows bs)
-    ≡ bindingRows (outer ++ bs) ++ drop ((length outer + length bs) * 8) t
+pub rows-laid : (t : List ℕ) (outer bs : List Binding) → (length outer + length bs) * 10 ≤ length t →
+    sets (sets t 0 (bindingRows outer)) (length outer * 10) (bindingRows bs)
+    ≡ bindingRows (outer ++ bs) ++ drop ((length outer + length bs) * 10) t
 rows-laid t outer bs h =
     let r = bindingRows outer in
     let l = bindingRows bs in
     let m = rows-count outer in
     let n = rows-count bs in
     let e : sets t 0 r ≡ r ++ drop (0 + length r) t = sets-eq r t 0 (omega (arith, m, h)) in
-    let z : 0 + length r + length l ≡ (length outer + length bs) * 8 = omega (arith, m, n) in
-    let y : length outer * 8 + length l ≡ length r + length l = omega (arith, m) in
-    let front : take (length outer * 8) (sets t 0 r) ≡ r =
-    ap (take (length outer * 8)) e ∙ take-at r (drop (0 + length r) t) (length outer * 8) m in
-    let back : drop (length outer * 8 + length l) (sets t 0 r) ≡ drop ((length outer + length bs) * 8) t =
+    let z : 0 + length r + length l ≡ (length outer + length bs) * 10 = omega (arith, m, n) in
+    let y : length outer * 10 + length l ≡ length r + length l = omega (arith, m) in
+    let front : take (length outer * 10) (sets t 0 r) ≡ r =
+    ap (take (length outer * 10)) e ∙ take-at r (drop (0 + length r) t) (length outer * 10) m in
+    let back : drop (length outer * 10 + length l) (sets t 0 r) ≡ drop ((length outer + length bs) * 10) t =
     ap₂ drop y e ∙ drop-append-add r (drop (0 + length r) t) (length l) ∙ drop-drop (length l) (0 + length r) t
     ∙ ap (λ (k : ℕ). drop k t) z in
-    sets-eq l (sets t 0 r) (length outer * 8) (omega (arith, n, h, length-sets t 0 r))
+    sets-eq l (sets t 0 r) (length outer * 10) (omega (arith, n, h, length-sets t 0 r))
     ∙ ap₂ (λ (u v : List ℕ). (u ++ l) ++ v) front back
-    ∙ ap (λ (u : List ℕ). u ++ drop ((length outer + length bs) * 8) t) (sym (rows-join outer bs))
+    ∙ ap (λ (u : List ℕ). u ++ drop ((length outer + length bs) * 10) t) (sym (rows-join outer bs))
 
-pub rows-cut : (bs : List Binding) (rest : List ℕ) (n : ℕ) → n ≡ length bs → take (n * 8) (bindingRows bs ++ rest) ≡ bindingRows bs
-rows-cut bs rest n e = let m = rows-count bs in take-at (bindingRows bs) rest (n * 8) (omega (arith, m, e))
+pub rows-cut : (bs : List Binding) (rest : List ℕ) (n : ℕ) → n ≡ length bs → take (n * 10) (bindingRows bs ++ rest) ≡ bindingRows bs
+rows-cut bs rest n e = let m = rows-count bs in take-at (bindingRows bs) rest (n * 10) (omega (arith, m, e))
 
 -- the contexts in scope laid from the start of a table, and the any and unique codes after them
 module _ (d t : List ℕ) (outer bs : List Binding) (to : ℕ) (count : to ≡ length outer + length bs) (few : to ≤ maxContexts)
-    (room : to * 8 ≤ length t) where
+    (room : to * 10 ≤ length t) where
   abbrev pub laid : List ℕ
-  laid = sets (sets t 0 (bindingRows outer)) (length outer * 8) (bindingRows bs)
+  laid = sets (sets t 0 (bindingRows outer)) (length outer * 10) (bindingRows bs)
 
-  laid-is : laid ≡ bindingRows (outer ++ bs) ++ drop ((length outer + length bs) * 8) t
+  laid-is : laid ≡ bindingRows (outer ++ bs) ++ drop ((length outer + length bs) * 10) t
   laid-is = rows-laid t outer bs (omega (arith, room, count))
 
   pub laid-relations : rowRelations d laid (min to maxContexts - length outer) (length outer) ≡ relationsOf d bs
-  laid-relations = table-relations d outer bs to count few (drop ((length outer + length bs) * 8) t) laid laid-is
+  laid-relations = table-relations d outer bs to count few (drop ((length outer + length bs) * 10) t) laid laid-is
 
   -- with their runs, where these are as due, and cut after the last row
   pub laid-filled : (s : List ℕ) → runs (relationsOf d bs) s 0 ≡ asDue →
-      take (to * 8) (filled d s (min to maxContexts - length outer) (length outer) 0 laid) ≡ bindingRows (outer ++ filledBindings d s 0 bs)
+      take (to * 10) (filled d s (min to maxContexts - length outer) (length outer) 0 laid) ≡ bindingRows (outer ++ filledBindings d s 0 bs)
   laid-filled s due =
       let all = outer ++ filledBindings d s 0 bs in
-      let rest = drop ((length outer + length bs) * 8) t in
+      let rest = drop ((length outer + length bs) * 10) t in
       let n : to ≡ length all =
       count ∙ ap (λ (k : ℕ). length outer + k) (sym (filled-count d s bs 0)) ∙ sym (length-append outer (filledBindings d s 0 bs)) in
-      ap (take (to * 8)) (table-filled d outer bs to count few rest laid laid-is s due) ∙ rows-cut all rest to n
+      ap (take (to * 10)) (table-filled d outer bs to count few rest laid laid-is s due) ∙ rows-cut all rest to n
 
 -- ---- the answer
 

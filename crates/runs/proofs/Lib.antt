@@ -1,4 +1,6 @@
--- That the scan of a condition's bytes writes the rows of its any and unique codes; and the rows with their runs.
+-- That the scan of the bytes of a condition or a from-value writes the rows of its any, unique and statistic codes; and the rows with their
+-- runs.
+pub mod PassLaws
 pub mod StepLaws
 pub mod Stores
 pub mod Leads

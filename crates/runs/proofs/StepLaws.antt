@@ -33,6 +33,7 @@ use Rattle.runs.specs.declared.forms.Form.the-variants.{Plain, Field, Li
 use Rattle.runs.specs.declared.scan.Scan.{Scan}
 use Rattle.runs.specs.declared.stream.Opened.{Opened}
 use Rattle.runs.specs.Forms.{formIn, formOf, literalSize, literalLength}
+use Rattle.runs.specs.Passes.{streamEnd, afterStream, passedBy}
 use Rattle.runs.specs.Steps.{State, stateOf, moved, stopped, openRow, opened, openedBy, openedAt, openedHere, suchNoted, closed, stepBy, stepped, steps, start, found}
 
 -- ---- a literal
@@ -100,51 +101,69 @@ module _ (d s : List ℕ) (p b : ℕ) (k : StreamClass) (byte : b ≡ byteAt s p
   pub stream-foreign : k ≡ StreamClass.Foreign → record { relation = 0; number = 0; after = p + 1 } ≡ openedAt d s p
   stream-foreign e = sym (stream-by ∙ ap (λ z. openedBy d s p (streamClassOf z)) e)
 
+module _ (s : List ℕ) (p b : ℕ) (k : StreamClass) (byte : b ≡ byteAt s p) (class : streamClassOf k ≡ streamClass b) where
+  end-by : afterStream s p ≡ streamEnd s p (streamClassOf k)
+  unfolding afterStream
+  end-by = ap (streamEnd s p) (sym (class ∙ ap streamClass byte))
+
+  pub end-named : (c : StreamCode) (n : ℕ) → k ≡ StreamClass.Due c → c ≡ Relation → n ≡ byteAt s (p + 1) → n < 256 →
+      (p + 3 + n ≡ afterStream s p) × (p + 3 + n ≤ p + 258)
+  end-named c n e f h l =
+      (ap (λ z. p + 3 + z) h ∙ sym (end-by ∙ ap (λ z. streamEnd s p (streamClassOf z)) (e ∙ ap StreamClass.Due f)), omega (arith, l))
+
+  pub end-numbered : (c : StreamCode) → k ≡ StreamClass.Due c → c ≡ Rid → (p + 4 ≡ afterStream s p) × (p + 4 ≤ p + 258)
+  end-numbered c e f = (sym (end-by ∙ ap (λ z. streamEnd s p (streamClassOf z)) (e ∙ ap StreamClass.Due f)), omega arith)
+
+  pub end-left : k ≡ StreamClass.LeftOut → (p + 1 ≡ afterStream s p) × (p + 1 ≤ p + 258)
+  end-left e = (sym (end-by ∙ ap (λ z. streamEnd s p (streamClassOf z)) e), omega arith)
+
+  pub end-foreign : k ≡ StreamClass.Foreign → (p + 1 ≡ afterStream s p) × (p + 1 ≤ p + 258)
+  end-foreign e = (sym (end-by ∙ ap (λ z. streamEnd s p (streamClassOf z)) e), omega arith)
+
 -- ---- rows
 
-pub row-put : (t : List ℕ) (i a b c e : ℕ) →
-    set (set (set (set (set (set (set (set t i a) (i + 1) b) (i + 2) c) (i + 3) 0) (i + 4) 0) (i + 5) e) (i + 6) 0) (i + 7) 0 ≡
-    sets t i (a ∷ b ∷ c ∷ 0 ∷ 0 ∷ e ∷ 0 ∷ 0 ∷ [])
-row-put t i a b c e =
-    let n1 : i + 1 ≡ suc i = omega arith in
-    let n2 : i + 2 ≡ suc (suc i) = omega arith in
-    let n3 : i + 3 ≡ suc (suc (suc i)) = omega arith in
-    let n4 : i + 4 ≡ suc (suc (suc (suc i))) = omega arith in
-    let n5 : i + 5 ≡ suc (suc (suc (suc (suc i)))) = omega arith in
-    let n6 : i + 6 ≡ suc (suc (suc (suc (suc (suc i))))) = omega arith in
-    let n7 : i + 7 ≡ suc (suc (suc (suc (suc (suc (suc i)))))) = omega arith in
-    λ j.
-    set (set (set (set (set (set (set (set t i a) (n1 j) b) (n2 j) c) (n3 j) 0) (n4 j) 0) (n5 j) e) (n6 j) 0) (n7 j) 0
-
 module _ (t : List ℕ) (w p x : ℕ) (is : x ≡ cell t w 4) where
-  pub such-here : (u : List ℕ) → x ≡ 0 → u ≡ set t (w * 8 + 4) p → u ≡ suchNoted t w p
-  such-here u z e = e ∙ sym (ap (λ b. cond b (set t (w * 8 + 4) p) t) (eq-eqb (cell t w 4) 0 (sym is ∙ z)))
+  pub such-here : (u : List ℕ) → x ≡ 0 → u ≡ set t (w * 10 + 4) p → u ≡ suchNoted t w p
+  such-here u z e = e ∙ sym (ap (λ b. cond b (set t (w * 10 + 4) p) t) (eq-eqb (cell t w 4) 0 (sym is ∙ z)))
 
   pub such-before : (x ≡ 0 → ⊥) → t ≡ suchNoted t w p
-  such-before z = sym (ap (λ b. cond b (set t (w * 8 + 4) p) t) (ne-eqb (cell t w 4) 0 (λ e. z (is ∙ e))))
+  such-before z = sym (ap (λ b. cond b (set t (w * 10 + 4) p) t) (ne-eqb (cell t w 4) 0 (λ e. z (is ∙ e))))
 
 -- ---- a step
 
 module _ (d s : List ℕ) (x : Scan) (t : List ℕ) where
-  pub open-full : (y : Scan) → 32 ≤ x .rows → y ≡ stopped x →
-      (y ≡ (openedHere d s (stateOf x t)) .scan) × (t ≡ (openedHere d s (stateOf x t)) .table) × (y .due ≤ x .due)
-  unfolding openedHere
-  open-full y h e =
-      let b = le-ltb (x .rows) 32 h in
-      let o = opened (stateOf x t) (openedAt d s (x .place + 3)) in
-      let z : openedHere d s (stateOf x t) ≡ stateOf (stopped x) t = ap (λ c. cond c o (stateOf (stopped x) t)) b in
-      (e ∙ sym (ap (λ v. v .scan) z), sym (ap (λ v. v .table) z), subst (λ v. v .due ≤ x .due) (sym e) (omega arith))
+  module _ (m : ℕ) where
+    pub open-full : (y : Scan) → 32 ≤ x .rows → y ≡ stopped x →
+        (y ≡ (openedHere d s (stateOf x t) m) .scan) × (t ≡ (openedHere d s (stateOf x t) m) .table) × (y .due ≤ x .due + 256)
+    unfolding openedHere
+    open-full y h e =
+        let b = le-ltb (x .rows) 32 h in
+        let o = opened (stateOf x t) (openedAt d s (x .place + 3)) m in
+        let z : openedHere d s (stateOf x t) m ≡ stateOf (stopped x) t = ap (λ c. cond c o (stateOf (stopped x) t)) b in
+        (e ∙ sym (ap (λ v. v .scan) z), sym (ap (λ v. v .table) z), subst (λ v. v .due ≤ x .due + 256) (sym e) (omega arith))
 
-  pub open-room : (o : Opened) (u : List ℕ) → x .rows < 32 → o ≡ openedAt d s (x .place + 3) →
-      u ≡ sets t (x .rows * 8) (openRow (x .place) o (x .within)) →
-      (record { place = o .after; due = x .due; rows = x .rows + 1; within = x .rows } ≡ (openedHere d s (stateOf x t)) .scan) ×
-      (u ≡ (openedHere d s (stateOf x t)) .table) × (x .due ≤ x .due)
-  unfolding openedHere
-  open-room o u h e f =
-      let b = lt-ltb (x .rows) 32 h in
-      let z : opened (stateOf x t) o ≡ openedHere d s (stateOf x t) =
-      ap (opened (stateOf x t)) e ∙ sym (ap (λ c. cond c (opened (stateOf x t) (openedAt d s (x .place + 3))) (stateOf (stopped x) t)) b) in
-      (ap (λ v. v .scan) z, f ∙ ap (λ v. v .table) z, omega arith)
+    pub open-room : (o : Opened) (u : List ℕ) → x .rows < 32 → o ≡ openedAt d s (x .place + 3) →
+        u ≡ sets t (x .rows * 10) (openRow (x .place) o (x .within) m) → m < 256 →
+        (record { place = o .after; due = x .due + m; rows = x .rows + 1; within = x .rows } ≡ (openedHere d s (stateOf x t) m) .scan) ×
+        (u ≡ (openedHere d s (stateOf x t) m) .table) × (x .due + m ≤ x .due + 256)
+    unfolding openedHere
+    open-room o u h e f l =
+        let b = lt-ltb (x .rows) 32 h in
+        let z : opened (stateOf x t) o m ≡ openedHere d s (stateOf x t) m =
+        ap (λ v. opened (stateOf x t) v m) e
+        ∙ sym (ap (λ c. cond c (opened (stateOf x t) (openedAt d s (x .place + 3)) m) (stateOf (stopped x) t)) b) in
+        (ap (λ v. v .scan) z, f ∙ ap (λ v. v .table) z, omega arith)
+
+  -- the row of an rse that ends, with m numbers due after it, which end at a place
+  pub close-row : (o m end : ℕ) (u v : List ℕ) → o ≡ cell t (x .within) 5 → m ≡ cell t (x .within) 8 → end ≡ passedBy s (x .place + 1) m →
+      u ≡ set t (x .within * 10 + 5) end → v ≡ set u (x .within * 10 + 8) (x .place + 1) →
+      (record { place = x .place + 1; due = x .due - 1; rows = x .rows; within = o } ≡ (closed s (stateOf x t)) .scan) ×
+      (v ≡ (closed s (stateOf x t)) .table)
+  close-row o m end u v e f g h i =
+      let z : end ≡ passedBy s (x .place + 1) (cell t (x .within) 8) = g ∙ ap (passedBy s (x .place + 1)) f in (
+        λ j. record { place = x .place + 1; due = x .due - 1; rows = x .rows; within = e j },
+        i ∙ ap (λ l. set l (x .within * 10 + 8) (x .place + 1)) (h ∙ ap (set t (x .within * 10 + 5)) z),
+      )
 
   -- what a step leaves: a scan, a table, and few more that are due
   abbrev Leaves : Scan → List ℕ → Type 0
@@ -176,21 +195,23 @@ module _ (d s : List ℕ) (x : Scan) (t : List ℕ) where
     unfolding stepBy
     step-literal n e h g = by-form Literal y t (sym e ∙ is) (g .0 ∙ ap (λ z. moved x (x .place + 1 + z) 0) h) refl (g .1)
 
-    pub step-sort : (b : ℕ) → f ≡ Sort → b ≡ byteAt s (x .place + 1) → (y ≡ moved x (x .place + 2) (b + 1)) × (y .due ≤ x .due + 256) → Leaves y t
+    pub step-sort : (b q : ℕ) → f ≡ Sort → b ≡ byteAt s (x .place + 1) → q ≡ passedBy s (x .place + 2) b →
+        (y ≡ moved x q 1) × (y .due ≤ x .due + 256) → Leaves y t
     unfolding stepBy
-    step-sort b e h g = by-form Sort y t (sym e ∙ is) (g .0 ∙ ap (λ z. moved x (x .place + 2) (z + 1)) h) refl (g .1)
+    step-sort b q e h i g =
+        by-form Sort y t (sym e ∙ is) (g .0 ∙ ap (λ z. moved x z 1) (i ∙ ap (passedBy s (x .place + 2)) h)) refl (g .1)
 
-    pub step-open : (u : List ℕ) → f ≡ Open →
-        (y ≡ (openedHere d s (stateOf x t)) .scan) × (u ≡ (openedHere d s (stateOf x t)) .table) × (y .due ≤ x .due) → Leaves y u
+    pub step-open : (m : ℕ) (u : List ℕ) → f ≡ Open m →
+        (y ≡ (openedHere d s (stateOf x t) m) .scan) × (u ≡ (openedHere d s (stateOf x t) m) .table) × (y .due ≤ x .due + 256) → Leaves y u
     unfolding stepBy
-    step-open u e g = let l = g .2 in by-form Open y u (sym e ∙ is) (g .0) (g .1) (omega (arith, l))
+    step-open m u e g = by-form (Open m) y u (sym e ∙ is) (g .0) (g .1) (g .2)
 
     pub step-such : (u : List ℕ) → f ≡ Such → u ≡ suchNoted t (x .within) (x .place + 1) →
         (y ≡ moved x (x .place + 1) 2) × (y .due ≤ x .due + 256) → Leaves y u
     unfolding stepBy
     step-such u e h g = by-form Such y u (sym e ∙ is) (g .0) h (g .1)
 
-    pub step-close : (u : List ℕ) → f ≡ Close → (y ≡ (closed (stateOf x t)) .scan) × (u ≡ (closed (stateOf x t)) .table) → Leaves y u
+    pub step-close : (u : List ℕ) → f ≡ Close → (y ≡ (closed s (stateOf x t)) .scan) × (u ≡ (closed s (stateOf x t)) .table) → Leaves y u
     unfolding stepBy
     step-close u e g = by-form Close y u (sym e ∙ is) (g .0) (g .1) (subst (λ v. v .due ≤ x .due + 256) (sym (g .0)) (omega arith))
 
@@ -199,9 +220,10 @@ module _ (d s : List ℕ) (x : Scan) (t : List ℕ) where
     step-other e g = by-form Other y t (sym e ∙ is) g refl (subst (λ v. v .due ≤ x .due + 256) (sym g) (omega arith))
 
 -- a step keeps the length of the table
-open-long : (b : Bool) (x : State) (o : Opened) (y : Scan) → length ((cond b (opened x o) (stateOf y (x .table))) .table) ≡ length (x .table)
-open-long true x o y = length-sets (x .table) (x .scan .rows * 8) (openRow (x .scan .place) o (x .scan .within))
-open-long false x o y = refl
+open-long : (b : Bool) (x : State) (o : Opened) (m : ℕ) (y : Scan) →
+    length ((cond b (opened x o m) (stateOf y (x .table))) .table) ≡ length (x .table)
+open-long true x o m y = length-sets (x .table) (x .scan .rows * 10) (openRow (x .scan .place) o (x .scan .within) m)
+open-long false x o m y = refl
 
 such-long : (b : Bool) (t : List ℕ) (i p : ℕ) → length (cond b (set t i p) t) ≡ length t
 such-long true t i p = length-set t i p
@@ -213,9 +235,12 @@ step-long d s x (Plain n m) = refl
 step-long d s x Field = refl
 step-long d s x Literal = refl
 step-long d s x Sort = refl
-step-long d s x Open = open-long (ltb (x .scan .rows) 32) x (openedAt d s (x .scan .place + 3)) (stopped (x .scan))
-step-long d s x Such = such-long (eqb (cell (x .table) (x .scan .within) 4) 0) (x .table) (x .scan .within * 8 + 4) (x .scan .place + 1)
-step-long d s x Close = length-set (x .table) (x .scan .within * 8 + 5) (x .scan .place + 1)
+step-long d s x (Open m) = open-long (ltb (x .scan .rows) 32) x (openedAt d s (x .scan .place + 3)) m (stopped (x .scan))
+step-long d s x Such = such-long (eqb (cell (x .table) (x .scan .within) 4) 0) (x .table) (x .scan .within * 10 + 4) (x .scan .place + 1)
+step-long d s x Close =
+    let end = passedBy s (x .scan .place + 1) (cell (x .table) (x .scan .within) 8) in
+    length-set (set (x .table) (x .scan .within * 10 + 5) end) (x .scan .within * 10 + 8) (x .scan .place + 1)
+    ∙ length-set (x .table) (x .scan .within * 10 + 5) end
 step-long d s x Other = refl
 
 pub stepped-long : (d s : List ℕ) (x : State) → length ((stepped d s x) .table) ≡ length (x .table)

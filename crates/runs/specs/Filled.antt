@@ -56,6 +56,8 @@ withRunOf b p n =
       end = b .end;
       first = p;
       count = n;
+      after = b .after;
+      kind = b .kind;
     }
 
 -- bindings whose runs stand one after another from p on, with the first record and the count of each

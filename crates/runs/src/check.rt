@@ -1,4 +1,4 @@
-// The runs that are lent for the rows of any and unique codes: one proper run for each, and what each holds.
+// The runs that are lent for the rows of any, unique and statistic codes: one proper run for each, and what each holds.
 ghost use mathlib.Core.Path.{_≡_};
 ghost use Prim.Native.Nat.{_-_, min};
 ghost use Rattle.wire.specs.Limits.{maxContexts};

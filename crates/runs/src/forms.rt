@@ -1,4 +1,4 @@
-// What a code is to a scan of a condition's bytes, and the bytes of a literal.
+// What a code is to a scan of the bytes of a condition or a from-value, and the bytes of a literal.
 ghost use mathlib.Core.Path.{_≡_};
 ghost use Prim.Native.Nat.{_≤_};
 ghost use Rattle.runs.specs.Forms.{formOf, literalLength};
@@ -10,13 +10,14 @@ use wire::bytes::byte_at;
 use wire::bytes::word_on;
 use wire::codes::LiteralType;
 
-// A plain code takes so many bytes, and so many values, booleans and clauses are due in its place.
+// A plain code takes so many bytes, and so many values, booleans and clauses are due in its place; one that opens an rse has so many
+// numbers due after that.
 pub(crate) enum Form {
     Plain(u8, u8),
     Field,
     Literal,
     Sort,
-    Open,
+    Open(u8),
     Such,
     Close,
     Other,
@@ -50,7 +51,8 @@ pub(crate) fn form_of(code: u8) -> Form
         blr::PARAMETER2 => Form::Plain(6, 0),
         blr::FIELD => Form::Field,
         blr::LITERAL => Form::Literal,
-        blr::ANY | blr::UNIQUE => Form::Open,
+        blr::ANY | blr::UNIQUE | blr::COUNT => Form::Open(0),
+        blr::AVERAGE | blr::MAXIMUM | blr::MINIMUM | blr::TOTAL => Form::Open(1),
         blr::BOOLEAN => Form::Such,
         blr::SORT => Form::Sort,
         blr::END => Form::Close,

@@ -1,4 +1,4 @@
-// A scan over the bytes of a condition that writes a row for each any and unique, in the order of their places.
+// A scan over the bytes of a condition or a from-value that writes a row for each any, unique and statistic, in the order of their places.
 ghost use mathlib.Core.Path.{_≡_};
 ghost use Prim.Native.Nat.{_+_, _*_, _≤_, _<_};
 ghost use lib.ListN.{length};
@@ -8,24 +8,22 @@ ghost use Rattle.runs.specs.Steps.{stateOf, moved, stopped, openRow, ope
 use crate::forms::Form;
 use crate::forms::form_of;
 use crate::forms::literal_length;
+use crate::pass::pass_over;
 use crate::stream::Opened;
 use crate::stream::opened_at;
-use surroundings::bindings::BINDING_COUNT;
+use surroundings::bindings::BINDING_AFTER;
 use surroundings::bindings::BINDING_END;
-use surroundings::bindings::BINDING_FIRST;
-use surroundings::bindings::BINDING_NUMBER;
-use surroundings::bindings::BINDING_RECORD;
-use surroundings::bindings::BINDING_RELATION;
 use surroundings::bindings::BINDING_ROW;
 use surroundings::bindings::BINDING_SUCH;
+use surroundings::bindings::put_half;
 use wire::bytes::byte_on;
 use wire::limits::MAX_CONTEXTS;
 use wire::limits::MAX_REQUEST_BYTES;
 use wire::table::number_at;
 use wire::table::put;
 
-// Where a scan is: its place; how many values, booleans and clauses are due there; how many rows there are; and the row of the any or
-// unique whose rse the place is in, the most that there can be where it is in none.
+// Where a scan is: its place; how many values, booleans and clauses are due there; how many rows there are; and the row whose
+// rse the place is in, the most that there can be where it is in none.
 pub(crate) struct Scan {
     pub(crate) place: usize,
     pub(crate) due: usize,
@@ -62,38 +60,47 @@ fn go_on(scan: Scan, place: usize, more: usize) -> Scan
 }
 
 // A row as it is opened.
-fn put_row(bindings: &mut [u32], row: usize, place: u32, opened: Opened, within: u32)
+fn put_row(bindings: &mut [u32], row: usize, place: u32, opened: Opened, within: u32, more: u8)
     requires { ⌜ row < maxContexts ⌝ }
-    ensures { λ _. ⌜ now (bindings .exit) ≡ sets (now (bindings .entry)) (row * 8) (openRow place opened within) ⌝ }
+    ensures { λ _. ⌜ now (bindings .exit) ≡ sets (now (bindings .entry)) (row * 10) (openRow place opened within more) ⌝ }
 {
-    let at = row * BINDING_ROW;
-    put(bindings, at, place);
-    put(bindings, at + BINDING_NUMBER, opened.number as u32);
-    put(bindings, at + BINDING_RELATION, opened.relation);
-    put(bindings, at + BINDING_RECORD, 0);
-    put(bindings, at + BINDING_SUCH, 0);
-    put(bindings, at + BINDING_END, within);
-    put(bindings, at + BINDING_FIRST, 0);
-    put(bindings, at + BINDING_COUNT, 0);
+    let at = (row * BINDING_ROW) as u32;
+    put_half(
+        bindings,
+        at,
+        place,
+        opened.number as u32,
+        opened.relation,
+        0,
+        0,
+    );
+    put_half(bindings, at + 5, within, 0, 0, more as u32, 0);
 }
 
-// An any or a unique.
-fn open_row(request: &[u8], dictionary: &[u8], bindings: &mut [u32], scan: Scan) -> Scan
-    requires { ⌜ scan .place ≤ maxRequestBytes ⌝ }
+// An any, a unique or a statistic, with so many numbers due after its rse.
+fn open_row(request: &[u8], dictionary: &[u8], bindings: &mut [u32], scan: Scan, more: u8) -> Scan
+    requires { ⌜ (scan .place ≤ maxRequestBytes) × (scan .due ≤ 4294967296) ⌝ }
     ensures { λ r.
-        ⌜ (r ≡ (openedHere (now (dictionary .entry)) (now (request .entry)) (stateOf scan (now (bindings .entry)))) .scan) ×
+        ⌜ (r ≡ (openedHere (now (dictionary .entry)) (now (request .entry)) (stateOf scan (now (bindings .entry))) more) .scan) ×
         (now (bindings .exit) ≡
-        (openedHere (now (dictionary .entry)) (now (request .entry)) (stateOf scan (now (bindings .entry)))) .table) ×
-        (r .due ≤ scan .due) ⌝ }
+        (openedHere (now (dictionary .entry)) (now (request .entry)) (stateOf scan (now (bindings .entry))) more) .table) ×
+        (r .due ≤ scan .due + 256) ⌝ }
 {
     if MAX_CONTEXTS <= scan.rows {
         return stop(scan);
     }
     let opened = opened_at(request, dictionary, scan.place + 3);
-    put_row(bindings, scan.rows, scan.place as u32, opened, scan.within);
+    put_row(
+        bindings,
+        scan.rows,
+        scan.place as u32,
+        opened,
+        scan.within,
+        more,
+    );
     Scan {
         place: opened.after,
-        due: scan.due,
+        due: scan.due + more as usize,
         rows: scan.rows + 1,
         within: scan.rows as u32,
     }
@@ -109,16 +116,19 @@ fn note_such(bindings: &mut [u32], within: u32, place: u32)
     }
 }
 
-// The end of an rse: back in the one that it stands in.
-fn close_row(bindings: &mut [u32], scan: Scan) -> Scan
-    requires { ⌜ (scan .place < maxRequestBytes) × (0 < scan .due) ⌝ }
+// The end of an rse: back in the one that it stands in. Its row ends after the numbers that are due.
+fn close_row(request: &[u8], bindings: &mut [u32], scan: Scan) -> Scan
+    requires { ⌜ (length (now request) ≤ maxRequestBytes) × (scan .place < maxRequestBytes) × (0 < scan .due) ⌝ }
     ensures { λ r.
-        ⌜ (r ≡ (closed (stateOf scan (now (bindings .entry)))) .scan) ×
-        (now (bindings .exit) ≡ (closed (stateOf scan (now (bindings .entry)))) .table) ⌝ }
+        ⌜ (r ≡ (closed (now (request .entry)) (stateOf scan (now (bindings .entry)))) .scan) ×
+        (now (bindings .exit) ≡ (closed (now (request .entry)) (stateOf scan (now (bindings .entry)))) .table) ⌝ }
 {
-    let at = scan.within as usize * BINDING_ROW + BINDING_END;
-    let outer = number_at(bindings, at);
-    put(bindings, at, scan.place as u32 + 1);
+    let at = scan.within as usize * BINDING_ROW;
+    let outer = number_at(bindings, at + BINDING_END);
+    let more = number_at(bindings, at + BINDING_AFTER) as usize;
+    let end = pass_over(request, scan.place + 1, more);
+    put(bindings, at + BINDING_END, end as u32);
+    put(bindings, at + BINDING_AFTER, scan.place as u32 + 1);
     Scan {
         place: scan.place + 1,
         due: scan.due - 1,
@@ -145,18 +155,21 @@ fn step(request: &[u8], dictionary: &[u8], bindings: &mut [u32], scan: Scan) -> 
         Form::Plain(n, more) => go_on(scan, p + n as usize, more as usize),
         Form::Field => go_on(scan, p + 3 + byte_on(request, p, 2) as usize, 0),
         Form::Literal => go_on(scan, p + 1 + literal_length(request, p + 1), 0),
-        Form::Sort => go_on(scan, p + 2, byte_on(request, p, 1) as usize + 1),
-        Form::Open => open_row(request, dictionary, bindings, scan),
+        Form::Sort => {
+            let keys = byte_on(request, p, 1) as usize;
+            go_on(scan, pass_over(request, p + 2, keys), 1)
+        }
+        Form::Open(more) => open_row(request, dictionary, bindings, scan, more),
         Form::Such => {
             note_such(bindings, scan.within, p as u32 + 1);
             go_on(scan, p + 1, 2)
         }
-        Form::Close => close_row(bindings, scan),
+        Form::Close => close_row(request, bindings, scan),
         Form::Other => stop(scan),
     }
 }
 
-// The rows of the any and unique codes of the boolean at a place, from a row on; the number of rows in all.
+// The rows of the any, unique and statistic codes of the boolean or the value at a place, from a row on; the number of rows in all.
 pub fn find_runs(
     request: &[u8],
     dictionary: &[u8],

@@ -1,10 +1,11 @@
-// The stream of an any or a unique.
+// The stream of an any, a unique or a statistic.
 ghost use mathlib.Core.Path.{_≡_};
 ghost use Prim.Native.Nat.{_+_, _≤_};
 ghost use Rattle.wire.specs.Limits.{maxRequestBytes};
 ghost use Rattle.dictionary.specs.Naming.{named};
 ghost use Rattle.dictionary.specs.Internal.Walk.{relationPlace};
 ghost use Rattle.surroundings.specs.Slots.{placeOr};
+ghost use Rattle.runs.specs.Passes.{afterStream};
 ghost use Rattle.runs.specs.Steps.{openedAt};
 use classes::StreamClass;
 use classes::stream_class;
@@ -67,5 +68,21 @@ pub(crate) fn opened_at(request: &[u8], dictionary: &[u8], p: usize) -> Opened
             number: 0,
             after: p + 1,
         },
+    }
+}
+
+// The place after the stream whose code stands at a place.
+pub(crate) fn after_stream(request: &[u8], p: usize) -> usize
+    requires { ⌜ p ≤ maxRequestBytes + 3 ⌝ }
+    ensures { λ r. ⌜ (r ≡ afterStream (now (request .entry)) p) × (r ≤ p + 258) ⌝ }
+{
+    let class = stream_class(byte_at(request, p));
+    match class {
+        StreamClass::Due(c) => match c {
+            StreamCode::Relation => p + 3 + byte_at(request, p + 1) as usize,
+            StreamCode::Rid => p + 4,
+        },
+        StreamClass::LeftOut => p + 1,
+        StreamClass::Foreign => p + 1,
     }
 }

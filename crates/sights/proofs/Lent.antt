@@ -1,4 +1,4 @@
--- The rows of a boolean's any and unique codes have their runs, record for record.
+-- The rows of any, unique and statistic codes have their runs, record for record.
 use Prim.Native.Nat.{ℕ, zero, suc, _+_, _*_, _<_, _≤_}
 use mathlib.Core.Path.{_≡_, refl, sym, ap, ap₂, _∙_}
 use mathlib.Core.Bool.{Bool, true, false, _&&_}
@@ -26,14 +26,14 @@ use Rattle.walking.specs.Sees.{Pairs, noPair, pairs}
 use Rattle.walking.proofs.Sites.{All, all-append}
 use Rattle.walking.proofs.Due.{all-follow, Grows}
 use Rattle.surroundings.specs.Slots.{placeOr}
-use Rattle.surroundings.specs.Bindings.{Binding, bindingRows, bindingNumber, bindingRelation, bindingSuch, bindingEnd, bindingFirst, bindingCount, recordPlaces, placeIf}
+use Rattle.surroundings.specs.Bindings.{Binding, bindingRows, bindingNumber, bindingRelation, bindingSuch, bindingEnd, bindingFirst, bindingCount, bindingAfter, bindingKind, kindIf, recordPlaces, placeIf}
 use Rattle.runs.specs.Filled.{withRunOf, filledBindings}
 use Rattle.runs.proofs.FilledLaws.{next-run}
-use Rattle.sights.specs.Seen.{Stands}
 use Rattle.sights.specs.Sites.{Site}
+use Rattle.sights.specs.Seen.{Stands, LaidRun, Kinds, withKind, withKinds}
 use Rattle.sights.proofs.Starts.{Unbound}
 use Rattle.sights.proofs.Tables.{cell-of, coded-in, index-past, element-past}
-use Rattle.sights.proofs.Trees.{rowOf, dueOf, Good, LaidAt}
+use Rattle.sights.proofs.Trees.{rowOf, dueOf, Good}
 
 -- ---- the records of one run
 
@@ -69,7 +69,7 @@ run-pairs r s q e =
 
 -- ---- one run after another
 
-entry-of : (d : List ℕ) (rs : List Relation) → dictionary d ≡ proper rs → (n : Name) (r : Relation) → relationOf rs n ≡ some r →
+pub entry-of : (d : List ℕ) (rs : List Relation) → dictionary d ≡ proper rs → (n : Name) (r : Relation) → relationOf rs n ≡ some r →
     relationAt d (placeOr (relationPlace d n)) ≡ r
 entry-of d rs h n r e = by (relationPlace d n) (found-is d rs h n ∙ e)
   where
@@ -97,25 +97,27 @@ module _ {A : Type 0} (f : A → ℕ) (lo p : ℕ) (later : lo ≤ p) (xs : List
   all-before = all-follow (λ x. f x < lo) (λ x. f x < p) xs (λ x b. omega (arith, b)) low
 
 module _ (d : List ℕ) (rs : List Relation) (h : dictionary d ≡ proper rs) (s : List ℕ) where
-  -- the row of a site whose run stands at q, and the run
-  abbrev filledRow : ℕ → Site → Binding
-  filledRow q z = withRunOf (rowOf d z) (q + 4) (recordsHeld (relationAt d (rowOf d z .relation)) (wordAt s q))
+  -- the row of a site whose run stands at q, with a kind, and the run
+  abbrev filledRow : ℕ → ℕ → Site → Binding
+  filledRow q c z = withRunOf (withKind (rowOf d z) c) (q + 4) (recordsHeld (relationAt d (rowOf d z .relation)) (wordAt s q))
 
   abbrev lentRun : ℕ → Site → LentRun
   lentRun q z = record { place = z .place; records = recordsIn (relationOf rs (z .stream .relation)) (drop q s) }
 
   -- the rows before it have lower codes, and the runs before it lower places
-  site-laid : (z : Site) (q lo : ℕ) (before after : List Binding) (lower higher : List LentRun) → 0 < lo → lo ≤ z .place →
-      All (λ b. b .code < lo) before → All (λ l. l .place < lo) lower → Good rs z → properRun (relationAt d (rowOf d z .relation)) s q ≡ true →
-      LaidAt d s (bindingRows (before ++ filledRow q z ∷ after)) rs (lower ++ lentRun q z ∷ higher) z
-  site-laid z q lo before after lower higher l k a b g w =
+  site-laid : (z : Site) (c q lo : ℕ) (before after : List Binding) (lower higher : List LentRun) → 0 < lo → lo ≤ z .place →
+      All (λ b. b .code < lo) before → All (λ l. l .place < lo) lower → Good rs z → kindIf c ≡ z .kind →
+      properRun (relationAt d (rowOf d z .relation)) s q ≡ true →
+      LaidRun d s (bindingRows (before ++ filledRow q c z ∷ after)) rs (lower ++ lentRun q z ∷ higher) z
+  site-laid z c q lo before after lower higher l k a b g m w =
       let r = g .0 .0 in
       let e = entry-of d rs h (z .stream .relation) r (g .0 .1) in
       let v : properRun r s q ≡ true = rw e at w in
-      let all = before ++ filledRow q z ∷ after in
-      let i = element-past before (filledRow q z) after in
-      let first = cell-of all (length before) bindingFirst (filledRow q z) (omega arith) i in
-      let count = cell-of all (length before) bindingCount (filledRow q z) (omega arith) i in
+      let row = filledRow q c z in
+      let all = before ++ row ∷ after in
+      let i = element-past before row after in
+      let first = cell-of all (length before) bindingFirst row (omega arith) i in
+      let count = cell-of all (length before) bindingCount row (omega arith) i in
       record {
         row = length before;
         r = r;
@@ -123,27 +125,29 @@ module _ (d : List ℕ) (rs : List Relation) (h : dictionary d ≡ proper rs) (s
         coded = omega (arith, l, k);
         row-is =
             coded-in all (z .place)
-            ∙ index-past (λ (b : Binding). eqb (b .code) (z .place)) before (filledRow q z) after
+            ∙ index-past (λ (b : Binding). eqb (b .code) (z .place)) before row after
             (all-elsewhere (λ (b : Binding). b .code) lo (z .place) k before a) (eq-eqb (z .place) (z .place) refl);
-        number-is = cell-of all (length before) bindingNumber (filledRow q z) (omega arith) i;
+        context-is = cell-of all (length before) bindingNumber row (omega arith) i;
         relation-is = g .0 .1;
-        entry-is = ap (relationAt d) (cell-of all (length before) bindingRelation (filledRow q z) (omega arith) i) ∙ e;
-        such-is = ap placeIf (cell-of all (length before) bindingSuch (filledRow q z) (omega arith) i) ∙ g .1;
-        end-is = cell-of all (length before) bindingEnd (filledRow q z) (omega arith) i;
+        entry-is = ap (relationAt d) (cell-of all (length before) bindingRelation row (omega arith) i) ∙ e;
+        such-is = ap placeIf (cell-of all (length before) bindingSuch row (omega arith) i) ∙ g .1;
+        after-is = cell-of all (length before) bindingAfter row (omega arith) i;
+        end-is = cell-of all (length before) bindingEnd row (omega arith) i;
+        kind-is = ap kindIf (cell-of all (length before) bindingKind row (omega arith) i) ∙ m;
         run-is =
             find-past (λ (x : LentRun). eqb (x .place) (z .place)) lower (lentRun q z) higher
             (all-elsewhere (λ (x : LentRun). x .place) lo (z .place) k lower b) (eq-eqb (z .place) (z .place) refl);
         records-are = rw (first, count, e, g .0 .1) (run-pairs r s q v);
       }
 
-  pub all-lent : (zs : List Site) (q lo hi : ℕ) (before : List Binding) (lower : List LentRun) (u : List ℕ) (lent : List LentRun) → 0 < lo →
-      Grows lo hi (map (dueOf rs) zs) → All (λ b. b .code < lo) before → All (λ l. l .place < lo) lower → All (Good rs) zs →
-      Runs.runs (runRelations (map (dueOf rs) zs)) s q ≡ asDue →
-      u ≡ bindingRows (before ++ filledBindings d s q (map (rowOf d) zs)) → lent ≡ lower ++ lentRuns (map (dueOf rs) zs) (drop q s) →
-      All (LaidAt d s u rs lent) zs
-  unfolding filledBindings lentRuns
-  all-lent [] q lo hi before lower u lent l w a b g due e f = tt
-  all-lent (z ∷ zs) q lo hi before lower u lent l w a b g due e f =
+  pub all-lent : (cs : List ℕ) (zs : List Site) (q lo hi : ℕ) (before : List Binding) (lower : List LentRun) (u : List ℕ) (lent : List LentRun) →
+      Kinds cs zs → 0 < lo → Grows lo hi (map (dueOf rs) zs) → All (λ b. b .code < lo) before → All (λ l. l .place < lo) lower →
+      All (Good rs) zs → Runs.runs (runRelations (map (dueOf rs) zs)) s q ≡ asDue →
+      u ≡ bindingRows (before ++ filledBindings d s q (withKinds (map (rowOf d) zs) cs)) →
+      lent ≡ lower ++ lentRuns (map (dueOf rs) zs) (drop q s) → All (LaidRun d s u rs lent) zs
+  unfolding filledBindings lentRuns withKinds
+  all-lent _ _ q lo hi before lower u lent noPair l w a b g due e f = tt
+  all-lent (c ∷ cs) (z ∷ zs) q lo hi before lower u lent (pairs m ms) l w a b g due e f =
       let r = g .0 .0 .0 in
       let n = next-run r (runRelations (map (dueOf rs) zs)) s q (rw (due-next rs z zs r (g .0 .0 .1)) at due) in
       let k = w .0 in
@@ -151,8 +155,8 @@ module _ (d : List ℕ) (rs : List Relation) (h : dictionary d ≡ proper rs) (s
       let v : properRun (relationAt d (rowOf d z .relation)) s q ≡ true = rw i (n .0) in
       let here = z .place + 1 in
       let ready : 0 < here = omega arith in
-      let row = filledRow q z in
-      let rest = filledBindings d s (q + wordAt s q) (map (rowOf d) zs) in
+      let row = filledRow q c z in
+      let rest = filledBindings d s (q + wordAt s q) (withKinds (map (rowOf d) zs) cs) in
       let run = lentRun q z in
       let more = lentRuns (map (dueOf rs) zs) (drop (q + wordAt s q) s) in
       let step : drop (wordAt (drop q s) 0) (drop q s) ≡ drop (q + wordAt s q) s =
@@ -160,8 +164,8 @@ module _ (d : List ℕ) (rs : List Relation) (h : dictionary d ≡ proper rs) (s
       let lent-is : lent ≡ lower ++ run ∷ more = f ∙ ap (λ m. lower ++ run ∷ lentRuns (map (dueOf rs) zs) m) step in
       let below : z .place < here = omega arith in
       let up : lo ≤ here = omega (arith, k) in (
-        rw (e, lent-is) (site-laid z q lo before rest lower more l k a b (g .0) v),
-        all-lent zs (q + wordAt s q) here hi (before ++ (row ∷ [])) (lower ++ (run ∷ [])) u lent ready (w .1)
+        rw (e, lent-is) (site-laid z c q lo before rest lower more l k a b (g .0) m v),
+        all-lent cs zs (q + wordAt s q) here hi (before ++ (row ∷ [])) (lower ++ (run ∷ [])) u lent ms ready (w .1)
             (all-append (λ (b : Binding). b .code < here) before (row ∷ []) (all-before (λ (b : Binding). b .code) lo here up before a) (below, tt))
             (all-append (λ (x : LentRun). x .place < here) lower (run ∷ []) (all-before (λ (x : LentRun). x .place) lo here up lower b) (below, tt))
             (g .1) (n .1)
@@ -171,10 +175,12 @@ module _ (d : List ℕ) (rs : List Relation) (h : dictionary d ≡ proper rs) (s
 
 -- ---- they bind nothing yet
 
-pub filled-unbound : (rs : List Relation) (d s : List ℕ) (zs : List Site) (q lo hi : ℕ) → 0 < lo → Grows lo hi (map (dueOf rs) zs) → All Unbound (filledBindings d s q (map (rowOf d) zs))
-unfolding filledBindings
-filled-unbound rs d s [] q lo hi l w = tt
-filled-unbound rs d s (z ∷ zs) q lo hi l w =
+pub filled-unbound : (rs : List Relation) (d s cs : List ℕ) (zs : List Site) (q lo hi : ℕ) → 0 < lo → Grows lo hi (map (dueOf rs) zs) →
+    All Unbound (filledBindings d s q (withKinds (map (rowOf d) zs) cs))
+unfolding filledBindings withKinds
+filled-unbound rs d s cs [] q lo hi l w = tt
+filled-unbound rs d s [] (z ∷ zs) q lo hi l w = tt
+filled-unbound rs d s (c ∷ cs) (z ∷ zs) q lo hi l w =
     let k = w .0 in
     let here : 0 < z .place + 1 = omega arith in
-    ((omega (arith, l, k), refl), filled-unbound rs d s zs (q + wordAt s q) (z .place + 1) hi here (w .1))
+    ((omega (arith, l, k), refl), filled-unbound rs d s cs zs (q + wordAt s q) (z .place + 1) hi here (w .1))

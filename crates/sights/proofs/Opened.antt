@@ -1,4 +1,4 @@
--- One context more: a table with a record in turn has what the meaning has inside an any or a unique.
+-- One context more: a table with a record in turn has what the meaning has inside an any, a unique or a statistic.
 use Prim.Native.Nat.{ℕ, zero, suc, _+_, _<_, _≤_}
 use mathlib.Core.Path.{_≡_, refl, sym, ap, subst, _∙_}
 use mathlib.Core.Bool.{Bool, true, false, cond}

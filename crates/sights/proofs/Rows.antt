@@ -86,7 +86,7 @@ module _ (t : List ℕ) (row place : ℕ) where
       (λ e. n (let z : i ≡ row = omega (arith, e, h) in z))
 
   pub in-turn : row < rowsIn t → cell turned row bindingRecord ≡ place
-  in-turn h = getD-set-same t (row * bindingRowNumbers + bindingRecord) place 0 (let z : row * 8 + 3 < length t = omega (arith, h) in z)
+  in-turn h = getD-set-same t (row * bindingRowNumbers + bindingRecord) place 0 (let z : row * 10 + 3 < length t = omega (arith, h) in z)
 
   pub kept-turned : (u : List ℕ) → Kept u t → Kept u turned
   kept-turned u k =

@@ -1,4 +1,4 @@
--- At the start of a condition a table binds the contexts in scope to their records.
+-- At the start of a condition or a from-value a table binds the contexts in scope to their records.
 use Prim.Native.Nat.{ℕ, zero, suc, _+_, _<_, _≤_}
 use mathlib.Core.Path.{_≡_, refl, sym, ap, ap₂, _∙_}
 use mathlib.Core.Bool.{Bool, true, false, cond, _&&_}
@@ -27,7 +27,7 @@ use Rattle.sights.specs.Seen.{Agree, neither, both, Bound}
 use Rattle.sights.proofs.Opened.{element-before}
 use Rattle.sights.proofs.Tables.{cell-of, bindsNumber, binding-in, index-front}
 
--- a row that binds nothing: that of an any or a unique, with no record in turn
+-- a row that binds nothing: that of an any, a unique or a statistic, with no record in turn
 abbrev pub Unbound : Binding → Type 0
 Unbound b = (0 < b .code) × (b .record-place ≡ 0)
 

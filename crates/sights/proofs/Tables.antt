@@ -16,16 +16,16 @@ use Rattle.surroundings.specs.Bindings.{Binding, bindingRow, bindingRows, bindi
 -- ---- numbers
 
 -- number k of a row
-pub cell-of : (bs : List Binding) (row k : ℕ) (b : Binding) → k < 8 → getElem? bs row ≡ some b → cell (bindingRows bs) row k ≡ getD (bindingRow b) k 0
+pub cell-of : (bs : List Binding) (row k : ℕ) (b : Binding) → k < 10 → getElem? bs row ≡ some b → cell (bindingRows bs) row k ≡ getD (bindingRow b) k 0
 unfolding bindingRows
 cell-of [] row k b h e = absurd-eq (cc)
 cell-of (x ∷ bs) zero k b h e =
     let z : x ≡ b = cc in
-    let n : 0 * 8 + k ≡ k = omega arith in
+    let n : 0 * 10 + k ≡ k = omega arith in
     ap (λ (j : ℕ). getD (bindingRow x ++ bindingRows bs) j 0) n ∙ List·getD-append (bindingRow x) (bindingRows bs) 0 k h
     ∙ ap (λ (y : Binding). getD (bindingRow y) k 0) z
 cell-of (x ∷ bs) (suc row) k b h e =
-    let n : suc row * 8 + k ≡ suc (suc (suc (suc (suc (suc (suc (suc (row * 8 + k)))))))) = omega arith in
+    let n : suc row * 10 + k ≡ suc (suc (suc (suc (suc (suc (suc (suc (suc (suc (row * 10 + k)))))))))) = omega arith in
     ap (λ (j : ℕ). getD (bindingRow x ++ bindingRows bs) j 0) n ∙ cell-of bs row k b h e
 
 -- ---- the first row that passes

@@ -1,3 +1,3 @@
--- What a table of bindings has to hold for a condition.
+-- What a table of bindings has to hold for a condition or a from-value.
 pub mod Sites
 pub mod Seen

@@ -1,4 +1,4 @@
--- What a table of bindings has to hold, so that a walk sees by it what the meaning has around a condition.
+-- What a table of bindings has to hold, so that a walk sees by it what the meaning has around a condition or a from-value.
 use Prim.Native.Nat.{ℕ, _+_, _<_, _≤_}
 use mathlib.Core.Path.{_≡_}
 use mathlib.Core.List.{List, [], _∷_}
@@ -10,15 +10,13 @@ use Rattle.dictionary.specs.Dictionary.{Relation}
 use Rattle.dictionary.specs.Naming.{relationOf}
 use Rattle.dictionary.specs.Internal.Walk.{relationAt}
 use Rattle.records.specs.Record.{recordLength}
-use Rattle.grammar.specs.Tree.{Stream, Boolean, compare, search, between, connect, not, missing, quantify, Clauses, noClauses, such, sorted, Rse, rse}
-use Rattle.grammar.specs.Bytes.{keysBytes, headBytes, rseBytes}
 use Rattle.grammar.specs.Environment.{Context}
 use Rattle.meaning.specs.Inputs.{recordPlace, parameterAt}
 use Rattle.meaning.specs.Runs.{LentRun, Around}
-use Rattle.meaning.specs.Meaning.{booleanSize}
-use Rattle.walking.specs.Sees.{Pairs, suchPlace}
+use Rattle.walking.specs.Sees.{Pairs}
 use Rattle.surroundings.specs.Parameters.{parameterFrom}
-use Rattle.surroundings.specs.Bindings.{bindingRowNumbers, bindingNumber, bindingRelation, bindingRecord, bindingSuch, bindingEnd, bindingFirst, bindingCount, cell, rowsIn, rowBinding, bytesBound, rowCoded, recordPlaces, placeIf}
+use Rattle.surroundings.specs.Bindings.{Binding, bindingRowNumbers, bindingNumber, bindingRelation, bindingRecord, bindingSuch, bindingEnd, bindingFirst, bindingCount, bindingAfter, bindingKind, kindIf, cell, rowsIn, rowBinding, bytesBound, rowCoded, recordPlaces, placeIf}
+use Rattle.sights.specs.Sites.{Site}
 
 -- ---- the contexts
 
@@ -46,7 +44,7 @@ pub record Bound (d records runs t : List ℕ) (xs : List Context) (s : List ℕ
   pub agree : (c : ℕ) → Agree d records runs t xs s (rowBinding t c (rowsIn t) 0) (indexOf (λ x. eqb (x .number) c) xs)
   pub sized : length s ≡ recordPlace xs (length xs)
 
--- a table of bindings and the rest that evaluation takes have what stands around a boolean
+-- a table of bindings and the rest that evaluation takes have what stands around a boolean or a value
 pub record Seen (d parameters : List ℕ) (count : ℕ) (images records runs t : List ℕ) (a : Around) : Type 0 where
   pub bound : Bound d records runs t (a .scope .contexts) (a .records)
   pub parameters-are : (m i : ℕ) → parameterFrom parameters m i count 0 0 ≡ parameterAt (a .messages) m i
@@ -63,44 +61,48 @@ pub record Kept (u t : List ℕ) : Type 0 where
 abbrev pub Stands : Relation → List ℕ → ℕ → List ℕ → Type 0
 Stands r runs p e = (0 < p) × (p + recordLength r ≤ length runs) × (e ≡ recordAt r runs p)
 
--- the row of the any or the unique at p: its stream, the place of its rse's condition, the place after it, and its run, record for record
-pub record LaidRun (d runs u : List ℕ) (rs : List Relation) (lent : List LentRun) (s : Stream) (found : Option ℕ) (end p : ℕ) : Type 0 where
+-- the row of an any, a unique or a statistic: its stream, the places of its rse's condition, after the rse and after all of it, the kind of
+-- its number, and its run, record for record
+pub record LaidRun (d runs u : List ℕ) (rs : List Relation) (lent : List LentRun) (z : Site) : Type 0 where
   pub row : ℕ
   pub r : Relation
   pub run : LentRun
-  pub coded : 0 < p
-  pub row-is : rowCoded u p (rowsIn u) 0 ≡ some row
-  pub number-is : cell u row bindingNumber ≡ s .context
-  pub relation-is : relationOf rs (s .relation) ≡ some r
+  pub coded : 0 < z .place
+  pub row-is : rowCoded u (z .place) (rowsIn u) 0 ≡ some row
+  pub context-is : cell u row bindingNumber ≡ z .stream .context
+  pub relation-is : relationOf rs (z .stream .relation) ≡ some r
   pub entry-is : relationAt d (cell u row bindingRelation) ≡ r
-  pub such-is : placeIf (cell u row bindingSuch) ≡ found
-  pub end-is : cell u row bindingEnd ≡ end
-  pub run-is : find (λ x. eqb (x .place) p) lent ≡ some run
+  pub such-is : placeIf (cell u row bindingSuch) ≡ z .condition
+  pub after-is : cell u row bindingAfter ≡ z .after
+  pub end-is : cell u row bindingEnd ≡ z .end
+  pub kind-is : kindIf (cell u row bindingKind) ≡ z .kind
+  pub run-is : find (λ x. eqb (x .place) (z .place)) lent ≡ some run
   pub records-are : Pairs (Stands r runs) (recordPlaces runs (cell u row bindingCount) (cell u row bindingFirst)) (run .records)
 
--- with the streams of its rse, which is one
-abbrev pub LaidStreams : (d runs u : List ℕ) (rs : List Relation) (lent : List LentRun) → List Stream → Option ℕ → ℕ → ℕ → Type 0
-LaidStreams d runs u rs lent [] found end p = Unit {0}
-LaidStreams d runs u rs lent (s ∷ []) found end p = LaidRun d runs u rs lent s found end p
-LaidStreams d runs u rs lent (s ∷ z ∷ ss) found end p = Unit {0}
+-- ---- the kinds
 
--- a row for each any and unique of a boolean at p
-unfoldable mutual
-  pub Laid : (d runs u : List ℕ) (rs : List Relation) (lent : List LentRun) → Boolean → ℕ → Type 0
-  Laid d runs u rs lent (compare c v w) p = Unit {0}
-  Laid d runs u rs lent (search t v w) p = Unit {0}
-  Laid d runs u rs lent (between v w x) p = Unit {0}
-  Laid d runs u rs lent (connect c a b) p = Laid d runs u rs lent a (p + 1) × Laid d runs u rs lent b (p + 1 + booleanSize a)
-  Laid d runs u rs lent (not a) p = Laid d runs u rs lent a (p + 1)
-  Laid d runs u rs lent (missing v) p = Unit {0}
-  Laid d runs u rs lent (quantify q r) p = LaidRse d runs u rs lent r p
+-- numbers that say the kinds of sites, one for one: 0 for an any, a unique and a count
+abbrev pub Kinds : List ℕ → List Site → Type 0
+Kinds ks zs = Pairs (λ (k : ℕ) (z : Site). kindIf k ≡ z .kind) ks zs
 
-  pub LaidRse : (d runs u : List ℕ) (rs : List Relation) (lent : List LentRun) → Rse → ℕ → Type 0
-  LaidRse d runs u rs lent (rse ss cs) p =
-      LaidStreams d runs u rs lent ss (suchPlace cs (p + 1 + length (headBytes ss))) (p + 1 + length (rseBytes (rse ss cs))) p ×
-      LaidClauses d runs u rs lent cs (p + 1 + length (headBytes ss))
+-- a row with the kind of its number
+abbrev pub withKind : Binding → ℕ → Binding
+withKind b k =
+    record {
+      code = b .code;
+      number = b .number;
+      relation = b .relation;
+      record-place = b .record-place;
+      such = b .such;
+      end = b .end;
+      first = b .first;
+      count = b .count;
+      after = b .after;
+      kind = k;
+    }
 
-  pub LaidClauses : (d runs u : List ℕ) (rs : List Relation) (lent : List LentRun) → Clauses → ℕ → Type 0
-  LaidClauses d runs u rs lent noClauses p = Unit {0}
-  LaidClauses d runs u rs lent (such b cs) p = Laid d runs u rs lent b (p + 1)
-  LaidClauses d runs u rs lent (sorted ks cs) p = LaidClauses d runs u rs lent cs (p + 2 + length (keysBytes ks))
+-- rows with the kinds of their numbers, one for one
+unfoldable pub withKinds : List Binding → List ℕ → List Binding
+withKinds [] ks = []
+withKinds (b ∷ bs) [] = []
+withKinds (b ∷ bs) (k ∷ ks) = withKind b k ∷ withKinds bs ks

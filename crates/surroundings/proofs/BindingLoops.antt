@@ -6,8 +6,7 @@ use mathlib.Core.Bool.{Bool, true, false, cond, not}
 use mathlib.Core.List.{List, [], _∷_}
 use mathlib.Core.Option.{Option, none, some}
 use native.Mathlib.Omega.{arith}
-use native.Mathlib.Nat.{add-zero}
-use native.Mathlib.Numerals.{add-one, add-two, add-three, add-four, add-five, add-six, add-seven}
+use native.Mathlib.Numerals.{add-one, add-two, add-three, add-four, add-five}
 use lib.Dec.{eqb}
 use lib.ListN.{length, getD, set}
 use lib.Seq.{sets, length-sets}
@@ -91,17 +90,21 @@ module _ (t : List ℕ) (c row n : ℕ) (e : n ≡ cell t row 1) where
 
 -- ---- the numbers of a row
 
-pub row-stored : (t : List ℕ) (i a b c d e f g h : ℕ) →
-    set (set (set (set (set (set (set (set t (i + 0) a) (i + 1) b) (i + 2) c) (i + 3) d) (i + 4) e) (i + 5) f) (i + 6) g) (i + 7) h
-    ≡ sets t i (a ∷ b ∷ c ∷ d ∷ e ∷ f ∷ g ∷ h ∷ [])
-row-stored t i a b c d e f g h = rw (add-zero, add-one, add-two, add-three, add-four, add-five, add-six, add-seven)
+pub half-stored : (t : List ℕ) (i a b c d e : ℕ) →
+    set (set (set (set (set t i a) (i + 1) b) (i + 2) c) (i + 3) d) (i + 4) e ≡ sets t i (a ∷ b ∷ c ∷ d ∷ e ∷ [])
+half-stored t i a b c d e = rw (add-one, add-two, add-three, add-four)
+
+-- one half after the other
+pub row-stored : (t u v : List ℕ) (i a b c d e f g h j k : ℕ) → u ≡ sets t i (a ∷ b ∷ c ∷ d ∷ e ∷ []) →
+    v ≡ sets u (i + 5) (f ∷ g ∷ h ∷ j ∷ k ∷ []) → v ≡ sets t i (a ∷ b ∷ c ∷ d ∷ e ∷ f ∷ g ∷ h ∷ j ∷ k ∷ [])
+row-stored t u v i a b c d e f g h j k x y = y ∙ ap (λ l. sets l (i + 5) (f ∷ g ∷ h ∷ j ∷ k ∷ [])) x ∙ rw (add-five)
 
 -- ---- contexts in scope
 
 -- how far the table is laid: what is still to come, laid from here on, gives what all of it gives from the start
 pub record Laying (numbers relations records : List ℕ) (rows : ℕ) (bindings₀ bindings : List ℕ) (row p : ℕ) : Type 0 where
   pub same :
-      sets bindings (row * 8) (bindingRows (boundContexts (slotsIn numbers relations (rows - row) row) records p))
+      sets bindings (row * 10) (bindingRows (boundContexts (slotsIn numbers relations (rows - row) row) records p))
       ≡ sets bindings₀ 0 (bindingRows (boundContexts (slotsIn numbers relations rows 0) records 0))
   pub within : row ≤ rows
   pub near : p ≤ row * 65535
@@ -119,7 +122,7 @@ module _ (numbers relations records : List ℕ) (rows : ℕ) (bindings₀ : List
     lay-end h = let k : rows - row ≡ 0 = omega arith in rw k at (f .same)
 
     pub lay-next : row < rows → (n r w : ℕ) → n ≡ getD numbers row 0 → r ≡ getD relations row 0 → w ≡ wordAt records p → w < 65536 →
-        (bindings′ : List ℕ) → bindings′ ≡ sets bindings (row * 8) (bindingRow (contextBinding n r p)) →
+        (bindings′ : List ℕ) → bindings′ ≡ sets bindings (row * 10) (bindingRow (contextBinding n r p)) →
         Laying numbers relations records rows bindings₀ bindings′ (row + 1) (p + w)
     unfolding slotsIn boundContexts bindingRows
     lay-next h n r w e g i l bindings′ j =
@@ -127,8 +130,8 @@ module _ (numbers relations records : List ℕ) (rows : ℕ) (bindings₀ : List
         let x : Slot = record { number = n; relation = r } in
         let s : slotsIn numbers relations (rows - row) row ≡ x ∷ slotsIn numbers relations (rows - (row + 1)) (row + 1) =
         rw (more, slotsIn, e, g) in
-        let k : (row + 1) * 8 ≡ suc (suc (suc (suc (suc (suc (suc (suc (row * 8)))))))) = omega arith in
-        let b = length-sets bindings (row * 8) (bindingRow (contextBinding n r p)) in
+        let k : (row + 1) * 10 ≡ suc (suc (suc (suc (suc (suc (suc (suc (suc (suc (row * 10)))))))))) = omega arith in
+        let b = length-sets bindings (row * 10) (bindingRow (contextBinding n r p)) in
         record {
           same = rw (j, k, i) (rw (s, boundContexts) at (f .same));
           within = omega arith;

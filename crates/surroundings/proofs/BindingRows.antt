@@ -10,7 +10,7 @@ use Rattle.surroundings.specs.Slots.{Slot}
 use Rattle.surroundings.specs.Bindings.{Binding, bindingRow, bindingRows, boundContexts, bindingsFrom, rowsIn}
 use Rattle.surroundings.proofs.Cells.{cell-is, next-is}
 
-pub rows-count : (bs : List Binding) → length (bindingRows bs) ≡ length bs * 8
+pub rows-count : (bs : List Binding) → length (bindingRows bs) ≡ length bs * 10
 unfolding bindingRows
 rows-count [] = omega arith
 rows-count (b ∷ bs) = let i = rows-count bs in omega (arith, i)
@@ -28,22 +28,24 @@ unfolding boundContexts
 contexts-count [] records p = refl
 contexts-count (x ∷ xs) records p = ap suc (contexts-count xs records (p + wordAt records p))
 
-pub rows-read : (t : List ℕ) (bs : List Binding) (row : ℕ) (rest : List ℕ) → drop (row * 8) t ≡ bindingRows bs ++ rest →
+pub rows-read : (t : List ℕ) (bs : List Binding) (row : ℕ) (rest : List ℕ) → drop (row * 10) t ≡ bindingRows bs ++ rest →
     bindingsFrom t (length bs) row ≡ bs
 unfolding bindingRows bindingsFrom
 rows-read t [] row rest f = refl
 rows-read t (b ∷ bs) row rest f =
     let l = bindingRows (b ∷ bs) ++ rest in
     rw (
-      cell-is t l (row * 8) 0 f,
-      cell-is t l (row * 8) 1 f,
-      cell-is t l (row * 8) 2 f,
-      cell-is t l (row * 8) 3 f,
-      cell-is t l (row * 8) 4 f,
-      cell-is t l (row * 8) 5 f,
-      cell-is t l (row * 8) 6 f,
-      cell-is t l (row * 8) 7 f,
-      rows-read t bs (row + 1) rest (next-is t l (row * 8) 8 ((row + 1) * 8) f (omega arith)),
+      cell-is t l (row * 10) 0 f,
+      cell-is t l (row * 10) 1 f,
+      cell-is t l (row * 10) 2 f,
+      cell-is t l (row * 10) 3 f,
+      cell-is t l (row * 10) 4 f,
+      cell-is t l (row * 10) 5 f,
+      cell-is t l (row * 10) 6 f,
+      cell-is t l (row * 10) 7 f,
+      cell-is t l (row * 10) 8 f,
+      cell-is t l (row * 10) 9 f,
+      rows-read t bs (row + 1) rest (next-is t l (row * 10) 10 ((row + 1) * 10) f (omega arith)),
     )
 
 -- all the rows of a table that holds nothing else
@@ -51,9 +53,9 @@ pub rows-back : (bs : List Binding) → bindingsFrom (bindingRows bs) (rowsIn (b
 rows-back bs = rw (rows-in bs) (rows-read (bindingRows bs) bs 0 [] (sym (append-nil (bindingRows bs))))
 
 -- the part of a table that holds the rows that were laid in it
-pub rows-held : (bs : List Binding) (t : List ℕ) → length bs * 8 ≤ length t →
-    take (length bs * 8) (sets t 0 (bindingRows bs)) ≡ bindingRows bs
+pub rows-held : (bs : List Binding) (t : List ℕ) → length bs * 10 ≤ length t →
+    take (length bs * 10) (sets t 0 (bindingRows bs)) ≡ bindingRows bs
 rows-held bs t h =
     let i = rows-count bs in
-    ap (take (length bs * 8)) (sets-eq (bindingRows bs) t 0 (omega (arith, i)))
-    ∙ take-at (bindingRows bs) (drop (0 + length (bindingRows bs)) t) (length bs * 8) i
+    ap (take (length bs * 10)) (sets-eq (bindingRows bs) t 0 (omega (arith, i)))
+    ∙ take-at (bindingRows bs) (drop (0 + length (bindingRows bs)) t) (length bs * 10) i

@@ -13,4 +13,3 @@ pub mod Counts
 pub mod Laid
 pub mod BindingLoops
 pub mod BindingRows
-pub mod BoundLaws

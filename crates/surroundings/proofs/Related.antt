@@ -10,9 +10,9 @@ use Rattle.wire.specs.Codes as blr
 use Rattle.wire.specs.Lists.{find, isSome, _andThen_}
 use Rattle.dictionary.specs.Dictionary.{Relation}
 use Rattle.dictionary.specs.Naming.{Name, relationOf}
-use Rattle.grammar.specs.Tree.{Stream, Heading, loop, modify, handler, receive, send, store, label, Value, literal, reference, arithmetic, negate, Boolean, compare, search, between, connect, not, missing, quantify, Keys, noKeys, key, Clauses, noClauses, such, sorted, Rse, rse, Statement, assignment, begin, erase, for, headed, leave, if, ifElse, select, Statements, none as nothing, _then_, Receives, last, more}
-use Rattle.grammar.specs.Bytes.{quantifierCode, streamBytes, headBytes, rseBytes, headingBytes, valueBytes, booleanBytes, keysBytes}
-use Rattle.grammar.specs.Environment.{Environment, Context, Scope, streamContext, modifyContext, contextOf, relationOfContext, underStreams, underRse, underHeading}
+use Rattle.grammar.specs.Tree.{Stream, Heading, loop, modify, handler, receive, send, store, label, Value, literal, reference, arithmetic, negate, statistic, count, Boolean, compare, search, between, connect, not, missing, quantify, Keys, noKeys, key, Clauses, noClauses, such, sorted, Rse, rse, Statement, assignment, begin, erase, for, headed, leave, if, ifElse, select, Statements, none as nothing, _then_, Receives, last, more}
+use Rattle.grammar.specs.Bytes.{statisticCode, quantifierCode, streamBytes, headBytes, rseBytes, headingBytes, valueBytes, booleanBytes, keysBytes}
+use Rattle.grammar.specs.Environment.{Environment, Context, Scope, streamContext, modifyContext, contextOf, relationOfContext, underStreams, underRseOf, underRse, underHeading}
 use Rattle.grammar.specs.Scope.{StreamScoped, EachScoped, HeadingScoped, ofFor, openedByFor}
 use Rattle.grammar.specs.Rules.{ValueAllowed, BooleanAllowed, KeysAllowed, ClausesAllowed, RseAllowed, StatementAllowed, StatementsAllowed, ReceivesAllowed}
 use Rattle.grammar.specs.Rows.{size}
@@ -100,9 +100,12 @@ module _ (e : Environment) where
   unfolding underStreams
   streams-scope o sc ss a h = all-append (Named relations) (sc .contexts) (map (streamContext relations o) ss) a (streams-named relations o sc ss h)
 
-  rse-scope : (sc : Scope) (r : Rse) → ScopeNamed sc → RseAllowed e blr.for sc r → ScopeNamed (underRse relations sc r)
+  rse-scope : (o : ℕ) (sc : Scope) (r : Rse) → ScopeNamed sc → RseAllowed e o sc r → ScopeNamed (underRseOf relations o sc r)
+  rse-scope o sc (rse ss cs) a h = streams-scope o sc ss a (h .1 .0)
+
+  for-scope : (sc : Scope) (r : Rse) → ScopeNamed sc → RseAllowed e blr.for sc r → ScopeNamed (underRse relations sc r)
   unfolding underRse
-  rse-scope sc (rse ss cs) a h = streams-scope blr.for sc ss a (h .1 .0)
+  for-scope sc (rse ss cs) a h = streams-scope blr.for sc ss a (h .1 .0)
 
   mutual
     unfolding valueDeclared
@@ -114,6 +117,12 @@ module _ (e : Environment) where
         both-named (valueDeclared relations sc v (p + 1)) _ (value-named v sc (p + 1) a (h .0))
         (value-named w sc (p + 1 + length (valueBytes v)) a (h .1))
     value-named (negate v) sc p a h = value-named v sc (p + 1) a (h .0)
+    value-named (statistic k r v) sc p a h =
+        let o = statisticCode k in
+        let q = p + 1 + length (rseBytes r) in
+        both-named (rseDeclared relations o sc r (p + 1) (q + length (valueBytes v))) _ (rse-named o r sc (p + 1) (q + length (valueBytes v)) a (h .1))
+        (value-named v (underRseOf relations o sc r) q (rse-scope o sc r a (h .1)) (h .2))
+    value-named (count r) sc p a h = rse-named blr.count r sc (p + 1) (p + 1 + length (rseBytes r)) a (h .1)
 
     boolean-named : (b : Boolean) (sc : Scope) (p : ℕ) → ScopeNamed sc → BooleanAllowed e sc b → DeclaredNamed (booleanDeclared relations sc b p)
     boolean-named (compare c v w) sc p a h =
@@ -166,7 +175,7 @@ module _ (e : Environment) where
     declared-named (erase c) sc p a h = tt
     declared-named (for r s) sc p a h =
         both-named (rseDeclared relations blr.for sc r (p + 1) (p + size (for r s))) _ (rse-named blr.for r sc (p + 1) (p + size (for r s)) a (h .0))
-        (declared-named s (underRse relations sc r) (p + 1 + length (rseBytes r)) (rse-scope sc r a (h .0)) (h .1))
+        (declared-named s (underRse relations sc r) (p + 1 + length (rseBytes r)) (for-scope sc r a (h .0)) (h .1))
     declared-named (headed g s) sc p a h =
         let x = heading-named sc g p (p + size (headed g s)) a (h .0) in
         both-named (headingDeclared relations sc g p (p + size (headed g s))) _ (x .0)

@@ -1,13 +1,15 @@
--- The contexts of a condition as its walk sees them, in a table of numbers, a row each: those in scope at the condition, each with its
--- record, then those of its any and unique codes, each with its run and, while a record of the run is tested, with that record.
-use Prim.Native.Nat.{ℕ, zero, suc, _+_, _*_, _/_}
+-- The contexts of a condition or a from-value as its walk sees them, in a table of numbers, a row each: those in scope there, each with its
+-- record, then those of its any, unique and statistic codes, each with its run and, while a record of the run is in turn, with that record.
+use Prim.Native.Nat.{ℕ, zero, suc, _+_, _*_, _/_, _-_}
 use mathlib.Core.Bool.{Bool, true, false, cond, _&&_, _||_, not}
 use mathlib.Core.List.{List, [], _∷_, _++_, map}
 use mathlib.Core.Option.{Option, none, some, Option·map}
-use lib.Dec.{eqb}
+use lib.Dec.{eqb, leb}
 use lib.ListN.{length, getD, set}
+use lib.IntN.{pos, negℤ}
 use Rattle.wire.specs.Words.{wordAt}
 use Rattle.dictionary.specs.Naming.{Name}
+use Rattle.grammar.specs.Kind as Grammar
 use Rattle.grammar.specs.Tree.{Reference, field, parameter, parameter2}
 use Rattle.meaning.specs.Inputs.{Fetched, onFound, flagged, unlessFlagged}
 use Rattle.walking.specs.Walk.{Over, Sight}
@@ -18,9 +20,9 @@ use Rattle.surroundings.specs.Around.{slotField, rowValue}
 -- ---- the table
 
 abbrev pub bindingRowNumbers : ℕ
-bindingRowNumbers = 8
+bindingRowNumbers = 10
 
--- the place of its any or unique code; 0 for a context in scope at the condition
+-- the place of its any, unique or statistic code; 0 for a context in scope
 abbrev pub bindingCode : ℕ
 bindingCode = 0
 
@@ -31,11 +33,11 @@ bindingNumber = 1
 abbrev pub bindingRelation : ℕ
 bindingRelation = 2
 
--- where its record stands: among the records, or for an any or a unique in the runs; there 0 says that no record is in turn
+-- where its record stands: among the records, or for a context with a run in the runs; there 0 says that no record is in turn
 abbrev pub bindingRecord : ℕ
 bindingRecord = 3
 
--- the place of its rse's condition, 0 where it has none; and the place after the rse
+-- the place of its rse's condition, 0 where it has none; and the place after all of it: the rse, and the number that a statistic has
 abbrev pub bindingSuch : ℕ
 bindingSuch = 4
 
@@ -49,6 +51,20 @@ bindingFirst = 6
 abbrev pub bindingCount : ℕ
 bindingCount = 7
 
+-- the place after its rse, where a statistic's number stands; and the kind of that number, 0 for what has none
+abbrev pub bindingAfter : ℕ
+bindingAfter = 8
+
+abbrev pub bindingKind : ℕ
+bindingKind = 9
+
+-- the kind that a number says: 0 none, 1 and on a number of scale 0 and on down to -18, 20 text, 21 date
+unfoldable pub kindIf : ℕ → Option Grammar.Kind
+kindIf k =
+    cond (eqb k 0) none
+    (cond (leb k 19) (some (Grammar.Kind.Number (negℤ (pos (k - 1)))))
+    (cond (eqb k 20) (some Grammar.Kind.Text) (cond (eqb k 21) (some Grammar.Kind.Date) none)))
+
 pub record Binding : Type 0 where
   pub code : ℕ
   pub number : ℕ
@@ -58,19 +74,33 @@ pub record Binding : Type 0 where
   pub end : ℕ
   pub first : ℕ
   pub count : ℕ
+  pub after : ℕ
+  pub kind : ℕ
 
 -- a binding as the numbers of its row, and bindings as those of their rows
 abbrev pub bindingRow : Binding → List ℕ
-bindingRow b = b .code ∷ b .number ∷ b .relation ∷ b .record-place ∷ b .such ∷ b .end ∷ b .first ∷ b .count ∷ []
+bindingRow b =
+    b .code ∷ b .number ∷ b .relation ∷ b .record-place ∷ b .such ∷ b .end ∷ b .first ∷ b .count ∷ b .after ∷ b .kind ∷ []
 
 unfoldable pub bindingRows : List Binding → List ℕ
 bindingRows [] = []
 bindingRows (b ∷ bs) = bindingRow b ++ bindingRows bs
 
--- a context in scope at the condition, with the place of its record
+-- a context in scope, with the place of its record
 abbrev pub contextBinding : ℕ → ℕ → ℕ → Binding
 contextBinding number relation p =
-    record { code = 0; number = number; relation = relation; record-place = p; such = 0; end = 0; first = 0; count = 0 }
+    record {
+      code = 0;
+      number = number;
+      relation = relation;
+      record-place = p;
+      such = 0;
+      end = 0;
+      first = 0;
+      count = 0;
+      after = 0;
+      kind = 0;
+    }
 
 -- contexts in scope, whose records stand from p on, one after another by their length words
 unfoldable pub boundContexts : List Slot → List ℕ → ℕ → List Binding
@@ -94,6 +124,8 @@ bindingsFrom t (suc n) row =
       end = cell t row bindingEnd;
       first = cell t row bindingFirst;
       count = cell t row bindingCount;
+      after = cell t row bindingAfter;
+      kind = cell t row bindingKind;
     } ∷ bindingsFrom t n (row + 1)
 
 abbrev pub rowsIn : List ℕ → ℕ
@@ -128,7 +160,7 @@ boundAround d parameters count images records runs t (parameter2 m i flag) =
     onFound (parameterFrom parameters m i count 0 0)
     (λ x. flagged (rowValue parameters count images m flag) (unlessFlagged (x .0) images (x .1)))
 
--- ---- the run of an any or a unique
+-- ---- the run of an any, a unique or a statistic
 
 -- the first of n rows, from a row on, whose code stands at p
 unfoldable pub rowCoded : List ℕ → ℕ → ℕ → ℕ → Option ℕ
@@ -153,7 +185,9 @@ unfoldable pub runOf : List ℕ → List ℕ → ℕ → Over (List ℕ)
 runOf runs t row =
     record {
       such = placeIf (cell t row bindingSuch);
+      number = cell t row bindingAfter;
       end = cell t row bindingEnd;
+      kind = kindIf (cell t row bindingKind);
       each = map (withRecord t row) (recordPlaces runs (cell t row bindingCount) (cell t row bindingFirst));
     }
 

@@ -1,6 +1,7 @@
-// The table of bindings: the contexts of a condition, a row each; those in scope at the condition with their records, then those of its any
-// and unique codes with their runs.
+// The table of bindings: the contexts of a condition or a from-value, a row each; those in scope there with their records, then those of
+// its any, unique and statistic codes with their runs.
 ghost use mathlib.Core.Path.{_≡_};
+ghost use mathlib.Core.List.{[], _∷_};
 ghost use Prim.Native.Nat.{_+_, _*_, _≤_, min};
 ghost use lib.ListN.{length};
 ghost use lib.Seq.{sets};
@@ -17,9 +18,9 @@ use wire::table::number_at;
 use wire::table::put;
 
 // The numbers of a row, and those of a table with a row for each context that a request may have.
-pub const BINDING_ROW: usize = 8;
+pub const BINDING_ROW: usize = 10;
 
-pub const BINDING_TABLE: usize = 256;
+pub const BINDING_TABLE: usize = 320;
 
 // The columns; they are the numbers of specs/Bindings.antt.
 pub const BINDING_CODE: usize = 0;
@@ -38,21 +39,31 @@ pub const BINDING_FIRST: usize = 6;
 
 pub const BINDING_COUNT: usize = 7;
 
-// The row of a context in scope at the condition.
+pub const BINDING_AFTER: usize = 8;
+
+pub const BINDING_KIND: usize = 9;
+
+// Half a row: five numbers from a place on.
+pub fn put_half(bindings: &mut [u32], at: u32, a: u32, b: u32, c: u32, d: u32, e: u32)
+    ensures { λ _. ⌜ now (bindings .exit) ≡ sets (now (bindings .entry)) at (a ∷ b ∷ c ∷ d ∷ e ∷ []) ⌝ }
+{
+    let p = at as usize;
+    put(bindings, p, a);
+    put(bindings, p + 1, b);
+    put(bindings, p + 2, c);
+    put(bindings, p + 3, d);
+    put(bindings, p + 4, e);
+}
+
+// The row of a context in scope.
 fn put_context(bindings: &mut [u32], row: usize, number: u32, relation: u32, place: u32)
     requires { ⌜ row ≤ maxContexts ⌝ }
     ensures { λ _. ⌜ now (bindings .exit) ≡
         sets (now (bindings .entry)) (row * bindingRowNumbers) (bindingRow (contextBinding number relation place)) ⌝ }
 {
-    let at = row * BINDING_ROW;
-    put(bindings, at + BINDING_CODE, 0);
-    put(bindings, at + BINDING_NUMBER, number);
-    put(bindings, at + BINDING_RELATION, relation);
-    put(bindings, at + BINDING_RECORD, place);
-    put(bindings, at + BINDING_SUCH, 0);
-    put(bindings, at + BINDING_END, 0);
-    put(bindings, at + BINDING_FIRST, 0);
-    put(bindings, at + BINDING_COUNT, 0);
+    let at = (row * BINDING_ROW) as u32;
+    put_half(bindings, at, 0, number, relation, place, 0);
+    put_half(bindings, at + 5, 0, 0, 0, 0, 0);
 }
 
 // The rows of so many contexts in scope, at most 32. The record of each stands after those of the contexts before it, by their length
@@ -112,7 +123,7 @@ pub fn binding_of(bindings: &[u32], number: ContextNumber) -> Bound
     Bound::Nothing
 }
 
-// The first row whose any or unique code stands at a place.
+// The first row whose any, unique or statistic code stands at a place.
 pub fn row_coded(bindings: &[u32], at: usize) -> Bound
     ensures { λ r. ⌜ r ≡ boundAnswer (rowCoded (now (bindings .entry)) at (rowsIn (now (bindings .entry))) 0) ⌝ }
 {

@@ -1,3 +1,5 @@
 -- Laws that the proofs cite.
 pub mod Turns
 pub mod Days
+pub mod StatisticLaws
+pub mod SpanLaws

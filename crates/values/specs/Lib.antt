@@ -4,3 +4,5 @@ pub mod Pairs
 pub mod Operands
 pub mod Outcomes
 pub mod Promises
+pub mod Spans
+pub mod Statistics

@@ -4,10 +4,10 @@ use mathlib.Core.List.{List}
 use lib.ListN.{take, drop}
 use Rattle.text.specs.Value.{textPart, bytesOf}
 use Rattle.meaning.specs.declared.Truth.{Truth}
+use Rattle.meaning.specs.declared.Source.{Source}
+use Rattle.meaning.specs.ValueEvaluated.{sliceOf}
 use Rattle.meaning.specs.Data.{Datum, number, text, date, absent}
 use Rattle.walking.specs.Walk.{Walked, at, fault, astray}
-use Rattle.values.specs.declared.Source.{Source}
-use Rattle.values.specs.declared.Source.the-variants as Source
 use Rattle.values.specs.declared.Held.{Held}
 use Rattle.values.specs.declared.Value.{Value}
 use Rattle.values.specs.declared.Value.the-variants as Value
@@ -27,10 +27,7 @@ abbrev pub lent : List ℕ → List ℕ → List ℕ → List ℕ → Lent
 lent s i r u = record { request = s; images = i; records = r; runs = u }
 
 abbrev pub sourceIn : Lent → Source → List ℕ
-sourceIn m Source.Request = m .request
-sourceIn m Source.Images = m .images
-sourceIn m Source.Records = m .records
-sourceIn m Source.Runs = m .runs
+sourceIn m x = sliceOf (m .request) (m .images) (m .records) (m .runs) x
 
 -- the bytes that hold a text
 unfoldable pub heldIn : Lent → Held → List ℕ

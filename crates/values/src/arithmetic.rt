@@ -16,7 +16,7 @@ use wire::codes::Operator;
 use wire::codes::Version;
 
 // What a computation gives; a refusal is at the operator's place.
-fn given(a: Computed, place: usize, end: Position) -> Valued
+pub(crate) fn given(a: Computed, place: usize, end: Position) -> Valued
     ensures { λ r. ⌜ ResultIs a place end r ⌝ }
 {
     match a {

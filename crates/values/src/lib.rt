@@ -2,6 +2,7 @@
 use decimal::Number;
 use meaning::Fault;
 use meaning::Kind;
+use meaning::Source;
 use meaning::Truth;
 use records::missing::Cause;
 use wire::codes::TextType;
@@ -17,20 +18,21 @@ mod orders;
 mod outcomes;
 mod pairs;
 pub mod search;
+pub mod spans;
+pub mod statistics;
 mod texts;
-
-// The lent slice that holds a text.
-pub enum Source {
-    Request,
-    Images,
-    Records,
-    Runs,
-}
 
 // The bytes that hold a text: where they start and end in their slice, and the type that says which part of them is the text.
 pub struct Held {
     pub source: Source,
     pub of: TextType,
+    pub start: usize,
+    pub end: usize,
+}
+
+// Where a text stands: the slice, and where it starts and ends there.
+pub struct Span {
+    pub source: Source,
     pub start: usize,
     pub end: usize,
 }

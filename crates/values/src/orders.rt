@@ -30,7 +30,7 @@ pub(crate) fn date_order(a: Date, b: Date) -> Order
     }
 }
 
-fn less(o: Order) -> bool
+pub(crate) fn less(o: Order) -> bool
     ensures { λ r. ⌜ r ≡ Data.less o ⌝ }
 {
     match o {
@@ -50,7 +50,7 @@ fn equal(o: Order) -> bool
     }
 }
 
-fn greater(o: Order) -> bool
+pub(crate) fn greater(o: Order) -> bool
     ensures { λ r. ⌜ r ≡ Data.greater o ⌝ }
 {
     match o {

@@ -4,11 +4,11 @@ ghost use Prim.Native.Nat.{_-_};
 ghost use lib.ListN.{take, drop};
 ghost use Rattle.values.specs.Values.{lent, heldIn, textIn};
 use crate::Held;
-use crate::Source;
+use meaning::Source;
 use text::value::text_of;
 
 // The bytes from a start up to an end, as far as the slice has them.
-fn part<'a>(s: &'a [u8], start: usize, end: usize) -> &'a [u8]
+pub(crate) fn part<'a>(s: &'a [u8], start: usize, end: usize) -> &'a [u8]
     ensures { λ r. ⌜ now r ≡ take (end - start) (drop start (now (s .entry))) ⌝ }
 {
     if end <= start {

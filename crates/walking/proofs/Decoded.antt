@@ -18,11 +18,11 @@ use Rattle.wire.specs.declared.codes.Width.{Width}
 use Rattle.wire.specs.declared.codes.Width.the-variants.{Short, Long, Int64}
 use Rattle.dictionary.specs.Naming.{Name, named, numbered}
 use Rattle.grammar.specs.Tree as Tree
-use Rattle.grammar.specs.Tree.{Descriptor, Message, Stream, Heading, loop, modify, handler, receive, send, store, label, Keys, noKeys, key, Clauses, noClauses, such, sorted, Rse, rse, Statement, assignment, begin, erase, for, headed, leave, if, ifElse, select, Statements, none as nothing, Receives, last, more, Request, Literal, Reference, field, parameter, parameter2, Value, literal, reference, arithmetic, negate, Boolean, compare, search, between, connect, not, missing, quantify}
+use Rattle.grammar.specs.Tree.{Descriptor, Message, Stream, Heading, loop, modify, handler, receive, send, store, label, Keys, noKeys, key, Clauses, noClauses, such, sorted, Rse, rse, Statement, assignment, begin, erase, for, headed, leave, if, ifElse, select, Statements, none as nothing, Receives, last, more, Request, Literal, Reference, field, parameter, parameter2, Value, literal, reference, arithmetic, negate, statistic, count, Boolean, compare, search, between, connect, not, missing, quantify}
 use Rattle.grammar.specs.Bytes as Bytes
 use Rattle.grammar.specs.Bytes.{widthCode, operatorCode, comparisonCode, searchCode, connectiveCode, directionCode, textCode, numberBytes, descriptorBytes, descriptorsBytes, messageBytes, messagesBytes, streamBytes, streamsBytes, literalBytes, referenceBytes, headingBytes, valueBytes, booleanBytes, keyCount, keysBytes, clausesBytes, headBytes, rseBytes, statementBytes, statementsBytes, receivesBytes, requestBytes}
 use Rattle.grammar.specs.Sizes.{valueDepth, booleanDepth, keysDepth, clausesDepth, rseDepth, statementDepth, statementsDepth, receivesDepth}
-use Rattle.grammar.proofs.Due.{width-due, text-due, number-due, operator-due, comparison-due, search-due, connective-due, quantifier-due, direction-due}
+use Rattle.grammar.proofs.Due.{width-due, text-due, number-due, operator-due, statistic-due, comparison-due, search-due, connective-due, quantifier-due, direction-due}
 use Rattle.grammar.proofs.Found.{Other, other-first}
 use Rattle.grammar.proofs.Complete.{version-back}
 use Rattle.grammar.proofs.CompleteStatements.{statement-first}
@@ -80,24 +80,12 @@ reference-back (field c (numbered i)) post = rw (id-back i post)
 reference-back (parameter m i) post = rw (word-back i post)
 reference-back (parameter2 m i flag) post = rw (append-assoc (wordBytes i) (wordBytes flag) post, word-back i (wordBytes flag ++ post), word-back flag post)
 
-reference-value : (inner : Decoder Value) (r : Reference) (post : List ℕ) → (coded valueClass >>= (λ c. valueUnder inner c)) (referenceBytes r ++ post) ≡ some (reference r, post)
+reference-value : (k : ℕ) (inner : Decoder Boolean) (values : Decoder Value) (r : Reference) (post : List ℕ) → (coded valueClass >>= (λ c. valueUnder k inner values c)) (referenceBytes r ++ post) ≡ some (reference r, post)
 unfolding referenceBytes valueClass classify coded byte valueUnder referenceUnder
-reference-value inner (field c (named n)) post = rw (counted-back n post)
-reference-value inner (field c (numbered i)) post = rw (id-back i post)
-reference-value inner (parameter m i) post = rw (word-back i post)
-reference-value inner (parameter2 m i flag) post = rw (append-assoc (wordBytes i) (wordBytes flag) post, word-back i (wordBytes flag ++ post), word-back flag post)
-
-pub value-back : (v : Value) (l : ℕ) (post : List ℕ) → valueDepth v ≤ l → value l (valueBytes v ++ post) ≡ some (v, post)
-unfolding valueDepth valueBytes value valueUnder valueClass classify coded byte
-value-back (literal x) zero post h = absurd (omega arith)
-value-back (literal x) (suc l) post h = rw (literal-back x post)
-value-back (reference r) zero post h = absurd (omega arith)
-value-back (reference r) (suc l) post h = reference-value (value l) r post
-value-back (arithmetic o v w) zero post h = absurd (omega arith)
-value-back (arithmetic o v w) (suc l) post h =
-    rw (operator-due o, append-assoc (valueBytes v) (valueBytes w) post, value-back v l (valueBytes w ++ post) (omega arith), value-back w l post (omega arith))
-value-back (negate v) zero post h = absurd (omega arith)
-value-back (negate v) (suc l) post h = rw (value-back v l post (omega arith))
+reference-value k inner values (field c (named n)) post = rw (counted-back n post)
+reference-value k inner values (field c (numbered i)) post = rw (id-back i post)
+reference-value k inner values (parameter m i) post = rw (word-back i post)
+reference-value k inner values (parameter2 m i flag) post = rw (append-assoc (wordBytes i) (wordBytes flag) post, word-back i (wordBytes flag ++ post), word-back flag post)
 
 -- ---- rses
 
@@ -114,12 +102,6 @@ unfolding several streamsBytes
 streams-back [] post = refl
 streams-back (x ∷ xs) post = rw (append-assoc (streamBytes x) (streamsBytes xs) post, stream-back x (streamsBytes xs ++ post), streams-back xs post)
 
-keys-back : (ks : Keys) (l : ℕ) (post : List ℕ) → keysDepth ks ≤ l → keys (keyCount ks) (value l) (keysBytes ks ++ post) ≡ some (ks, post)
-unfolding keysDepth keyCount keysBytes keys coded byte
-keys-back noKeys l post h = refl
-keys-back (key d v ks) l post h =
-    rw (direction-due d, append-assoc (valueBytes v) (keysBytes ks) post, value-back v l (keysBytes ks ++ post) (omega arith), keys-back ks l post (omega arith))
-
 unfoldable clauseCount : Clauses → ℕ
 clauseCount noClauses = 0
 clauseCount (such b cs) = suc (clauseCount cs)
@@ -131,49 +113,119 @@ clauses-few noClauses = omega arith
 clauses-few (such b cs) = omega (arith, clauses-few cs, length-append (booleanBytes b) (clausesBytes cs))
 clauses-few (sorted ks cs) = omega (arith, clauses-few cs, length-append (keysBytes ks) (clausesBytes cs))
 
--- ---- booleans, clauses and rses; n bounds the clauses of each rse
+-- ---- values, booleans, keys, clauses and rses; n bounds the clauses of each rse
 
 mutual
-  unfolding booleanDepth booleanBytes boolean booleanUnder booleanClass clausesDepth clauseCount clausesBytes clauses clausesUnder clauseClass rseDepth rseBytes headBytes rseOf code classify coded byte
+  unfolding valueDepth valueBytes value valueUnder valueClass booleanDepth booleanBytes boolean booleanUnder booleanClass keysDepth keyCount keysBytes keys clausesDepth clauseCount clausesBytes clauses clausesUnder clauseClass rseDepth rseBytes headBytes rseOf code classify coded byte
+
+  pub value-back : (v : Value) (n l : ℕ) (post : List ℕ) → valueDepth v ≤ l → length (valueBytes v) ≤ n → value n l (valueBytes v ++ post) ≡ some (v, post)
+  value-back (literal x) n zero post h k = absurd (omega arith)
+  value-back (literal x) n (suc l) post h k = rw (literal-back x post)
+  value-back (reference r) n zero post h k = absurd (omega arith)
+  value-back (reference r) n (suc l) post h k = reference-value n (boolean n l) (value n l) r post
+  value-back (arithmetic o v w) n zero post h k = absurd (omega arith)
+  value-back (arithmetic o v w) n (suc l) post h k =
+      let z = length-append (valueBytes v) (valueBytes w) in
+      rw (
+        operator-due o,
+        append-assoc (valueBytes v) (valueBytes w) post,
+        value-back v n l (valueBytes w ++ post) (omega arith) (omega (arith, z)),
+        value-back w n l post (omega arith) (omega (arith, z)),
+      )
+  value-back (negate v) n zero post h k = absurd (omega arith)
+  value-back (negate v) n (suc l) post h k = rw (value-back v n l post (omega arith) (omega arith))
+  value-back (statistic x r v) n zero post h k = absurd (omega arith)
+  value-back (statistic x r v) n (suc l) post h k =
+      let z = length-append (rseBytes r) (valueBytes v) in
+      rw (
+        statistic-due x,
+        append-assoc (rseBytes r) (valueBytes v) post,
+        rse-back r n l (valueBytes v ++ post) (omega arith) (omega (arith, z)),
+        value-back v n l post (omega arith) (omega (arith, z)),
+      )
+  value-back (count r) n zero post h k = absurd (omega arith)
+  value-back (count r) n (suc l) post h k = rw (rse-back r n l post (omega arith) (omega arith))
 
   pub boolean-back : (b : Boolean) (n l : ℕ) (post : List ℕ) → booleanDepth b ≤ l → length (booleanBytes b) ≤ n → boolean n l (booleanBytes b ++ post) ≡ some (b, post)
   boolean-back (compare c v w) n zero post h k = absurd (omega arith)
   boolean-back (compare c v w) n (suc l) post h k =
-      rw (comparison-due c, append-assoc (valueBytes v) (valueBytes w) post, value-back v l (valueBytes w ++ post) (omega arith), value-back w l post (omega arith))
+      let z = length-append (valueBytes v) (valueBytes w) in
+      rw (
+        comparison-due c,
+        append-assoc (valueBytes v) (valueBytes w) post,
+        value-back v n l (valueBytes w ++ post) (omega arith) (omega (arith, z)),
+        value-back w n l post (omega arith) (omega (arith, z)),
+      )
   boolean-back (search t v w) n zero post h k = absurd (omega arith)
   boolean-back (search t v w) n (suc l) post h k =
-      rw (search-due t, append-assoc (valueBytes v) (valueBytes w) post, value-back v l (valueBytes w ++ post) (omega arith), value-back w l post (omega arith))
+      let z = length-append (valueBytes v) (valueBytes w) in
+      rw (
+        search-due t,
+        append-assoc (valueBytes v) (valueBytes w) post,
+        value-back v n l (valueBytes w ++ post) (omega arith) (omega (arith, z)),
+        value-back w n l post (omega arith) (omega (arith, z)),
+      )
   boolean-back (between u v w) n zero post h k = absurd (omega arith)
   boolean-back (between u v w) n (suc l) post h k =
+      let z = length-append (valueBytes u ++ valueBytes v) (valueBytes w) in
+      let y = length-append (valueBytes u) (valueBytes v) in
       rw (
         append-assoc (valueBytes u ++ valueBytes v) (valueBytes w) post,
         append-assoc (valueBytes u) (valueBytes v) (valueBytes w ++ post),
-        value-back u l (valueBytes v ++ (valueBytes w ++ post)) (omega arith),
-        value-back v l (valueBytes w ++ post) (omega arith),
-        value-back w l post (omega arith),
+        value-back u n l (valueBytes v ++ (valueBytes w ++ post)) (omega arith) (omega (arith, z, y)),
+        value-back v n l (valueBytes w ++ post) (omega arith) (omega (arith, z, y)),
+        value-back w n l post (omega arith) (omega (arith, z, y)),
       )
   boolean-back (connect c a b) n zero post h k = absurd (omega arith)
   boolean-back (connect c a b) n (suc l) post h k =
-      rw (connective-due c, append-assoc (booleanBytes a) (booleanBytes b) post, boolean-back a n l (booleanBytes b ++ post) (omega arith) (omega (arith, length-append (booleanBytes a) (booleanBytes b))), boolean-back b n l post (omega arith) (omega (arith, length-append (booleanBytes a) (booleanBytes b))))
+      let z = length-append (booleanBytes a) (booleanBytes b) in
+      rw (
+        connective-due c,
+        append-assoc (booleanBytes a) (booleanBytes b) post,
+        boolean-back a n l (booleanBytes b ++ post) (omega arith) (omega (arith, z)),
+        boolean-back b n l post (omega arith) (omega (arith, z)),
+      )
   boolean-back (not a) n zero post h k = absurd (omega arith)
   boolean-back (not a) n (suc l) post h k = rw (boolean-back a n l post (omega arith) (omega arith))
   boolean-back (missing v) n zero post h k = absurd (omega arith)
-  boolean-back (missing v) n (suc l) post h k = rw (value-back v l post (omega arith))
+  boolean-back (missing v) n (suc l) post h k = rw (value-back v n l post (omega arith) (omega arith))
   boolean-back (quantify q r) n zero post h k = absurd (omega arith)
   boolean-back (quantify q r) n (suc l) post h k = rw (quantifier-due q, rse-back r n l post (omega arith) (omega arith))
 
+  keys-back : (ks : Keys) (n l : ℕ) (post : List ℕ) → keysDepth ks ≤ l → length (keysBytes ks) ≤ n →
+      keys (keyCount ks) (value n l) (keysBytes ks ++ post) ≡ some (ks, post)
+  keys-back noKeys n l post h k = refl
+  keys-back (key d v ks) n l post h k =
+      let z = length-append (valueBytes v) (keysBytes ks) in
+      rw (
+        direction-due d,
+        append-assoc (valueBytes v) (keysBytes ks) post,
+        value-back v n l (keysBytes ks ++ post) (omega arith) (omega (arith, z)),
+        keys-back ks n l post (omega arith) (omega (arith, z)),
+      )
+
   clauses-back : (cs : Clauses) (m n l : ℕ) (post : List ℕ) → clausesDepth cs ≤ l → length (clausesBytes cs) ≤ n → clauseCount cs < m →
-      clauses m (boolean n l) (value l) (clausesBytes cs ++ post) ≡ some (cs, post)
+      clauses m (boolean n l) (value n l) (clausesBytes cs ++ post) ≡ some (cs, post)
   clauses-back noClauses zero n l post h i k = absurd (omega arith)
   clauses-back noClauses (suc m) n l post h i k = refl
   clauses-back (such b cs) zero n l post h i k = absurd (omega arith)
   clauses-back (such b cs) (suc m) n l post h i k =
-      rw (append-assoc (booleanBytes b) (clausesBytes cs) post, boolean-back b n l (clausesBytes cs ++ post) (omega arith) (omega (arith, length-append (booleanBytes b) (clausesBytes cs))), clauses-back cs m n l post (omega arith) (omega (arith, length-append (booleanBytes b) (clausesBytes cs))) (omega arith))
+      let z = length-append (booleanBytes b) (clausesBytes cs) in
+      rw (
+        append-assoc (booleanBytes b) (clausesBytes cs) post,
+        boolean-back b n l (clausesBytes cs ++ post) (omega arith) (omega (arith, z)),
+        clauses-back cs m n l post (omega arith) (omega (arith, z)) (omega arith),
+      )
   clauses-back (sorted ks cs) zero n l post h i k = absurd (omega arith)
   clauses-back (sorted ks cs) (suc m) n l post h i k =
-      rw (append-assoc (keysBytes ks) (clausesBytes cs) post, keys-back ks l (clausesBytes cs ++ post) (omega arith), clauses-back cs m n l post (omega arith) (omega (arith, length-append (keysBytes ks) (clausesBytes cs))) (omega arith))
+      let z = length-append (keysBytes ks) (clausesBytes cs) in
+      rw (
+        append-assoc (keysBytes ks) (clausesBytes cs) post,
+        keys-back ks n l (clausesBytes cs ++ post) (omega arith) (omega (arith, z)),
+        clauses-back cs m n l post (omega arith) (omega (arith, z)) (omega arith),
+      )
 
-  rse-back : (r : Rse) (n l : ℕ) (post : List ℕ) → rseDepth r ≤ l → length (rseBytes r) ≤ n → rseOf n (boolean n l) (value l) (rseBytes r ++ post) ≡ some (r, post)
+  rse-back : (r : Rse) (n l : ℕ) (post : List ℕ) → rseDepth r ≤ l → length (rseBytes r) ≤ n → rseOf n (boolean n l) (value n l) (rseBytes r ++ post) ≡ some (r, post)
   rse-back (rse ss cs) n l post h k =
       let z = clauses-few cs in
       let y = length-append (streamsBytes ss) (clausesBytes cs) in
@@ -216,7 +268,7 @@ heading-back (label m) n inner bs vs t post e = rw e
 module _ (n : ℕ) where
   -- what stands under a statement's code, with so many levels below it
   under : ℕ → Decoder Statement
-  under l = coded statementClass >>= (λ c. statementUnder n (statement n l) (boolean n l) (value l) c)
+  under l = coded statementClass >>= (λ c. statementUnder n (statement n l) (boolean n l) (value n l) c)
 
   level : (l : ℕ) (s : List ℕ) → 0 < l → statement n l s ≡ under (l - 1) s
   unfolding statement under
@@ -229,8 +281,13 @@ module _ (n : ℕ) where
     pub statement-back : (t : Statement) (l : ℕ) (post : List ℕ) → statementDepth t ≤ l → length (statementBytes t) ≤ n →
         statement n l (statementBytes t ++ post) ≡ some (t, post)
     statement-back (assignment v t) l post h k =
+        let z = length-append (valueBytes v) (referenceBytes t) in
         level l _ (omega arith) ∙
-        rw (append-assoc (valueBytes v) (referenceBytes t) post, value-back v (l - 1) (referenceBytes t ++ post) (omega arith), reference-back t post)
+        rw (
+          append-assoc (valueBytes v) (referenceBytes t) post,
+          value-back v n (l - 1) (referenceBytes t ++ post) (omega arith) (omega (arith, z)),
+          reference-back t post,
+        )
     statement-back (begin ss) l post h k =
         let z = length-append (statementsBytes ss) (blr.end ∷ []) in
         level l _ (omega arith) ∙
@@ -247,7 +304,7 @@ module _ (n : ℕ) where
     statement-back (headed x t) l post h k =
         let z = length-append (headingBytes x) (statementBytes t) in
         level l _ (omega arith) ∙
-        heading-back x n (statement n (l - 1)) (boolean n (l - 1)) (value (l - 1)) t post (statement-back t (l - 1) post (omega arith) (omega (arith, z)))
+        heading-back x n (statement n (l - 1)) (boolean n (l - 1)) (value n (l - 1)) t post (statement-back t (l - 1) post (omega arith) (omega (arith, z)))
     statement-back (leave m) l post h k = level l _ (omega arith)
     statement-back (if b t) l post h k =
         let z = length-append (booleanBytes b ++ statementBytes t) (blr.end ∷ []) in
@@ -347,23 +404,19 @@ unfolding messagesBytes messageBytes
 messages-few [] = omega arith
 messages-few (m ∷ ms) = omega (arith, messages-few ms, length-append (messageBytes m) (messagesBytes ms))
 
-value-few : (v : Value) → valueDepth v ≤ length (valueBytes v)
-unfolding valueDepth valueBytes referenceBytes
-value-few (literal l) = omega arith
-value-few (reference (field c (named n))) = omega arith
-value-few (reference (field c (numbered i))) = omega arith
-value-few (reference (parameter m i)) = omega arith
-value-few (reference (parameter2 m i flag)) = omega arith
-value-few (arithmetic o v w) = omega (arith, value-few v, value-few w, length-append (valueBytes v) (valueBytes w))
-value-few (negate v) = omega (arith, value-few v)
-
-keys-few : (ks : Keys) → keysDepth ks ≤ length (keysBytes ks)
-unfolding keysDepth keysBytes
-keys-few noKeys = omega arith
-keys-few (key d v ks) = omega (arith, value-few v, keys-few ks, length-append (valueBytes v) (keysBytes ks))
-
 mutual
-  unfolding booleanDepth booleanBytes clausesDepth clausesBytes rseDepth rseBytes
+  unfolding valueDepth valueBytes referenceBytes booleanDepth booleanBytes keysDepth keysBytes clausesDepth clausesBytes rseDepth rseBytes
+
+  value-few : (v : Value) → valueDepth v ≤ length (valueBytes v)
+  value-few (literal l) = omega arith
+  value-few (reference (field c (named n))) = omega arith
+  value-few (reference (field c (numbered i))) = omega arith
+  value-few (reference (parameter m i)) = omega arith
+  value-few (reference (parameter2 m i flag)) = omega arith
+  value-few (arithmetic o v w) = omega (arith, value-few v, value-few w, length-append (valueBytes v) (valueBytes w))
+  value-few (negate v) = omega (arith, value-few v)
+  value-few (statistic k r v) = omega (arith, rse-few r, value-few v, length-append (rseBytes r) (valueBytes v))
+  value-few (count r) = omega (arith, rse-few r)
 
   boolean-few : (b : Boolean) → booleanDepth b ≤ length (booleanBytes b)
   boolean-few (compare c v w) = omega (arith, value-few v, value-few w, length-append (valueBytes v) (valueBytes w))
@@ -374,6 +427,10 @@ mutual
   boolean-few (not a) = omega (arith, boolean-few a)
   boolean-few (missing v) = omega (arith, value-few v)
   boolean-few (quantify q r) = omega (arith, rse-few r)
+
+  keys-few : (ks : Keys) → keysDepth ks ≤ length (keysBytes ks)
+  keys-few noKeys = omega arith
+  keys-few (key d v ks) = omega (arith, value-few v, keys-few ks, length-append (valueBytes v) (keysBytes ks))
 
   clauses-deep : (cs : Clauses) → clausesDepth cs ≤ length (clausesBytes cs)
   clauses-deep noClauses = omega arith

@@ -10,11 +10,11 @@ use lib.ListN.{length, getElem?, length-append}
 use borrow.Author.Tests.{eq-eqb, ne-eqb}
 use Rattle.wire.specs.Lists.{find}
 use Rattle.dictionary.specs.Dictionary.{Relation}
-use Rattle.grammar.specs.Tree.{Stream, Boolean, compare, search, between, connect, not, missing, quantify, Clauses, noClauses, such, sorted, Rse, rse}
-use Rattle.grammar.specs.Bytes.{booleanBytes, keysBytes, headBytes, clausesBytes, rseBytes}
+use Rattle.grammar.specs.Tree.{Stream, Value, literal, reference, arithmetic, negate, statistic, count, Boolean, compare, search, between, connect, not, missing, quantify, Clauses, noClauses, such, sorted, Rse, rse}
+use Rattle.grammar.specs.Bytes.{valueBytes, booleanBytes, keysBytes, headBytes, clausesBytes, rseBytes}
 use Rattle.grammar.proofs.StepLaws.{absurd-eq}
-use Rattle.meaning.specs.Meaning.{booleanSize}
-use Rattle.meaning.specs.Runs.{DueRun, dueRun, dueRuns, rseRuns, clausesRuns, LentRun, lentRuns}
+use Rattle.meaning.specs.Meaning.{size, booleanSize}
+use Rattle.meaning.specs.Runs.{DueRun, dueRun, valueRuns, dueRuns, rseRuns, clausesRuns, LentRun, lentRuns}
 use Rattle.walking.proofs.Sites.{All}
 
 -- ---- parts of a list
@@ -107,15 +107,54 @@ run-grows d [] p = omega arith
 run-grows d (s ∷ []) p = (omega arith, omega arith)
 run-grows d (s ∷ t ∷ ss) p = omega arith
 
+-- those of two parts that stand one after the other, after a code
+grows-parts : (p n m hi : ℕ) (xs ys : List DueRun) → p + 1 + n + m ≤ hi → Grows (p + 1) (p + 1 + n) xs → Grows (p + 1 + n) (p + 1 + n + m) ys →
+    Grows p hi (xs ++ ys)
+grows-parts p n m hi xs ys l g h =
+    grows-on p (p + 1 + n) hi xs ys (grows-from (p + 1) p (p + 1 + n) xs (omega arith) g) (grows-to (p + 1 + n) (p + 1 + n + m) hi ys l h)
+
+-- those of one part after a code
+grows-below : (p n : ℕ) (xs : List DueRun) → Grows (p + 1) (p + 1 + n) xs → Grows p (p + suc n) xs
+grows-below p n xs g = grows-from (p + 1) p (p + suc n) xs (omega arith) (grows-to (p + 1) (p + 1 + n) (p + suc n) xs (omega arith) g)
+
 module _ (d : List Relation) where
   mutual
-    unfolding dueRuns rseRuns clausesRuns booleanBytes rseBytes clausesBytes
+    unfolding valueRuns dueRuns rseRuns clausesRuns valueBytes booleanBytes rseBytes clausesBytes
+
+    -- those of a value lie inside its bytes
+    pub value-grow : (v : Value) (p : ℕ) → Grows p (p + size v) (valueRuns d v p)
+    value-grow (literal l) p = omega arith
+    value-grow (reference r) p = omega arith
+    value-grow (arithmetic o v w) p =
+        let l = length-append (valueBytes v) (valueBytes w) in
+        grows-parts p (size v) (size w) _ (valueRuns d v (p + 1)) (valueRuns d w (p + 1 + size v)) (omega (arith, l)) (value-grow v (p + 1))
+        (value-grow w (p + 1 + size v))
+    value-grow (negate v) p = grows-below p (size v) (valueRuns d v (p + 1)) (value-grow v (p + 1))
+    value-grow (statistic k r v) p =
+        let l = length-append (rseBytes r) (valueBytes v) in
+        let n = p + 1 + length (rseBytes r) in
+        grows-on p n _ (rseRuns d r p) (valueRuns d v n) (grows-to _ _ _ (rseRuns d r p) (omega arith) (rse-grow r p))
+        (grows-to _ _ _ (valueRuns d v n) (omega (arith, l)) (value-grow v n))
+    value-grow (count r) p = rse-grow r p
 
     -- those of a boolean lie inside its bytes
     pub due-grow : (b : Boolean) (p : ℕ) → Grows p (p + booleanSize b) (dueRuns d b p)
-    due-grow (compare c v w) p = omega arith
-    due-grow (search t v w) p = omega arith
-    due-grow (between u v w) p = omega arith
+    due-grow (compare c v w) p =
+        let l = length-append (valueBytes v) (valueBytes w) in
+        grows-parts p (size v) (size w) _ (valueRuns d v (p + 1)) (valueRuns d w (p + 1 + size v)) (omega (arith, l)) (value-grow v (p + 1))
+        (value-grow w (p + 1 + size v))
+    due-grow (search t v w) p =
+        let l = length-append (valueBytes v) (valueBytes w) in
+        grows-parts p (size v) (size w) _ (valueRuns d v (p + 1)) (valueRuns d w (p + 1 + size v)) (omega (arith, l)) (value-grow v (p + 1))
+        (value-grow w (p + 1 + size v))
+    due-grow (between u v w) p =
+        let l = length-append (valueBytes u ++ valueBytes v) (valueBytes w) in
+        let k = length-append (valueBytes u) (valueBytes v) in
+        let n = p + 1 + size u + size v in
+        grows-on p n _ (valueRuns d u (p + 1) ++ valueRuns d v (p + 1 + size u)) (valueRuns d w n)
+        (grows-parts p (size u) (size v) n (valueRuns d u (p + 1)) (valueRuns d v (p + 1 + size u)) (omega arith) (value-grow u (p + 1))
+        (value-grow v (p + 1 + size u)))
+        (grows-to _ _ _ (valueRuns d w n) (omega (arith, l, k)) (value-grow w n))
     due-grow (connect c a b) p =
         let l = length-append (booleanBytes a) (booleanBytes b) in
         grows-on p (p + 1 + booleanSize a) _ (dueRuns d a (p + 1)) (dueRuns d b (p + 1 + booleanSize a))
@@ -123,7 +162,7 @@ module _ (d : List Relation) where
         (grows-to _ _ _ (dueRuns d b (p + 1 + booleanSize a)) (omega (arith, l)) (due-grow b (p + 1 + booleanSize a)))
     due-grow (not a) p =
         grows-from (p + 1) p _ (dueRuns d a (p + 1)) (omega arith) (grows-to _ _ _ (dueRuns d a (p + 1)) (omega arith) (due-grow a (p + 1)))
-    due-grow (missing v) p = omega arith
+    due-grow (missing v) p = grows-below p (size v) (valueRuns d v (p + 1)) (value-grow v (p + 1))
     due-grow (quantify q r) p = rse-grow r p
 
     rse-grow : (r : Rse) (p : ℕ) → Grows p (p + suc (length (rseBytes r))) (rseRuns d r p)

@@ -1,40 +1,41 @@
 -- The walk over a tree's bytes gives the tree's meaning and the place after it.
-use Prim.Native.Nat.{ℕ, zero, suc, _+_, _-_, _*_, _<_, _≤_, max}
+use Prim.Native.Nat.{ℕ, suc, _+_, _-_, _<_, _≤_}
 use mathlib.Core.Path.{_≡_, refl, sym, ap, ap₂, _∙_, fun-ext}
 use mathlib.Core.List.{List, [], _∷_, _++_, append-assoc}
-use mathlib.Core.Option.{Option, some}
+use mathlib.Core.Option.{Option, none, some}
 use native.Mathlib.Omega.{arith}
-use native.Mathlib.Numerals.{add-one}
-use lib.ListN.{length, take, drop, getD, length-append, length-drop}
-use lib.Seq.{drop-cons, drop-drop, getD-drop, take-at, drop-at, drop-append-seam, take-append-seam}
+use lib.ListN.{length, drop, length-append}
+use lib.Seq.{drop-drop, drop-append-seam, take-append-seam}
 use Rattle.wire.specs.Codes as blr
 use Rattle.wire.specs.Words.{byteAt, wordAt, wordBytes}
-use Rattle.wire.specs.Classes.{Class, due, classify, valueClass, booleanClass, literalClass}
+use Rattle.wire.specs.Classes.{due, classify, valueClass, booleanClass, literalClass}
 use Rattle.wire.specs.declared.codes.Width.{Width}
 use Rattle.wire.specs.declared.codes.Width.the-variants.{Short, Long, Int64}
-use Rattle.wire.specs.declared.codes.LiteralType.the-variants.{NumberLiteral, TextLiteral}
-use Rattle.wire.specs.declared.codes.ReferenceCode.the-variants.{Field, Fid, Parameter, Parameter2}
 use Rattle.wire.specs.declared.codes.ValueCode.{ValueCode}
 use Rattle.wire.specs.declared.codes.ValueCode.the-variants as Code
 use Rattle.wire.specs.declared.codes.BooleanCode.{BooleanCode}
 use Rattle.wire.specs.declared.codes.BooleanCode.the-variants as Boolean
 use Rattle.wire.specs.declared.codes.Quantifier.{Quantifier}
-use Rattle.dictionary.specs.Dictionary.{nameAt}
+use Rattle.wire.specs.declared.codes.Statistic.{Statistic}
 use Rattle.dictionary.specs.Format.{widthBytes}
 use Rattle.dictionary.specs.Naming.{named, numbered}
+use Rattle.grammar.specs.Kind as Grammar
+use Rattle.grammar.specs.Kinds.{kindOf}
 use Rattle.grammar.specs.Tree as Tree
-use Rattle.grammar.specs.Tree.{Literal, Reference, field, parameter, parameter2, Value, literal, reference, arithmetic, negate, compare, search, between, connect, not, missing, quantify, Clauses, noClauses, such, sorted, Rse, rse}
-use Rattle.grammar.specs.Bytes.{widthCode, operatorCode, comparisonCode, searchCode, connectiveCode, quantifierCode, numberBytes, literalBytes, referenceBytes, keyCount, headBytes, valueBytes, booleanBytes, keysBytes, clausesBytes, rseBytes}
+use Rattle.grammar.specs.Tree.{Literal, Reference, field, parameter, parameter2, Value, literal, reference, arithmetic, negate, statistic, count, compare, search, between, connect, not, missing, quantify, Clauses, noClauses, such, sorted, Rse, rse}
+use Rattle.grammar.specs.Bytes.{widthCode, operatorCode, comparisonCode, searchCode, connectiveCode, statisticCode, quantifierCode, numberBytes, literalBytes, referenceBytes, keyCount, headBytes, valueBytes, booleanBytes, keysBytes, clausesBytes, rseBytes}
 use Rattle.grammar.specs.Sizes.{valueDepth, booleanDepth, clausesDepth, rseDepth}
 use Rattle.grammar.proofs.Found.{byte-on, word-on, long-at, int64-at}
-use Rattle.grammar.proofs.Due.{number-due, operator-due, comparison-due, search-due, connective-due, quantifier-due}
+use Rattle.grammar.proofs.Due.{number-due, operator-due, statistic-due, comparison-due, search-due, connective-due, quantifier-due}
 use Rattle.meaning.specs.declared.Truth.{Truth}
-use Rattle.meaning.specs.Data.{Result, is, refused, stray, _>>=_, Datum, arithmeticOf, negateOf, compareOf, searchOf, betweenOf, missingOf, connected, opposite}
+use Rattle.meaning.specs.declared.Truth.the-variants.{True, False, Missing}
+use Rattle.meaning.specs.Data.{Result, is, refused, stray, _>>=_, Datum, arithmeticOf, negateOf, compareOf, searchOf, betweenOf, missingOf, connected, opposite, number, Gathered, whole, nothingYet, withValue, statisticOf}
 use Rattle.meaning.specs.Inputs.{Fetched, literalValue}
-use Rattle.meaning.specs.Runs.{Around, fetchAround, withinEach}
-use Rattle.meaning.specs.Meaning.{fetchedAt, size, booleanSize, valueOf, kept, keptOf, answerOf, overRun, truthOf, rseTruth, clausesTruth}
-use Rattle.walking.specs.Walk.{Walked, at, fault, astray, _▷_, ended, onClass, numberAt, versionAt, literalUnder, literalAt, referenceAt, valueUnder, valueAt, Sight, resultOf, suchAt, overAt, booleanUnder, booleanAt}
-use Rattle.walking.specs.Sees.{Pairs, noPair, pairs, suchPlace, SeesRun, Sees, SeesRse, SeesClauses}
+use Rattle.meaning.specs.Runs.{Around, withinEach}
+use Rattle.meaning.specs.Meaning.{fetchedAt, size, booleanSize, environmentAround, kept, keptOf, answerOf, overRun, ifKept, gatheredOf, numbersOver, countOver, valueOf, rseNumber, rseCount, truthOf, rseTruth, clausesTruth}
+use Rattle.walking.specs.Walk.{Walked, at, _▷_, ended, onClass, numberAt, versionAt, literalAt, referenceAt, valueUnder, valueAt, Sight, resultOf, suchAt, overAt, numbersAt, countAt, booleanUnder, booleanAt}
+use Rattle.walking.specs.Sees.{Pairs, noPair, pairs, suchPlace, SeesRun, SeesValue, Sees, SeesRse, SeesClauses}
+use Rattle.walking.proofs.Laws.{valueBelow, booleanBelow, value-by, boolean-by}
 
 -- ---- one after another
 
@@ -76,6 +77,29 @@ unfolding keptOf
 kept-alike P f g h [] [] noPair = refl
 kept-alike P f g h (x ∷ xs) (y ∷ ys) (pairs e es) =
     ap₂ (λ t m. t >>= (λ a. m >>= (λ n. is (kept a n)))) (h x y e) (kept-alike P f g h xs ys es)
+
+-- and the same numbers are gathered of them
+pub gathered-alike : {A B : Type 0} (P : A → B → Type 0) (k : Statistic) (p : ℕ) (f : A → Result Truth) (g : B → Result Truth) (u : A → Result Datum) (v : B → Result Datum) →
+    ((x : A) (y : B) → P x y → f x ≡ g y) → ((x : A) (y : B) → P x y → u x ≡ v y) → (z : Gathered) (xs : List A) (ys : List B) → Pairs P xs ys →
+    gatheredOf k p f u z xs ≡ gatheredOf k p g v z ys
+unfolding gatheredOf
+gathered-alike P k p f g u v h i z [] [] noPair = refl
+gathered-alike P k p f g u v h i z (x ∷ xs) (y ∷ ys) (pairs e es) =
+    ap₂ (λ t m. t >>= m) (h x y e) (fun-ext (λ t. ap₂ (λ a m. a >>= m) (one t) (fun-ext (λ z. gathered-alike P k p f g u v h i z xs ys es))))
+  where
+    one : (t : Truth) → ifKept t k p u z x ≡ ifKept t k p v z y
+    one True = ap (λ r. r >>= (λ a. withValue k p z a)) (i x y e)
+    one False = refl
+    one (Missing w) = refl
+
+pub numbers-alike : {A B : Type 0} (P : A → B → Type 0) (k : Statistic) (p : ℕ) (f : A → Result Truth) (g : B → Result Truth) (u : A → Result Datum) (v : B → Result Datum) →
+    ((x : A) (y : B) → P x y → f x ≡ g y) → ((x : A) (y : B) → P x y → u x ≡ v y) → (kind : Option Grammar.Kind) (xs : List A) (ys : List B) → Pairs P xs ys →
+    numbersOver k p kind (some xs) f u ≡ numbersOver k p kind (some ys) g v
+numbers-alike P k p f g u v h i none xs ys e = refl
+numbers-alike P k p f g u v h i (some Grammar.Text) xs ys e = refl
+numbers-alike P k p f g u v h i (some Grammar.Date) xs ys e = refl
+numbers-alike P k p f g u v h i (some (Grammar.Number scale)) xs ys e =
+    ap (λ r. r >>= (λ z. statisticOf k p z)) (gathered-alike P k p f g u v h i (nothingYet scale) xs ys e)
 
 -- what the meaning gives, its end aside
 pub result-ended : {A : Type 0} (m : Result A) (e : ℕ) → resultOf (ended m e) ≡ m
@@ -130,169 +154,219 @@ module _ (s : List ℕ) where
       let k : p + 3 + length t ≡ p + suc (suc (suc (length t))) = omega arith in
       rw (literalAt, byte-is p blr.text _ e, word-is (p + 1) (length t) _ h1, h3, take-append-seam t post) (ap (at (literalValue (Tree.Literal.text t))) k)
 
-  module _ (g : Reference → Fetched) where
-    pub reference-walk : (inner : ℕ → Walked Datum) (r : Reference) (p : ℕ) (post : List ℕ) → drop p s ≡ referenceBytes r ++ post → (k : ℕ) → k ≡ p + length (referenceBytes r) →
-        onClass (valueClass (byteAt s p)) (λ c. valueUnder g inner s p c) ≡ ended (fetchedAt p (g r)) k
-    unfolding referenceBytes valueClass classify valueUnder referenceAt
-    reference-walk inner (field c (named n)) p post e k j =
-        let h1 = next p blr.field _ e in
-        let h2 = next (p + 1) c _ h1 in
-        let z : p + 1 + 1 ≡ p + 2 = omega arith in
-        let h3 : drop (p + 2) s ≡ length n ∷ n ++ post = rw z at h2 in
-        let h4 = next (p + 2) (length n) _ h3 in
-        let i : p + 3 + length n ≡ k = omega (arith, j) in
-        rw (byte-is p blr.field _ e, byte-is (p + 1) c _ h1, byte-is (p + 2) (length n) _ h3, h4, take-append-seam n post, i)
-    reference-walk inner (field c (numbered n)) p post e k j =
-        let h1 = next p blr.fid _ e in
-        let h2 = next (p + 1) c _ h1 in
-        let z : p + 1 + 1 ≡ p + 2 = omega arith in
-        let h3 : drop (p + 2) s ≡ wordBytes n ++ post = rw z at h2 in
-        let i : p + 4 ≡ k = omega (arith, j) in
-        rw (byte-is p blr.fid _ e, byte-is (p + 1) c _ h1, word-is (p + 2) n post h3, i)
-    reference-walk inner (parameter m n) p post e k j =
-        let h1 = next p blr.parameter _ e in
-        let h2 = next (p + 1) m _ h1 in
-        let z : p + 1 + 1 ≡ p + 2 = omega arith in
-        let h3 : drop (p + 2) s ≡ wordBytes n ++ post = rw z at h2 in
-        let i : p + 4 ≡ k = omega (arith, j) in
-        rw (byte-is p blr.parameter _ e, byte-is (p + 1) m _ h1, word-is (p + 2) n post h3, i)
-    reference-walk inner (parameter2 m n flag) p post e k j =
-        let h1 = next p blr.parameter2 _ e in
-        let h2 = next (p + 1) m _ h1 in
-        let z : p + 1 + 1 ≡ p + 2 = omega arith in
-        let h3 : drop (p + 2) s ≡ wordBytes n ++ (wordBytes flag ++ post) = rw z at h2 in
-        let y : p + 2 + 2 ≡ p + 4 = omega arith in
-        let h4 : drop (p + 4) s ≡ wordBytes flag ++ post = rw y at (past (p + 2) (wordBytes n) _ h3) in
-        let i : p + 6 ≡ k = omega (arith, j) in
-        rw (byte-is p blr.parameter2 _ e, byte-is (p + 1) m _ h1, word-is (p + 2) n _ h3, word-is (p + 4) flag post h4, i)
+  pub reference-walk : (g : Reference → Fetched) (inner : ℕ → Walked Datum) (numbers : Statistic → Walked Datum) (counted : Walked Datum) (r : Reference) (p : ℕ) (post : List ℕ) → drop p s ≡ referenceBytes r ++ post → (k : ℕ) → k ≡ p + length (referenceBytes r) →
+      onClass (valueClass (byteAt s p)) (λ c. valueUnder g inner numbers counted s p c) ≡ ended (fetchedAt p (g r)) k
+  unfolding referenceBytes valueClass classify valueUnder referenceAt
+  reference-walk g inner numbers counted (field c (named n)) p post e k j =
+      let h1 = next p blr.field _ e in
+      let h2 = next (p + 1) c _ h1 in
+      let z : p + 1 + 1 ≡ p + 2 = omega arith in
+      let h3 : drop (p + 2) s ≡ length n ∷ n ++ post = rw z at h2 in
+      let h4 = next (p + 2) (length n) _ h3 in
+      let i : p + 3 + length n ≡ k = omega (arith, j) in
+      rw (byte-is p blr.field _ e, byte-is (p + 1) c _ h1, byte-is (p + 2) (length n) _ h3, h4, take-append-seam n post, i)
+  reference-walk g inner numbers counted (field c (numbered n)) p post e k j =
+      let h1 = next p blr.fid _ e in
+      let h2 = next (p + 1) c _ h1 in
+      let z : p + 1 + 1 ≡ p + 2 = omega arith in
+      let h3 : drop (p + 2) s ≡ wordBytes n ++ post = rw z at h2 in
+      let i : p + 4 ≡ k = omega (arith, j) in
+      rw (byte-is p blr.fid _ e, byte-is (p + 1) c _ h1, word-is (p + 2) n post h3, i)
+  reference-walk g inner numbers counted (parameter m n) p post e k j =
+      let h1 = next p blr.parameter _ e in
+      let h2 = next (p + 1) m _ h1 in
+      let z : p + 1 + 1 ≡ p + 2 = omega arith in
+      let h3 : drop (p + 2) s ≡ wordBytes n ++ post = rw z at h2 in
+      let i : p + 4 ≡ k = omega (arith, j) in
+      rw (byte-is p blr.parameter _ e, byte-is (p + 1) m _ h1, word-is (p + 2) n post h3, i)
+  reference-walk g inner numbers counted (parameter2 m n flag) p post e k j =
+      let h1 = next p blr.parameter2 _ e in
+      let h2 = next (p + 1) m _ h1 in
+      let z : p + 1 + 1 ≡ p + 2 = omega arith in
+      let h3 : drop (p + 2) s ≡ wordBytes n ++ (wordBytes flag ++ post) = rw z at h2 in
+      let y : p + 2 + 2 ≡ p + 4 = omega arith in
+      let h4 : drop (p + 4) s ≡ wordBytes flag ++ post = rw y at (past (p + 2) (wordBytes n) _ h3) in
+      let i : p + 6 ≡ k = omega (arith, j) in
+      rw (byte-is p blr.parameter2 _ e, byte-is (p + 1) m _ h1, word-is (p + 2) n _ h3, word-is (p + 4) flag post h4, i)
 
-    -- the code of a value at a place
-    value-code : (l p x : ℕ) (k : ValueCode) (t : List ℕ) → drop p s ≡ x ∷ t → valueClass x ≡ due k → 0 < l →
-        valueAt g l s p ≡ valueUnder g (λ q. valueAt g (l - 1) s q) s p k
-    unfolding valueAt
-    value-code zero p x k t e c h = absurd (omega arith)
-    value-code (suc l) p x k t e c h = let z : suc l - 1 ≡ l = omega arith in rw (valueAt, byte-is p x t e, c, z)
-
-    pub value-walk : (v : Value) (l p : ℕ) (post : List ℕ) → valueDepth v ≤ l → drop p s ≡ valueBytes v ++ post →
-        valueAt g l s p ≡ ended (valueOf (versionAt s) g p v) (p + size v)
-    unfolding valueDepth valueBytes valueOf valueUnder valueClass classify valueAt
-    value-walk (literal l) n p post h e =
-        value-code n p blr.literal Code.Literal _ e refl (omega arith)
-        ∙ literal-walk l (p + 1) post (next p blr.literal _ e) ∙ ap (at (literalValue l)) (omega arith)
-    value-walk (reference r) zero p post h e = absurd (omega arith)
-    value-walk (reference r) (suc n) p post h e = reference-walk (λ q. valueAt g n s q) r p post e (p + size (reference r)) refl
-    value-walk (arithmetic o v w) n p post h e =
-        let e1 : drop (p + 1) s ≡ valueBytes v ++ (valueBytes w ++ post) = next p (operatorCode o) _ e ∙ append-assoc (valueBytes v) (valueBytes w) post in
-        let e2 = past (p + 1) (valueBytes v) _ e1 in
-        value-code n p (operatorCode o) (Code.Arithmetic o) _ e (operator-due o) (omega arith)
-        ∙ two-ended (valueAt g (n - 1) s (p + 1)) (λ q. valueAt g (n - 1) s q) (valueOf (versionAt s) g (p + 1) v) (p + 1 + size v)
-        (valueOf (versionAt s) g (p + 1 + size v) w) (p + 1 + size v + size w) (arithmeticOf (versionAt s) o p)
-        (value-walk v (n - 1) (p + 1) _ (omega arith) e1) (value-walk w (n - 1) (p + 1 + size v) post (omega arith) e2)
-        ∙ ap (ended (valueOf (versionAt s) g p (arithmetic o v w))) (omega (arith, length-append (valueBytes v) (valueBytes w)))
-    value-walk (negate v) n p post h e =
-        value-code n p blr.negate Code.Negate _ e refl (omega arith)
-        ∙ one-ended (valueAt g (n - 1) s (p + 1)) (valueOf (versionAt s) g (p + 1) v) (p + 1 + size v) (negateOf p)
-        (value-walk v (n - 1) (p + 1) post (omega arith) (next p blr.negate _ e))
-        ∙ ap (ended (valueOf (versionAt s) g p (negate v))) (omega arith)
-
-    -- two values in a row, under a boolean
-    two-values : {C : Type 0} (v w : Value) (l p : ℕ) (post : List ℕ) (f : Datum → Datum → Result C) → valueDepth v ≤ l → valueDepth w ≤ l →
-        drop p s ≡ (valueBytes v ++ valueBytes w) ++ post →
-        (valueAt g l s p ▷ (λ x q. valueAt g l s q ▷ (λ y e. ended (f x y) e))) ≡
-        ended (valueOf (versionAt s) g p v >>= (λ x. valueOf (versionAt s) g (p + size v) w >>= (λ y. f x y))) (p + size v + size w)
-    two-values v w l p post f h k e =
-        let e1 : drop p s ≡ valueBytes v ++ (valueBytes w ++ post) = e ∙ append-assoc (valueBytes v) (valueBytes w) post in
-        two-ended (valueAt g l s p) (λ q. valueAt g l s q) (valueOf (versionAt s) g p v) (p + size v) (valueOf (versionAt s) g (p + size v) w) (p + size v + size w) f
-        (value-walk v l p _ h e1) (value-walk w l (p + size v) post k (past p (valueBytes v) _ e1))
-
-  -- ---- booleans, as they are seen from an E
+  -- ---- values and booleans, as they are seen from an E
 
   module _ {E : Type 0} (w : Sight E) where
-    -- the code of a boolean at a place; what a reference gives there is g
-    boolean-code : (x : E) (g : Reference → Fetched) → w .fetch x ≡ g → (l p c : ℕ) (k : BooleanCode) (t : List ℕ) →
-        drop p s ≡ c ∷ t → booleanClass c ≡ due k → 0 < l →
-        booleanAt w x l s p ≡
-        booleanUnder (λ q. valueAt g (l - 1) s q) (λ q. booleanAt w x (l - 1) s q) (λ q. overAt q (w .over x p) (λ y z. booleanAt w y (l - 1) s z)) p k
-    unfolding booleanAt
-    boolean-code x g f zero p c k t e d h = absurd (omega arith)
-    boolean-code x g f (suc l) p c k t e d h = let z : suc l - 1 ≡ l = omega arith in rw (booleanAt, byte-is p c t e, d, f, z)
+    -- the code of a value and of a boolean at a place
+    value-code : (x : E) (l p c : ℕ) (k : ValueCode) (t : List ℕ) → drop p s ≡ c ∷ t → valueClass c ≡ due k → 0 < l →
+        valueAt w x l s p ≡ valueBelow w x (l - 1) s p k
+    value-code x l p c k t e d h = value-by w x s l p (due k) (λ z. omega arith) (sym (ap valueClass (byte-is p c t e) ∙ d))
+
+    boolean-code : (x : E) (l p c : ℕ) (k : BooleanCode) (t : List ℕ) → drop p s ≡ c ∷ t → booleanClass c ≡ due k → 0 < l →
+        booleanAt w x l s p ≡ booleanBelow w x (l - 1) s p k
+    boolean-code x l p c k t e d h = boolean-by w x s l p (due k) (λ z. omega arith) (sym (ap booleanClass (byte-is p c t e) ∙ d))
 
     -- over a run whose records are alike
-    run-walk : (x : E) (q : Quantifier) (r : Rse) (found : Option ℕ) (each : Option (List Around)) (inside : E → Around → Type 0) (p : ℕ)
-        (test : E → ℕ → Walked Truth) (truth : Around → Result Truth) → SeesRun w x r found each inside p →
-        ((y : E) (b : Around) → inside y b → suchAt found (test y) ≡ truth b) →
-        overAt q (w .over x p) test ≡ ended (overRun q each truth) (p + 1 + length (rseBytes r))
-    run-walk x q r found each inside p test truth v h =
-        let same = kept-alike inside (λ y. suchAt found (test y)) truth h (v .run .each) (v .records) (v .alike) in
-        ap (λ o. overAt q o test) (v .run-is)
-        ∙ ap₂ (λ f e. ended (overRun q (some (v .run .each)) (λ y. suchAt f (test y))) e) (v .such-is) (v .end-is)
-        ∙ ap (λ k. ended (k >>= (λ n. is (answerOf q n))) (p + 1 + length (rseBytes r))) same
-        ∙ ap (λ o. ended (overRun q o truth) (p + 1 + length (rseBytes r))) (sym (v .records-are))
+    module _ (x : E) (r : Rse) (found : Option ℕ) (kind : Option Grammar.Kind) (each : Option (List Around)) (inside : E → Around → Type 0) (p end : ℕ)
+        (v : SeesRun w x r found kind each inside p end) (test : E → ℕ → Walked Truth) (truth : Around → Result Truth)
+        (h : (y : E) (b : Around) → inside y b → suchAt found (test y) ≡ truth b) where
+      -- how many are kept
+      same-kept : keptOf (λ y. suchAt found (test y)) (v .run .each) ≡ keptOf truth (v .records)
+      same-kept = kept-alike inside (λ y. suchAt found (test y)) truth h (v .run .each) (v .records) (v .alike)
+
+      run-walk : (q : Quantifier) → overAt q (w .over x p) test ≡ ended (overRun q each truth) end
+      run-walk q =
+          ap (λ o. overAt q o test) (v .run-is)
+          ∙ ap₂ (λ f e. ended (overRun q (some (v .run .each)) (λ y. suchAt f (test y))) e) (v .such-is) (v .end-is)
+          ∙ ap (λ k. ended (k >>= (λ n. is (answerOf q n))) end) same-kept
+          ∙ ap (λ o. ended (overRun q o truth) end) (sym (v .records-are))
+
+      count-walk : countAt (w .over x p) test ≡ ended (countOver each truth) end
+      count-walk =
+          ap (λ o. countAt o test) (v .run-is)
+          ∙ ap₂ (λ f e. ended (countOver (some (v .run .each)) (λ y. suchAt f (test y))) e) (v .such-is) (v .end-is)
+          ∙ ap (λ k. ended (k >>= (λ n. is (number (whole n)))) end) same-kept
+          ∙ ap (λ o. ended (countOver o truth) end) (sym (v .records-are))
+
+      numbers-walk : (k : Statistic) (values : E → ℕ → Walked Datum) (numbers : Around → Result Datum) →
+          ((y : E) (b : Around) → inside y b → resultOf (values y (p + 1 + length (rseBytes r))) ≡ numbers b) →
+          numbersAt k p (w .over x p) test values ≡ ended (numbersOver k p kind each truth numbers) end
+      numbers-walk k values numbers i =
+          ap (λ o. numbersAt k p o test values) (v .run-is)
+          ∙ ap₂ (λ f e. ended (numbersOver k p (v .run .kind) (some (v .run .each)) (λ y. suchAt f (test y)) (λ y. resultOf (values y (v .run .number)))) e)
+          (v .such-is) (v .end-is)
+          ∙ ap₂ (λ d n. ended (numbersOver k p d (some (v .run .each)) (λ y. suchAt found (test y)) (λ y. resultOf (values y n))) end) (v .kind-is) (v .number-is)
+          ∙ ap (λ m. ended m end) (numbers-alike inside k p (λ y. suchAt found (test y)) truth (λ y. resultOf (values y (p + 1 + length (rseBytes r)))) numbers h i
+          kind (v .run .each) (v .records) (v .alike))
+          ∙ ap (λ o. ended (numbersOver k p kind o truth numbers) end) (sym (v .records-are))
+
+    -- a value at p that the walk gives where its bytes stand, and two of them in a row
+    abbrev Walks : E → Around → ℕ → ℕ → Value → Type 0
+    Walks x a l p v =
+        (post : List ℕ) → drop p s ≡ valueBytes v ++ post → valueAt w x l s p ≡ ended (valueOf (versionAt s) a p v) (p + size v)
+
+    two-values : {C : Type 0} (u v : Value) (x : E) (a : Around) (l p : ℕ) (post : List ℕ) (f : Datum → Datum → Result C) →
+        drop p s ≡ (valueBytes u ++ valueBytes v) ++ post → Walks x a l p u → Walks x a l (p + size u) v →
+        (valueAt w x l s p ▷ (λ y q. valueAt w x l s q ▷ (λ z e. ended (f y z) e))) ≡
+        ended (valueOf (versionAt s) a p u >>= (λ y. valueOf (versionAt s) a (p + size u) v >>= (λ z. f y z))) (p + size u + size v)
+    two-values u v x a l p post f e i j =
+        let e1 : drop p s ≡ valueBytes u ++ (valueBytes v ++ post) = e ∙ append-assoc (valueBytes u) (valueBytes v) post in
+        two-ended (valueAt w x l s p) (λ q. valueAt w x l s q) (valueOf (versionAt s) a p u) (p + size u) (valueOf (versionAt s) a (p + size u) v) (p + size u + size v) f
+        (i _ e1) (j post (past p (valueBytes u) _ e1))
 
     mutual
-      unfolding booleanDepth rseDepth clausesDepth booleanBytes rseBytes clausesBytes truthOf rseTruth clausesTruth booleanUnder booleanClass classify Sees SeesRse SeesClauses suchPlace
+      unfolding valueDepth booleanDepth rseDepth clausesDepth valueBytes booleanBytes rseBytes clausesBytes valueOf rseNumber rseCount truthOf rseTruth clausesTruth valueUnder booleanUnder valueClass booleanClass classify SeesValue Sees SeesRse SeesClauses suchPlace
+
+      pub value-walk : (v : Value) (x : E) (a : Around) (l p : ℕ) (post : List ℕ) → valueDepth v ≤ l → drop p s ≡ valueBytes v ++ post →
+          SeesValue (versionAt s) w x a v p → valueAt w x l s p ≡ ended (valueOf (versionAt s) a p v) (p + size v)
+      value-walk (literal l) x a n p post h e i =
+          value-code x n p blr.literal Code.Literal _ e refl (omega arith)
+          ∙ literal-walk l (p + 1) post (next p blr.literal _ e) ∙ ap (at (literalValue l)) (omega arith)
+      value-walk (reference r) x a n p post h e i =
+          value-by w x s n p (valueClass (byteAt s p)) (λ z. omega arith) refl
+          ∙ reference-walk (w .fetch x) (λ q. valueAt w x (n - 1) s q) _ _ r p post e (p + size (reference r)) refl
+          ∙ ap (λ f. ended (fetchedAt p f) (p + size (reference r))) (i r)
+      value-walk (arithmetic o u v) x a n p post h e i =
+          value-code x n p (operatorCode o) (Code.Arithmetic o) _ e (operator-due o) (omega arith)
+          ∙ two-values u v x a (n - 1) (p + 1) post (arithmeticOf (versionAt s) o p) (next p (operatorCode o) _ e)
+          (λ t f. value-walk u x a (n - 1) (p + 1) t (omega arith) f (i .0)) (λ t f. value-walk v x a (n - 1) (p + 1 + size u) t (omega arith) f (i .1))
+          ∙ ap (ended (valueOf (versionAt s) a p (arithmetic o u v))) (omega (arith, length-append (valueBytes u) (valueBytes v)))
+      value-walk (negate v) x a n p post h e i =
+          value-code x n p blr.negate Code.Negate _ e refl (omega arith)
+          ∙ one-ended (valueAt w x (n - 1) s (p + 1)) (valueOf (versionAt s) a (p + 1) v) (p + 1 + size v) (negateOf p)
+          (value-walk v x a (n - 1) (p + 1) post (omega arith) (next p blr.negate _ e) i)
+          ∙ ap (ended (valueOf (versionAt s) a p (negate v))) (omega arith)
+      value-walk (statistic k r v) x a n p post h e i =
+          let q = p + 1 + length (rseBytes r) in
+          let e1 : drop (p + 1) s ≡ rseBytes r ++ (valueBytes v ++ post) = next p (statisticCode k) _ e ∙ append-assoc (rseBytes r) (valueBytes v) post in
+          value-code x n p (statisticCode k) (Code.Statistic k) _ e (statistic-due k) (omega arith)
+          ∙ rse-numbers r x a k (kindOf (environmentAround (versionAt s) a) (a .scope) (statistic k r v)) v (n - 1) p (q + size v) _ (omega arith) e1
+          (λ y b j. ap resultOf (value-walk v y b (n - 1) q post (omega arith) (past (p + 1) (rseBytes r) _ e1) j) ∙ result-ended (valueOf (versionAt s) b q v) (q + size v)) i
+          ∙ ap (ended (valueOf (versionAt s) a p (statistic k r v))) (omega (arith, length-append (rseBytes r) (valueBytes v)))
+      value-walk (count r) x a n p post h e i =
+          value-code x n p blr.count Code.Count _ e refl (omega arith)
+          ∙ rse-count r x a (n - 1) p post (omega arith) (next p blr.count _ e) i
+          ∙ ap (ended (valueOf (versionAt s) a p (count r))) (omega arith)
 
       pub boolean-walk : (b : Tree.Boolean) (x : E) (a : Around) (l p : ℕ) (post : List ℕ) → booleanDepth b ≤ l → drop p s ≡ booleanBytes b ++ post →
-          Sees w x a b p → booleanAt w x l s p ≡ ended (truthOf (versionAt s) a p b) (p + booleanSize b)
+          Sees (versionAt s) w x a b p → booleanAt w x l s p ≡ ended (truthOf (versionAt s) a p b) (p + booleanSize b)
       boolean-walk (compare c u v) x a n p post h e i =
-          boolean-code x (fetchAround a) (fun-ext i) n p (comparisonCode c) (Boolean.Compare c) _ e (comparison-due c) (omega arith)
-          ∙ two-values (fetchAround a) u v (n - 1) (p + 1) post (compareOf c) (omega arith) (omega arith) (next p (comparisonCode c) _ e)
+          boolean-code x n p (comparisonCode c) (Boolean.Compare c) _ e (comparison-due c) (omega arith)
+          ∙ two-values u v x a (n - 1) (p + 1) post (compareOf c) (next p (comparisonCode c) _ e)
+          (λ t f. value-walk u x a (n - 1) (p + 1) t (omega arith) f (i .0)) (λ t f. value-walk v x a (n - 1) (p + 1 + size u) t (omega arith) f (i .1))
           ∙ ap (ended (truthOf (versionAt s) a p (compare c u v))) (omega (arith, length-append (valueBytes u) (valueBytes v)))
       boolean-walk (search t u v) x a n p post h e i =
-          boolean-code x (fetchAround a) (fun-ext i) n p (searchCode t) (Boolean.Search t) _ e (search-due t) (omega arith)
-          ∙ two-values (fetchAround a) u v (n - 1) (p + 1) post (searchOf t) (omega arith) (omega arith) (next p (searchCode t) _ e)
+          boolean-code x n p (searchCode t) (Boolean.Search t) _ e (search-due t) (omega arith)
+          ∙ two-values u v x a (n - 1) (p + 1) post (searchOf t) (next p (searchCode t) _ e)
+          (λ t f. value-walk u x a (n - 1) (p + 1) t (omega arith) f (i .0)) (λ t f. value-walk v x a (n - 1) (p + 1 + size u) t (omega arith) f (i .1))
           ∙ ap (ended (truthOf (versionAt s) a p (search t u v))) (omega (arith, length-append (valueBytes u) (valueBytes v)))
       boolean-walk (between u v z) x a n p post h e i =
-          let g = fetchAround a in
           let e1 : drop (p + 1) s ≡ valueBytes u ++ (valueBytes v ++ (valueBytes z ++ post)) =
           next p blr.between _ e ∙ append-assoc (valueBytes u ++ valueBytes v) (valueBytes z) post
           ∙ append-assoc (valueBytes u) (valueBytes v) (valueBytes z ++ post) in
           let e2 = past (p + 1) (valueBytes u) _ e1 in
           let e3 = past (p + 1 + size u) (valueBytes v) _ e2 in
-          boolean-code x g (fun-ext i) n p blr.between Boolean.Between _ e refl (omega arith)
-          ∙ three-ended (valueAt g (n - 1) s (p + 1)) (λ q. valueAt g (n - 1) s q) (valueOf (versionAt s) g (p + 1) u) (valueOf (versionAt s) g (p + 1 + size u) v)
-          (valueOf (versionAt s) g (p + 1 + size u + size v) z) (p + 1 + size u) (p + 1 + size u + size v) (p + 1 + size u + size v + size z) betweenOf
-          (value-walk g u (n - 1) (p + 1) _ (omega arith) e1) (value-walk g v (n - 1) (p + 1 + size u) _ (omega arith) e2)
-          (value-walk g z (n - 1) (p + 1 + size u + size v) post (omega arith) e3)
+          boolean-code x n p blr.between Boolean.Between _ e refl (omega arith)
+          ∙ three-ended (valueAt w x (n - 1) s (p + 1)) (λ q. valueAt w x (n - 1) s q) (valueOf (versionAt s) a (p + 1) u) (valueOf (versionAt s) a (p + 1 + size u) v)
+          (valueOf (versionAt s) a (p + 1 + size u + size v) z) (p + 1 + size u) (p + 1 + size u + size v) (p + 1 + size u + size v + size z) betweenOf
+          (value-walk u x a (n - 1) (p + 1) _ (omega arith) e1 (i .0)) (value-walk v x a (n - 1) (p + 1 + size u) _ (omega arith) e2 (i .1))
+          (value-walk z x a (n - 1) (p + 1 + size u + size v) post (omega arith) e3 (i .2))
           ∙ ap (ended (truthOf (versionAt s) a p (between u v z)))
           (omega (arith, length-append (valueBytes u ++ valueBytes v) (valueBytes z), length-append (valueBytes u) (valueBytes v)))
       boolean-walk (connect c b d) x a n p post h e i =
           let e1 : drop (p + 1) s ≡ booleanBytes b ++ (booleanBytes d ++ post) =
           next p (connectiveCode c) _ e ∙ append-assoc (booleanBytes b) (booleanBytes d) post in
           let e2 = past (p + 1) (booleanBytes b) _ e1 in
-          boolean-code x (w .fetch x) refl n p (connectiveCode c) (Boolean.Connect c) _ e (connective-due c) (omega arith)
+          boolean-code x n p (connectiveCode c) (Boolean.Connect c) _ e (connective-due c) (omega arith)
           ∙ two-ended (booleanAt w x (n - 1) s (p + 1)) (λ q. booleanAt w x (n - 1) s q) (truthOf (versionAt s) a (p + 1) b) (p + 1 + booleanSize b)
           (truthOf (versionAt s) a (p + 1 + booleanSize b) d) (p + 1 + booleanSize b + booleanSize d) (λ y z. is (connected c y z))
           (boolean-walk b x a (n - 1) (p + 1) _ (omega arith) e1 (i .0)) (boolean-walk d x a (n - 1) (p + 1 + booleanSize b) post (omega arith) e2 (i .1))
           ∙ ap (ended (truthOf (versionAt s) a p (connect c b d))) (omega (arith, length-append (booleanBytes b) (booleanBytes d)))
       boolean-walk (not b) x a n p post h e i =
-          boolean-code x (w .fetch x) refl n p blr.not Boolean.Not _ e refl (omega arith)
+          boolean-code x n p blr.not Boolean.Not _ e refl (omega arith)
           ∙ one-ended (booleanAt w x (n - 1) s (p + 1)) (truthOf (versionAt s) a (p + 1) b) (p + 1 + booleanSize b) (λ y. is (opposite y))
           (boolean-walk b x a (n - 1) (p + 1) post (omega arith) (next p blr.not _ e) i)
           ∙ ap (ended (truthOf (versionAt s) a p (not b))) (omega arith)
       boolean-walk (missing v) x a n p post h e i =
-          let g = fetchAround a in
-          boolean-code x g (fun-ext i) n p blr.missing Boolean.Missing _ e refl (omega arith)
-          ∙ one-ended (valueAt g (n - 1) s (p + 1)) (valueOf (versionAt s) g (p + 1) v) (p + 1 + size v) (λ y. is (missingOf y))
-          (value-walk g v (n - 1) (p + 1) post (omega arith) (next p blr.missing _ e))
+          boolean-code x n p blr.missing Boolean.Missing _ e refl (omega arith)
+          ∙ one-ended (valueAt w x (n - 1) s (p + 1)) (valueOf (versionAt s) a (p + 1) v) (p + 1 + size v) (λ y. is (missingOf y))
+          (value-walk v x a (n - 1) (p + 1) post (omega arith) (next p blr.missing _ e) i)
           ∙ ap (ended (truthOf (versionAt s) a p (missing v))) (omega arith)
       boolean-walk (quantify q r) x a n p post h e i =
-          boolean-code x (w .fetch x) refl n p (quantifierCode q) (Boolean.Quantify q) _ e (quantifier-due q) (omega arith)
+          boolean-code x n p (quantifierCode q) (Boolean.Quantify q) _ e (quantifier-due q) (omega arith)
           ∙ rse-walk r x a q (n - 1) p post (omega arith) (next p (quantifierCode q) _ e) i
           ∙ ap (ended (truthOf (versionAt s) a p (quantify q r))) (omega arith)
 
-      -- the rse of an any or a unique at p
+      -- the rse of an any or a unique, of a count, and of a statistic at p
       rse-walk : (r : Rse) (x : E) (a : Around) (q : Quantifier) (l p : ℕ) (post : List ℕ) → rseDepth r ≤ l → drop (p + 1) s ≡ rseBytes r ++ post →
-          SeesRse w x a q r p → overAt q (w .over x p) (λ y z. booleanAt w y l s z) ≡ ended (rseTruth (versionAt s) a p q r) (p + 1 + length (rseBytes r))
+          SeesRse (versionAt s) w x a (quantifierCode q) r none (λ y b. Unit {0}) p (p + 1 + length (rseBytes r)) →
+          overAt q (w .over x p) (λ y z. booleanAt w y l s z) ≡ ended (rseTruth (versionAt s) a p q r) (p + 1 + length (rseBytes r))
       rse-walk (rse ss cs) x a q l p post h e i =
           let c = p + 1 + length (headBytes ss) in
           let e1 : drop c s ≡ clausesBytes cs ++ post = past (p + 1) (headBytes ss) _ (e ∙ append-assoc (headBytes ss) (clausesBytes cs) post) in
-          run-walk x q (rse ss cs) (suchPlace cs c) (withinEach a p q ss) (λ y b. SeesClauses w y b cs c) p (λ y z. booleanAt w y l s z)
-          (λ b. clausesTruth (versionAt s) b c cs) i (λ y b j. clauses-walk cs y b l c post h e1 j)
+          run-walk x (rse ss cs) (suchPlace cs c) none (withinEach a p (quantifierCode q) ss) _ p _ i (λ y z. booleanAt w y l s z)
+          (λ b. clausesTruth (versionAt s) b c cs) (λ y b j. clauses-walk cs y b l c post h e1 (j .0)) q
+
+      rse-count : (r : Rse) (x : E) (a : Around) (l p : ℕ) (post : List ℕ) → rseDepth r ≤ l → drop (p + 1) s ≡ rseBytes r ++ post →
+          SeesRse (versionAt s) w x a blr.count r none (λ y b. Unit {0}) p (p + 1 + length (rseBytes r)) →
+          countAt (w .over x p) (λ y z. booleanAt w y l s z) ≡ ended (rseCount (versionAt s) a p r) (p + 1 + length (rseBytes r))
+      rse-count (rse ss cs) x a l p post h e i =
+          let c = p + 1 + length (headBytes ss) in
+          let e1 : drop c s ≡ clausesBytes cs ++ post = past (p + 1) (headBytes ss) _ (e ∙ append-assoc (headBytes ss) (clausesBytes cs) post) in
+          count-walk x (rse ss cs) (suchPlace cs c) none (withinEach a p blr.count ss) _ p _ i (λ y z. booleanAt w y l s z)
+          (λ b. clausesTruth (versionAt s) b c cs) (λ y b j. clauses-walk cs y b l c post h e1 (j .0))
+
+      rse-numbers : (r : Rse) (x : E) (a : Around) (k : Statistic) (kind : Option Grammar.Kind) (v : Value) (l p end : ℕ) (post : List ℕ) → rseDepth r ≤ l →
+          drop (p + 1) s ≡ rseBytes r ++ post →
+          ((y : E) (b : Around) → SeesValue (versionAt s) w y b v (p + 1 + length (rseBytes r)) →
+          resultOf (valueAt w y l s (p + 1 + length (rseBytes r))) ≡ valueOf (versionAt s) b (p + 1 + length (rseBytes r)) v) →
+          SeesRse (versionAt s) w x a (statisticCode k) r kind (λ y b. SeesValue (versionAt s) w y b v (p + 1 + length (rseBytes r))) p end →
+          numbersAt k p (w .over x p) (λ y z. booleanAt w y l s z) (λ y z. valueAt w y l s z) ≡
+          ended (rseNumber (versionAt s) a p k r kind (λ b. valueOf (versionAt s) b (p + 1 + length (rseBytes r)) v)) end
+      rse-numbers (rse ss cs) x a k kind v l p end post h e f i =
+          let c = p + 1 + length (headBytes ss) in
+          let e1 : drop c s ≡ clausesBytes cs ++ post = past (p + 1) (headBytes ss) _ (e ∙ append-assoc (headBytes ss) (clausesBytes cs) post) in
+          numbers-walk x (rse ss cs) (suchPlace cs c) kind (withinEach a p (statisticCode k) ss) _ p end i (λ y z. booleanAt w y l s z)
+          (λ b. clausesTruth (versionAt s) b c cs) (λ y b j. clauses-walk cs y b l c post h e1 (j .0)) k (λ y z. valueAt w y l s z) _ (λ y b j. f y b (j .1))
 
       -- the condition of its clauses at p, with one record
       clauses-walk : (cs : Clauses) (x : E) (a : Around) (l p : ℕ) (post : List ℕ) → clausesDepth cs ≤ l → drop p s ≡ clausesBytes cs ++ post →
-          SeesClauses w x a cs p → suchAt (suchPlace cs p) (λ z. booleanAt w x l s z) ≡ clausesTruth (versionAt s) a p cs
+          SeesClauses (versionAt s) w x a cs p → suchAt (suchPlace cs p) (λ z. booleanAt w x l s z) ≡ clausesTruth (versionAt s) a p cs
       clauses-walk noClauses x a l p post h e i = refl
       clauses-walk (such b cs) x a l p post h e i =
           let e1 : drop (p + 1) s ≡ booleanBytes b ++ (clausesBytes cs ++ post) = next p blr.boolean _ e ∙ append-assoc (booleanBytes b) (clausesBytes cs) post in

@@ -18,9 +18,11 @@ use Rattle.grammar.specs.declared.Refusal.{Refusal}
 use Rattle.grammar.specs.declared.Refusal.the-variants.{RequestTooLong, BadDictionary, NoBoolean, BadMessageBytes, BadRecords}
 use Rattle.grammar.specs.declared.Cursor.{Cursor}
 use Rattle.grammar.specs.Refusals.{number}
-use Rattle.grammar.specs.Tree.{Request}
+use Rattle.grammar.specs.Tree.{Message, Request}
 use Rattle.grammar.specs.Sizes.{messageSize}
+use Rattle.grammar.specs.Environment.{Scope}
 use Rattle.grammar.specs.Conditions.{Condition, requestConditions}
+use Rattle.grammar.specs.Named.{FromValue, fromValue}
 use Rattle.grammar.specs.Reader as Reader
 use Rattle.grammar.specs.Reading.{start, request, beside, reading, relationsOf}
 use Rattle.grammar.proofs.StepLaws.{absurd-eq}
@@ -32,21 +34,21 @@ use Rattle.grammar.proofs.Sound.{reading-sound}
 use Rattle.meaning.specs.declared.Truth.{Truth}
 use Rattle.meaning.specs.declared.Fault.{Fault}
 use Rattle.meaning.specs.declared.Fault.the-variants as Fault
-use Rattle.meaning.specs.Data.{Result, is, refused, stray}
-use Rattle.meaning.specs.Runs.{dueRuns, runRelations}
-use Rattle.meaning.specs.Meaning.{meaning, booleanSize, around}
-use Rattle.meaning.specs.Evaluation.{Outcome, answered, refusal, strayed, refusalOf, outcome, dueRelations, afterRecords, afterRuns, afterMessages, onCondition, onReading, evaluation}
+use Rattle.meaning.specs.Data.{Result, is, refused, stray, Datum}
+use Rattle.meaning.specs.Runs.{DueRun, valueRuns, dueRuns, runRelations}
+use Rattle.meaning.specs.Meaning.{meaning, valueMeaning, size, booleanSize, around, aroundValue}
+use Rattle.meaning.specs.Evaluation.{Outcome, answered, refusal, strayed, refusalOf, outcome, valueOutcome, dueRelations, afterRecords, afterRuns, afterMessages, onInputs, onCondition, onReading, evaluation, onFromValue, onRow, valueEvaluation}
 use Rattle.meaning.specs.declared.Evaluation.the-variants.{Refused}
 use Rattle.meaning.specs.Evaluated.{Evaluated}
 use Rattle.meaning.specs.Demand.{Accepted, Asked, placedIn, RefusedEvaluation}
 use Rattle.walking.proofs.Proper.{proper-within}
 use Rattle.walking.proofs.ProperRuns.{run-within}
-use Rattle.walking.proofs.Within.{Within, truth-within}
-use Rattle.walking.proofs.Asked.{means, stands-within}
+use Rattle.walking.proofs.Within.{Within, value-within, truth-within}
+use Rattle.walking.proofs.Asked.{means, stands-within, value-means, value-stands-within}
 
 module _ (s d images rows runs : List ℕ) where
   -- what is told of a refusal
-  abbrev Told : Outcome → Type 0
+  abbrev Told : {A : Type 0} → Outcome A → Type 0
   Told (answered t) = Unit {0}
   Told (refusal x p) = RefusedEvaluation s d images rows runs x p
   Told strayed = Unit {0}
@@ -132,7 +134,12 @@ module _ (s d images rows runs : List ℕ) where
   told-meaning lo hi (refused f p) w h = let k = w .1 in told-fault f p (omega (arith, k))
   told-meaning lo hi stray w h = tt
 
-  told-records : (rs : List Relation) (x : Outcome) → Told x → Told (afterRecords (records rs rows 0) x)
+  told-value : (lo hi : ℕ) (m : Result Datum) → Within lo hi m → hi ≤ length s → Told (valueOutcome m)
+  told-value lo hi (is v) w h = tt
+  told-value lo hi (refused f p) w h = let k = w .1 in told-fault f p (omega (arith, k))
+  told-value lo hi stray w h = tt
+
+  told-records : {A : Type 0} (rs : List Relation) (x : Outcome A) → Told x → Told (afterRecords (records rs rows 0) x)
   unfolding number
   told-records rs x t = by (records rs rows 0) refl
     where
@@ -140,7 +147,7 @@ module _ (s d images rows runs : List ℕ) where
       by asDue e = t
       by (wrongAt p) e = record { numbered = inr (omega arith, omega arith); placed = wrong-within rs 0 (omega arith) p e }
 
-  told-runs : (rs : List Relation) (x : Outcome) → Told x → Told (afterRuns (Runs.runs rs runs 0) x)
+  told-runs : {A : Type 0} (rs : List Relation) (x : Outcome A) → Told x → Told (afterRuns (Runs.runs rs runs 0) x)
   unfolding number
   told-runs rs x t = by (Runs.runs rs runs 0) refl
     where
@@ -148,10 +155,15 @@ module _ (s d images rows runs : List ℕ) where
       by asDue e = t
       by (wrongAt p) e = record { numbered = inr (omega arith, omega arith); placed = wrong-run rs 0 (omega arith) p e }
 
-  told-messages : (b : Bool) (x : Outcome) → Told x → Told (afterMessages b (length images) x)
+  told-messages : {A : Type 0} (b : Bool) (x : Outcome A) → Told x → Told (afterMessages b (length images) x)
   unfolding number
   told-messages true x t = t
   told-messages false x t = record { numbered = inr (omega arith, omega arith); placed = omega arith }
+
+  told-inputs : {A : Type 0} (sc : Scope) (due : List DueRun) (ms : List Message) (x : Outcome A) → Told x → Told (onInputs sc due ms images rows runs x)
+  told-inputs sc due ms x t =
+      told-messages (eqb (length images) (sumOf messageSize ms)) _
+      (told-records (dueRelations (sc .contexts)) _ (told-runs (runRelations due) x t))
 
   module _ (n : ℕ) (rs : List Relation) (t : Request) (a : Accepted s d rs t) where
     told-condition : (o : Option Condition) → getElem? (requestConditions rs t) n ≡ o →
@@ -161,10 +173,19 @@ module _ (s d images rows runs : List ℕ) where
     told-condition (some x) e =
         let w = truth-within (t .version) (around rs t x images rows runs) (x .boolean) (x .place) in
         let v = subst (Within (x .place) (x .place + booleanSize (x .boolean))) (sym (means s d rs t a n x e images rows runs)) w in
-        told-messages (eqb (length images) (sumOf messageSize (t .messages))) _
-        (told-records (dueRelations (x .scope .contexts)) _
-        (told-runs (runRelations (dueRuns rs (x .boolean) (x .place))) _
-        (told-meaning (x .place) _ (meaning s d n images rows runs) v (stands-within s d rs t a n x e))))
+        told-inputs (x .scope) (dueRuns rs (x .boolean) (x .place)) (t .messages) _
+        (told-meaning (x .place) _ (meaning s d n images rows runs) v (stands-within s d rs t a n x e))
+
+    -- n is a row
+    told-from : (o : Option FromValue) → fromValue rs t n ≡ o →
+        Told (onFromValue o rs (t .messages) images rows runs (valueOutcome (valueMeaning s d n images rows runs)))
+    unfolding number
+    told-from none e = record { numbered = inr (omega arith, omega arith); placed = omega arith }
+    told-from (some x) e =
+        let w = value-within (t .version) (aroundValue rs t x images rows runs) (x .value) (x .place) in
+        let v = subst (Within (x .place) (x .place + size (x .value))) (sym (value-means s d rs t a n x e images rows runs)) w in
+        told-inputs (x .scope) (valueRuns rs (x .value) (x .place)) (t .messages) _
+        (told-value (x .place) _ (valueMeaning s d n images rows runs) v (value-stands-within s d rs t a n x e))
 
   told : (n : ℕ) → Octets s → Told (evaluation s d n images rows runs)
   unfolding evaluation
@@ -181,3 +202,20 @@ module _ (s d images rows runs : List ℕ) where
   -- what a refused evaluation has, from what evaluation promises
   pub refused-evaluation : (n : ℕ) (x : Refusal) (p : ℕ) → Evaluated s d n images rows runs (Refused x p) → RefusedEvaluation s d images rows runs x p
   refused-evaluation n x p h = subst Told (sym (h .answered)) (told n (h .request-octets))
+
+  -- and of a from-value
+  told-row : (k : ℕ) → Octets s → Told (valueEvaluation s d k images rows runs)
+  unfolding valueEvaluation
+  told-row k octets = by (reading s d) refl
+    where
+      by : (x : Reader.Read Request) → reading s d ≡ x →
+          Told (onRow x (relationsOf (dictionary d)) k images rows runs (valueOutcome (valueMeaning s d k images rows runs)))
+      by (Reader.refused r p) e = told-reading r p e
+      by (Reader.read t c) e =
+          let y = reading-sound s octets d t c e in
+          let a : Accepted s d (y .relations) t = record { house = y .checked; bytes = y .sound .whole; allowed = y .sound .allowed } in
+          rw (y .checked) (told-from k (y .relations) t a (fromValue (y .relations) t k) refl)
+
+  pub refused-value : (k : ℕ) (x : Refusal) (p : ℕ) → Octets s → refusal x p ≡ valueEvaluation s d k images rows runs →
+      RefusedEvaluation s d images rows runs x p
+  refused-value k x p octets e = subst Told (sym e) (told-row k octets)

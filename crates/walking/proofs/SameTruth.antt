@@ -1,22 +1,26 @@
--- Two sets of records and runs that differ only inside fields missing in both give a condition the same meaning.
+-- Two sets of records and runs that differ only inside fields missing in both give a condition, or a from-value, the same meaning.
 use Prim.Native.Nat.{ℕ, _+_, _≤_}
-use mathlib.Core.Path.{_≡_, refl, sym, ap, ap₂, subst, _∙_, fun-ext}
+use mathlib.Core.Path.{_≡_, refl, sym, ap, ap₂, subst, _∙_}
 use mathlib.Core.List.{List, [], _∷_, _++_, map}
 use mathlib.Core.Option.{Option, none, some}
 use native.Mathlib.Omega.{arith}
 use lib.ListN.{length, length-append}
+use Rattle.wire.specs.Codes as blr
 use Rattle.wire.specs.Lists.{sumOf}
 use Rattle.wire.specs.declared.codes.Quantifier.{Quantifier}
+use Rattle.wire.specs.declared.codes.Statistic.{Statistic}
 use Rattle.dictionary.specs.Dictionary.{Relation}
 use Rattle.records.specs.Record.{recordLength}
-use Rattle.grammar.specs.Tree.{Stream, Reference, Boolean, compare, search, between, connect, not, missing, quantify, Clauses, noClauses, such, sorted, Rse, rse}
-use Rattle.grammar.specs.Bytes.{quantifierCode, keysBytes, headBytes}
-use Rattle.grammar.specs.Environment.{Environment, Context, Scope, streamContext, underStreams}
+use Rattle.grammar.specs.Kind as Grammar
+use Rattle.grammar.specs.Tree.{Stream, Reference, Value, literal, reference, arithmetic, negate, statistic, count, Boolean, compare, search, between, connect, not, missing, quantify, Clauses, noClauses, such, sorted, Rse, rse}
+use Rattle.grammar.specs.Bytes.{statisticCode, quantifierCode, keysBytes, headBytes, rseBytes}
+use Rattle.grammar.specs.Environment.{Environment, Context, Scope, streamContext, underStreams, underRseOf}
 use Rattle.meaning.specs.declared.Truth.{Truth}
-use Rattle.meaning.specs.Data.{Result, is, _>>=_, compareOf, searchOf, betweenOf, missingOf, connected, opposite}
-use Rattle.meaning.specs.Inputs.{Fetched, lengthOf}
-use Rattle.meaning.specs.Runs.{dueRun, dueRuns, rseRuns, clausesRuns, LentRun, Around, fetchAround, within, withinEach}
-use Rattle.meaning.specs.Meaning.{size, booleanSize, valueOf, kept, keptOf, answerOf, overRun, truthOf, rseTruth, clausesTruth}
+use Rattle.meaning.specs.declared.Truth.the-variants.{True, False, Missing}
+use Rattle.meaning.specs.Data.{Result, is, refused, stray, _>>=_, Datum, number, arithmeticOf, negateOf, Gathered, whole, nothingYet, withValue, statisticOf, compareOf, searchOf, betweenOf, missingOf, connected, opposite}
+use Rattle.meaning.specs.Inputs.{lengthOf}
+use Rattle.meaning.specs.Runs.{DueRun, dueRun, valueRuns, dueRuns, rseRuns, clausesRuns, LentRun, Around, fetchAround, within, withinEach}
+use Rattle.meaning.specs.Meaning.{fetchedAt, size, booleanSize, kept, keptOf, answerOf, overRun, ifKept, gatheredOf, numbersOver, countOver, valueOf, rseNumber, rseCount, truthOf, rseTruth, clausesTruth}
 use Rattle.meaning.specs.Demand.{Records, noRecord, entry, placedBy, placedFrom, Alike}
 use Rattle.walking.specs.Sees.{Pairs, noPair, pairs}
 use Rattle.walking.proofs.Sites.{All}
@@ -103,54 +107,157 @@ kept-same P f g test h _ _ noPair = refl
 kept-same P f g test h (x ∷ l) (y ∷ l′) (pairs a b) =
     ap₂ (λ m k. m >>= (λ t. k >>= (λ n. is (kept t n)))) (h x y a) (kept-same P f g test h l l′ b)
 
--- ---- booleans
+-- a statistic, whose test and number give the same
+bind-same : {A B : Type 0} (m m′ : Result A) (u v : A → Result B) → m ≡ m′ → ((x : A) → u x ≡ v x) → (m >>= u) ≡ (m′ >>= v)
+bind-same m m′ u v e h = ap (λ l. l >>= u) e ∙ after m′
+  where
+    after : (l : Result _) → (l >>= u) ≡ (l >>= v)
+    after (is x) = h x
+    after (refused r p) = refl
+    after stray = refl
+
+module _ {A B : Type 0} (P : A → A → Type 0) (f g : A → B) (k : Statistic) (p : ℕ) (test : B → Result Truth) (values : B → Result Datum)
+    (tests : (x y : A) → P x y → test (f x) ≡ test (g y)) (numbers : (x y : A) → P x y → values (f x) ≡ values (g y)) where
+  gather-same : (t : Truth) (h : Gathered) (x y : A) → P x y → ifKept t k p values h (f x) ≡ ifKept t k p values h (g y)
+  gather-same True h x y a = ap (λ m. m >>= (λ v. withValue k p h v)) (numbers x y a)
+  gather-same False h x y a = refl
+  gather-same (Missing w) h x y a = refl
+
+  gathered-same : (h : Gathered) (l l′ : List A) → Pairs P l l′ → gatheredOf k p test values h (map f l) ≡ gatheredOf k p test values h (map g l′)
+  unfolding gatheredOf
+  gathered-same h _ _ noPair = refl
+  gathered-same h (x ∷ l) (y ∷ l′) (pairs a b) =
+      bind-same (test (f x)) (test (g y)) _ _ (tests x y a) (λ t.
+      bind-same (ifKept t k p values h (f x)) (ifKept t k p values h (g y)) _ _ (gather-same t h x y a) (λ i. gathered-same i l l′ b))
+
+  numbers-same : (kind : Option Grammar.Kind) (l l′ : List A) → Pairs P l l′ →
+      numbersOver k p kind (some (map f l)) test values ≡ numbersOver k p kind (some (map g l′)) test values
+  numbers-same none l l′ w = refl
+  numbers-same (some Grammar.Text) l l′ w = refl
+  numbers-same (some Grammar.Date) l l′ w = refl
+  numbers-same (some (Grammar.Number scale)) l l′ w = ap (λ m. m >>= (λ h. statisticOf k p h)) (gathered-same (nothingYet scale) l l′ w)
+
+-- ---- values and booleans
 
 module _ (e : Environment) (images : List ℕ) (runs runs′ : List LentRun) where
-  same-fetch : (sc : Scope) (rows rows′ : List ℕ) → SameRecords (sc .contexts) rows rows′ →
-      fetchAround (standing e images runs sc rows) ≡ fetchAround (standing e images runs′ sc rows′)
+  same-fetch : (sc : Scope) (rows rows′ : List ℕ) → SameRecords (sc .contexts) rows rows′ → (r : Reference) →
+      fetchAround (standing e images runs sc rows) r ≡ fetchAround (standing e images runs′ sc rows′) r
   unfolding fetchAround
-  same-fetch sc rows rows′ w = fun-ext (same-references (e .messages) sc images rows rows′ (by-places (sc .contexts) rows rows′ (w .known) (w .alike)))
+  same-fetch sc rows rows′ w r = same-references (e .messages) sc images rows rows′ (by-places (sc .contexts) rows rows′ (w .known) (w .alike)) r
 
-  -- an any or a unique, whose test gives the same with records alike
-  over-same : (ss : List Stream) (q : Quantifier) (sc : Scope) (rows rows′ : List ℕ) (p : ℕ) → SameRecords (sc .contexts) rows rows′ →
-      All (SameRun runs runs′) (dueRun (e .relations) ss p) → (test : Around → Result Truth) →
-      ((more more′ : List ℕ) → SameRecords (underStreams (e .relations) (quantifierCode q) sc ss .contexts) more more′ →
-      test (standing e images runs (underStreams (e .relations) (quantifierCode q) sc ss) more) ≡
-      test (standing e images runs′ (underStreams (e .relations) (quantifierCode q) sc ss) more′)) →
-      overRun q (withinEach (standing e images runs sc rows) p q ss) test ≡ overRun q (withinEach (standing e images runs′ sc rows′) p q ss) test
+  -- what stands around with one record more of one stream
+  abbrev inside : List LentRun → List Stream → ℕ → Scope → List ℕ → List ℕ → Around
+  inside l ss o sc rows x = standing e images l (underStreams (e .relations) o sc ss) (rows ++ x)
+
+  -- what is worked out over each record of a run is the same, if it is the same over records alike
+  each-same : {B : Type 0} (ss : List Stream) (o : ℕ) (sc : Scope) (rows rows′ : List ℕ) (p : ℕ) → SameRecords (sc .contexts) rows rows′ →
+      All (SameRun runs runs′) (dueRun (e .relations) ss p) → (over : Option (List Around) → B) →
+      ((r : Relation) (l l′ : List (List ℕ)) → Pairs (SameRecord r) l l′ →
+      ((x y : List ℕ) → SameRecord r x y → SameRecords (underStreams (e .relations) o sc ss .contexts) (rows ++ x) (rows′ ++ y)) →
+      over (some (map (inside runs ss o sc rows) l)) ≡ over (some (map (inside runs′ ss o sc rows′) l′))) →
+      over (withinEach (standing e images runs sc rows) p o ss) ≡ over (withinEach (standing e images runs′ sc rows′) p o ss)
   unfolding withinEach within underStreams
-  over-same [] q sc rows rows′ p w l test h = refl
-  over-same (s ∷ []) q sc rows rows′ p w l test h =
+  each-same [] o sc rows rows′ p w l over h = refl
+  each-same (s ∷ []) o sc rows rows′ p w l over h =
       let x = l .0 in
-      let c = streamContext (e .relations) (quantifierCode q) s in
+      let c = streamContext (e .relations) o s in
       rw (x .found, x .found′)
-      (ap (λ m. m >>= (λ n. is (answerOf q n)))
-      (kept-same (SameRecord (x .relation)) (within (standing e images runs sc rows) q s) (within (standing e images runs′ sc rows′) q s) test
-      (λ y y′ a. h (rows ++ y) (rows′ ++ y′) (one-more (sc .contexts) rows rows′ c (x .relation) y y′ (x .relation-is) w a))
-      (x .run .records) (x .run′ .records) (x .alike)))
-  over-same (s ∷ t ∷ ss) q sc rows rows′ p w l test h = refl
+      (h (x .relation) (x .run .records) (x .run′ .records) (x .alike)
+      (λ y y′ a. one-more (sc .contexts) rows rows′ c (x .relation) y y′ (x .relation-is) w a))
+  each-same (s ∷ t ∷ ss) o sc rows rows′ p w l over h = refl
+
+  abbrev valued : Scope → List ℕ → ℕ → Value → Result Datum
+  valued sc rows p v = valueOf (e .version) (standing e images runs sc rows) p v
+
+  abbrev valued′ : Scope → List ℕ → ℕ → Value → Result Datum
+  valued′ sc rows p v = valueOf (e .version) (standing e images runs′ sc rows) p v
+
+  abbrev runsIn : Value → ℕ → List DueRun
+  runsIn v p = valueRuns (e .relations) v p
+
+  -- the same in both, in a scope
+  abbrev Same : {B : Type 0} → Scope → (Around → B) → Type 0
+  Same sc f =
+      (more more′ : List ℕ) → SameRecords (sc .contexts) more more′ → f (standing e images runs sc more) ≡ f (standing e images runs′ sc more′)
 
   mutual
-    unfolding truthOf rseTruth clausesTruth dueRuns rseRuns clausesRuns
+    unfolding valueOf rseNumber rseCount truthOf rseTruth clausesTruth valueRuns dueRuns rseRuns clausesRuns
+
+    pub same-value : (v : Value) (sc : Scope) (rows rows′ : List ℕ) (p : ℕ) → SameRecords (sc .contexts) rows rows′ →
+        All (SameRun runs runs′) (runsIn v p) → valued sc rows p v ≡ valued′ sc rows′ p v
+    same-value (literal i) sc rows rows′ p w l = refl
+    same-value (reference r) sc rows rows′ p w l = ap (fetchedAt p) (same-fetch sc rows rows′ w r)
+    same-value (arithmetic o x y) sc rows rows′ p w l =
+        let n = p + 1 + size x in
+        ap₂ (λ m k. m >>= (λ i. k >>= (λ j. arithmeticOf (e .version) o p i j)))
+        (same-value x sc rows rows′ (p + 1) w (all-first _ (runsIn x (p + 1)) (runsIn y n) l))
+        (same-value y sc rows rows′ n w (all-second _ (runsIn x (p + 1)) (runsIn y n) l))
+    same-value (negate x) sc rows rows′ p w l = ap (λ m. m >>= (λ i. negateOf p i)) (same-value x sc rows rows′ (p + 1) w l)
+    same-value (statistic k r v) sc rows rows′ p w l =
+        let n = p + 1 + length (rseBytes r) in
+        let inner = underRseOf (e .relations) (statisticCode k) sc r in
+        same-number r k sc rows rows′ p _ (λ x. valueOf (e .version) x n v) w (all-first _ (rseRuns (e .relations) r p) (runsIn v n) l) (λ more more′ u.
+        same-value v inner more more′ n u (all-second _ (rseRuns (e .relations) r p) (runsIn v n) l))
+    same-value (count r) sc rows rows′ p w l = same-count r sc rows rows′ p w l
+
+    same-number : (r : Rse) (k : Statistic) (sc : Scope) (rows rows′ : List ℕ) (p : ℕ) (kind : Option Grammar.Kind) (values : Around → Result Datum) →
+        SameRecords (sc .contexts) rows rows′ → All (SameRun runs runs′) (rseRuns (e .relations) r p) →
+        Same (underRseOf (e .relations) (statisticCode k) sc r) values →
+        rseNumber (e .version) (standing e images runs sc rows) p k r kind values ≡
+        rseNumber (e .version) (standing e images runs′ sc rows′) p k r kind values
+    same-number (rse ss cs) k sc rows rows′ p kind values w l h =
+        let n = p + 1 + length (headBytes ss) in
+        let o = statisticCode k in
+        let test : Around → Result Truth = λ x. clausesTruth (e .version) x n cs in
+        let inner = underStreams (e .relations) o sc ss in
+        each-same ss o sc rows rows′ p w (all-first _ (dueRun (e .relations) ss p) (clausesRuns (e .relations) cs n) l)
+        (λ run. numbersOver k p kind run test values) (λ r m m′ both one.
+        numbers-same (SameRecord r) (inside runs ss o sc rows) (inside runs′ ss o sc rows′) k p test values (λ x y a.
+        same-clauses cs inner (rows ++ x) (rows′ ++ y) n (one x y a) (all-second _ (dueRun (e .relations) ss p) (clausesRuns (e .relations) cs n) l))
+        (λ x y a. h (rows ++ x) (rows′ ++ y) (one x y a)) kind m m′ both)
+
+    same-count : (r : Rse) (sc : Scope) (rows rows′ : List ℕ) (p : ℕ) → SameRecords (sc .contexts) rows rows′ →
+        All (SameRun runs runs′) (rseRuns (e .relations) r p) →
+        rseCount (e .version) (standing e images runs sc rows) p r ≡ rseCount (e .version) (standing e images runs′ sc rows′) p r
+    same-count (rse ss cs) sc rows rows′ p w l =
+        let n = p + 1 + length (headBytes ss) in
+        let o = blr.count in
+        let test : Around → Result Truth = λ x. clausesTruth (e .version) x n cs in
+        let inner = underStreams (e .relations) o sc ss in
+        each-same ss o sc rows rows′ p w (all-first _ (dueRun (e .relations) ss p) (clausesRuns (e .relations) cs n) l) (λ run. countOver run test) (λ r m m′ both one.
+        ap (λ j. j >>= (λ i. is (number (whole i))))
+        (kept-same (SameRecord r) (inside runs ss o sc rows) (inside runs′ ss o sc rows′) test (λ x y a.
+        same-clauses cs inner (rows ++ x) (rows′ ++ y) n (one x y a) (all-second _ (dueRun (e .relations) ss p) (clausesRuns (e .relations) cs n) l)) m m′ both))
 
     pub same-truth : (b : Boolean) (sc : Scope) (rows rows′ : List ℕ) (p : ℕ) → SameRecords (sc .contexts) rows rows′ →
         All (SameRun runs runs′) (dueRuns (e .relations) b p) →
         truthOf (e .version) (standing e images runs sc rows) p b ≡ truthOf (e .version) (standing e images runs′ sc rows′) p b
     same-truth (compare c x y) sc rows rows′ p w l =
-        ap (λ (g : Reference → Fetched). valueOf (e .version) g (p + 1) x >>= (λ i. valueOf (e .version) g (p + 1 + size x) y >>= (λ j. compareOf c i j))) (same-fetch sc rows rows′ w)
+        let n = p + 1 + size x in
+        ap₂ (λ m k. m >>= (λ i. k >>= (λ j. compareOf c i j)))
+        (same-value x sc rows rows′ (p + 1) w (all-first _ (runsIn x (p + 1)) (runsIn y n) l))
+        (same-value y sc rows rows′ n w (all-second _ (runsIn x (p + 1)) (runsIn y n) l))
     same-truth (search t x y) sc rows rows′ p w l =
-        ap (λ (g : Reference → Fetched). valueOf (e .version) g (p + 1) x >>= (λ i. valueOf (e .version) g (p + 1 + size x) y >>= (λ j. searchOf t i j))) (same-fetch sc rows rows′ w)
+        let n = p + 1 + size x in
+        ap₂ (λ m k. m >>= (λ i. k >>= (λ j. searchOf t i j)))
+        (same-value x sc rows rows′ (p + 1) w (all-first _ (runsIn x (p + 1)) (runsIn y n) l))
+        (same-value y sc rows rows′ n w (all-second _ (runsIn x (p + 1)) (runsIn y n) l))
     same-truth (between x y z) sc rows rows′ p w l =
-        ap (λ (g : Reference → Fetched). valueOf (e .version) g (p + 1) x >>= (λ i. valueOf (e .version) g (p + 1 + size x) y >>= (λ j.
-        valueOf (e .version) g (p + 1 + size x + size y) z >>= (λ k. betweenOf i j k)))) (same-fetch sc rows rows′ w)
+        let n = p + 1 + size x in
+        let m = p + 1 + size x + size y in
+        let first = all-first _ (runsIn x (p + 1) ++ runsIn y n) (runsIn z m) l in
+        bind-same (valued sc rows (p + 1) x) (valued′ sc rows′ (p + 1) x) _ _
+        (same-value x sc rows rows′ (p + 1) w (all-first _ (runsIn x (p + 1)) (runsIn y n) first)) (λ i.
+        ap₂ (λ q k. q >>= (λ j. k >>= (λ h. betweenOf i j h)))
+        (same-value y sc rows rows′ n w (all-second _ (runsIn x (p + 1)) (runsIn y n) first))
+        (same-value z sc rows rows′ m w (all-second _ (runsIn x (p + 1) ++ runsIn y n) (runsIn z m) l)))
     same-truth (connect c a b) sc rows rows′ p w l =
         let n = p + 1 + booleanSize a in
         ap₂ (λ m k. m >>= (λ i. k >>= (λ j. is (connected c i j))))
         (same-truth a sc rows rows′ (p + 1) w (all-first _ (dueRuns (e .relations) a (p + 1)) (dueRuns (e .relations) b n) l))
         (same-truth b sc rows rows′ n w (all-second _ (dueRuns (e .relations) a (p + 1)) (dueRuns (e .relations) b n) l))
     same-truth (not a) sc rows rows′ p w l = ap (λ m. m >>= (λ i. is (opposite i))) (same-truth a sc rows rows′ (p + 1) w l)
-    same-truth (missing x) sc rows rows′ p w l =
-        ap (λ (g : Reference → Fetched). valueOf (e .version) g (p + 1) x >>= (λ i. is (missingOf i))) (same-fetch sc rows rows′ w)
+    same-truth (missing x) sc rows rows′ p w l = ap (λ m. m >>= (λ i. is (missingOf i))) (same-value x sc rows rows′ (p + 1) w l)
     same-truth (quantify q r) sc rows rows′ p w l = same-rse r q sc rows rows′ p w l
 
     same-rse : (r : Rse) (q : Quantifier) (sc : Scope) (rows rows′ : List ℕ) (p : ℕ) → SameRecords (sc .contexts) rows rows′ →
@@ -158,9 +265,13 @@ module _ (e : Environment) (images : List ℕ) (runs runs′ : List LentRun) whe
         rseTruth (e .version) (standing e images runs sc rows) p q r ≡ rseTruth (e .version) (standing e images runs′ sc rows′) p q r
     same-rse (rse ss cs) q sc rows rows′ p w l =
         let n = p + 1 + length (headBytes ss) in
-        over-same ss q sc rows rows′ p w (all-first _ (dueRun (e .relations) ss p) (clausesRuns (e .relations) cs n) l) (λ x. clausesTruth (e .version) x n cs) (λ more more′ u.
-        same-clauses cs (underStreams (e .relations) (quantifierCode q) sc ss) more more′ n u
-        (all-second _ (dueRun (e .relations) ss p) (clausesRuns (e .relations) cs n) l))
+        let o = quantifierCode q in
+        let test : Around → Result Truth = λ x. clausesTruth (e .version) x n cs in
+        let inner = underStreams (e .relations) o sc ss in
+        each-same ss o sc rows rows′ p w (all-first _ (dueRun (e .relations) ss p) (clausesRuns (e .relations) cs n) l) (λ run. overRun q run test) (λ r m m′ both one.
+        ap (λ j. j >>= (λ i. is (answerOf q i)))
+        (kept-same (SameRecord r) (inside runs ss o sc rows) (inside runs′ ss o sc rows′) test (λ x y a.
+        same-clauses cs inner (rows ++ x) (rows′ ++ y) n (one x y a) (all-second _ (dueRun (e .relations) ss p) (clausesRuns (e .relations) cs n) l)) m m′ both))
 
     same-clauses : (cs : Clauses) (sc : Scope) (rows rows′ : List ℕ) (p : ℕ) → SameRecords (sc .contexts) rows rows′ →
         All (SameRun runs runs′) (clausesRuns (e .relations) cs p) →

@@ -1,23 +1,26 @@
--- Each condition of a request stands in its bytes, the rules allow it, it is no deeper than the request, and the contexts in scope there are
--- those whose row's scope holds its place.
-use Prim.Native.Nat.{ℕ, zero, suc, _+_, _<_, _≤_, max}
+-- Each condition and each from-value of a request stands in its bytes, the rules allow it, it is no deeper than the request, and the contexts
+-- in scope there are those whose row's scope holds its place.
+use Prim.Native.Nat.{ℕ, _+_, _<_, _≤_}
 use mathlib.Core.Path.{_≡_, refl, sym, ap, ap₂, _∙_}
 use mathlib.Core.Bool.{Bool, true, false, _&&_}
 use mathlib.Core.List.{List, [], _∷_, _++_, map, append-assoc, append-nil}
+use mathlib.Core.Option.{Option, none, some}
 use native.Mathlib.Omega.{arith}
 use lib.Dec.{leb, ltb}
 use lib.ListN.{length, drop, length-append}
 use borrow.Author.Tests.{lt-ltb, le-leb, lt-leb, le-ltb}
 use Rattle.wire.specs.Codes as blr
 use Rattle.dictionary.specs.Dictionary.{Relation}
-use Rattle.grammar.specs.Tree.{Value, literal, reference, arithmetic, negate, Boolean, compare, search, between, connect, not, missing, quantify, Keys, noKeys, key, Clauses, noClauses, such, sorted, Stream, Heading, loop, modify, handler, receive, send, store, label, Rse, rse, Statement, assignment, begin, erase, for, headed, leave, if, ifElse, select, Statements, none as nothing, _then_, Receives, last, more, Request}
-use Rattle.grammar.specs.Bytes.{quantifierCode, streamBytes, streamsBytes, headBytes, rseBytes, keysBytes, clausesBytes, headingBytes, referenceBytes, valueBytes, booleanBytes, statementBytes, statementsBytes, receivesBytes}
-use Rattle.grammar.specs.Environment.{Environment, Context, Scope, streamContext, modifyContext, underStreams, underRse, underHeading}
-use Rattle.grammar.specs.Sizes.{booleanDepth, clausesDepth, rseDepth, statementDepth, statementsDepth, receivesDepth}
-use Rattle.grammar.specs.Rules.{BooleanAllowed, ClausesAllowed, RseAllowed, StatementAllowed, StatementsAllowed, ReceivesAllowed}
+use Rattle.dictionary.specs.Naming.{named, numbered}
+use Rattle.grammar.specs.Tree.{Reference, field, parameter, parameter2, Value, literal, reference, arithmetic, negate, statistic, count, Boolean, compare, search, between, connect, not, missing, quantify, Keys, noKeys, key, Clauses, noClauses, such, sorted, Stream, Heading, loop, modify, handler, receive, send, store, label, Rse, rse, Statement, assignment, begin, erase, for, headed, leave, if, ifElse, select, Statements, none as nothing, _then_, Receives, last, more, Request}
+use Rattle.grammar.specs.Bytes.{statisticCode, quantifierCode, streamBytes, headBytes, rseBytes, keysBytes, clausesBytes, headingBytes, referenceBytes, valueBytes, booleanBytes, statementBytes, statementsBytes, receivesBytes}
+use Rattle.grammar.specs.Environment.{Environment, Context, Scope, streamContext, underStreams, underRseOf, underRse, underHeading}
+use Rattle.grammar.specs.Sizes.{valueDepth, booleanDepth, clausesDepth, rseDepth, statementDepth, statementsDepth, receivesDepth}
+use Rattle.grammar.specs.Rules.{ValueAllowed, BooleanAllowed, ClausesAllowed, StatementAllowed, StatementsAllowed, ReceivesAllowed}
 use Rattle.grammar.specs.Rows.{size, contextRow, streamRows, valueRows, booleanRows, keysRows, clausesRows, rseRows, headingRows, contextRows, contextsRows, receivesContextRows}
-use Rattle.grammar.specs.Conditions.{Condition, clausesConditions, rseConditions, conditions, statementsConditions, receivesConditions}
-use Rattle.walking.specs.Declared.{Declared, declaration, streamsDeclared, valueDeclared, booleanDeclared, keysDeclared, clausesDeclared, rseDeclared, headingDeclared, declared, declaredAll, receivesDeclared, rowsOf, keptIf, holdsAt, contextsAt}
+use Rattle.grammar.specs.Conditions.{Condition, clausesConditions, rseConditions}
+use Rattle.grammar.specs.Named.{FromValue, Own, own as ownOf, ownBooleans, ownValue, ownsBelow, ownsOf, receivesOwns}
+use Rattle.walking.specs.Declared.{Declared, streamsDeclared, valueDeclared, booleanDeclared, keysDeclared, clausesDeclared, rseDeclared, headingDeclared, declared, declaredAll, receivesDeclared, rowsOf, keptIf, holdsAt, contextsAt}
 use Rattle.walking.proofs.Link.{past}
 
 -- ---- the rows are those of the declarations
@@ -46,6 +49,12 @@ module _ (d : List Relation) where
     value-rows (arithmetic o v w) sc p =
         both-rows _ _ (valueDeclared d sc v (p + 1)) _ (value-rows v sc (p + 1)) (value-rows w sc (p + 1 + length (valueBytes v)))
     value-rows (negate v) sc p = value-rows v sc (p + 1)
+    value-rows (statistic k r v) sc p =
+        let q = p + 1 + length (rseBytes r) in
+        let end = q + length (valueBytes v) in
+        both-rows _ _ (rseDeclared d (statisticCode k) sc r (p + 1) end) _ (rse-rows (statisticCode k) r sc (p + 1) end)
+        (value-rows v (underRseOf d (statisticCode k) sc r) q)
+    value-rows (count r) sc p = rse-rows blr.count r sc (p + 1) (p + 1 + length (rseBytes r))
 
     boolean-rows : (b : Boolean) (sc : Scope) (p : ℕ) → booleanRows d sc b p ≡ rowsOf (booleanDeclared d sc b p)
     boolean-rows (compare c v w) sc p =
@@ -185,37 +194,48 @@ module _ (d : List Relation) where
   mutual
     unfolding valueDeclared valueBytes
 
-    pub value-between : (v : Value) (sc : Scope) (p : ℕ) → Between p (p + length (valueBytes v)) (valueDeclared d sc v p)
+    pub value-between : (v : Value) (sc : Scope) (p : ℕ) → Between (p + 1) (p + length (valueBytes v)) (valueDeclared d sc v p)
     value-between (literal l) sc p = tt
     value-between (reference r) sc p = tt
     value-between (arithmetic o v w) sc p =
         let z = length-append (valueBytes v) (valueBytes w) in
         let q = p + 1 + length (valueBytes v) in
-        both-between (p + 1) q q (q + length (valueBytes w)) p (p + length (valueBytes (arithmetic o v w))) (valueDeclared d sc v (p + 1)) _
+        both-between (p + 1 + 1) q (q + 1) (q + length (valueBytes w)) (p + 1) (p + length (valueBytes (arithmetic o v w))) (valueDeclared d sc v (p + 1)) _
         (omega arith) (omega (arith, z)) (omega arith) (omega (arith, z)) (value-between v sc (p + 1)) (value-between w sc q)
     value-between (negate v) sc p =
-        between-widen (p + 1) (p + 1 + length (valueBytes v)) p (p + length (valueBytes (negate v))) (valueDeclared d sc v (p + 1)) (omega arith)
+        between-widen (p + 1 + 1) (p + 1 + length (valueBytes v)) (p + 1) (p + length (valueBytes (negate v))) (valueDeclared d sc v (p + 1)) (omega arith)
         (omega arith) (value-between v sc (p + 1))
+    value-between (statistic k r v) sc p =
+        let z = length-append (rseBytes r) (valueBytes v) in
+        let q = p + 1 + length (rseBytes r) in
+        let end = q + length (valueBytes v) in
+        both-between (p + 1) end (q + 1) end (p + 1) (p + length (valueBytes (statistic k r v))) (rseDeclared d (statisticCode k) sc r (p + 1) end) _
+        (omega arith) (omega (arith, z)) (omega arith) (omega (arith, z)) (rse-between (statisticCode k) r sc (p + 1) end (omega arith))
+        (value-between v (underRseOf d (statisticCode k) sc r) q)
+    value-between (count r) sc p =
+        let end = p + 1 + length (rseBytes r) in
+        between-widen (p + 1) end (p + 1) (p + length (valueBytes (count r))) (rseDeclared d blr.count sc r (p + 1) end) (omega arith)
+        (omega arith) (rse-between blr.count r sc (p + 1) end (omega arith))
 
     pub boolean-between : (b : Boolean) (sc : Scope) (p : ℕ) → Between (p + 1) (p + length (booleanBytes b)) (booleanDeclared d sc b p)
     boolean-between (compare c v w) sc p =
         let z = length-append (valueBytes v) (valueBytes w) in
         let q = p + 1 + length (valueBytes v) in
-        both-between (p + 1) q q (q + length (valueBytes w)) (p + 1) (p + length (booleanBytes (compare c v w))) (valueDeclared d sc v (p + 1)) _
+        both-between (p + 1 + 1) q (q + 1) (q + length (valueBytes w)) (p + 1) (p + length (booleanBytes (compare c v w))) (valueDeclared d sc v (p + 1)) _
         (omega arith) (omega (arith, z)) (omega arith) (omega (arith, z)) (value-between v sc (p + 1)) (value-between w sc q)
     boolean-between (search t v w) sc p =
         let z = length-append (valueBytes v) (valueBytes w) in
         let q = p + 1 + length (valueBytes v) in
-        both-between (p + 1) q q (q + length (valueBytes w)) (p + 1) (p + length (booleanBytes (search t v w))) (valueDeclared d sc v (p + 1)) _
+        both-between (p + 1 + 1) q (q + 1) (q + length (valueBytes w)) (p + 1) (p + length (booleanBytes (search t v w))) (valueDeclared d sc v (p + 1)) _
         (omega arith) (omega (arith, z)) (omega arith) (omega (arith, z)) (value-between v sc (p + 1)) (value-between w sc q)
     boolean-between (between v w x) sc p =
         let z = length-append (valueBytes v) (valueBytes w) in
         let y = length-append (valueBytes v ++ valueBytes w) (valueBytes x) in
         let q = p + 1 + length (valueBytes v) in
         let r = q + length (valueBytes w) in
-        both-between (p + 1) r r (r + length (valueBytes x)) (p + 1) (p + length (booleanBytes (between v w x)))
+        both-between (p + 1) r (r + 1) (r + length (valueBytes x)) (p + 1) (p + length (booleanBytes (between v w x)))
         (valueDeclared d sc v (p + 1) ++ valueDeclared d sc w q) _ (omega arith) (omega (arith, y, z)) (omega arith) (omega (arith, y, z))
-        (both-between (p + 1) q q r (p + 1) r (valueDeclared d sc v (p + 1)) _ (omega arith) (omega arith) (omega arith) (omega arith)
+        (both-between (p + 1 + 1) q (q + 1) r (p + 1) r (valueDeclared d sc v (p + 1)) _ (omega arith) (omega arith) (omega arith) (omega arith)
         (value-between v sc (p + 1)) (value-between w sc q))
         (value-between x sc r)
     boolean-between (connect c a b) sc p =
@@ -228,7 +248,7 @@ module _ (d : List Relation) where
         between-widen (p + 1 + 1) (p + 1 + length (booleanBytes a)) (p + 1) (p + length (booleanBytes (not a))) (booleanDeclared d sc a (p + 1))
         (omega arith) (omega arith) (boolean-between a sc (p + 1))
     boolean-between (missing v) sc p =
-        between-widen (p + 1) (p + 1 + length (valueBytes v)) (p + 1) (p + length (booleanBytes (missing v))) (valueDeclared d sc v (p + 1))
+        between-widen (p + 1 + 1) (p + 1 + length (valueBytes v)) (p + 1) (p + length (booleanBytes (missing v))) (valueDeclared d sc v (p + 1))
         (omega arith) (omega arith) (value-between v sc (p + 1))
     boolean-between (quantify q r) sc p =
         let end = p + 1 + length (rseBytes r) in
@@ -240,7 +260,7 @@ module _ (d : List Relation) where
     keys-between (key o v ks) sc p =
         let z = length-append (valueBytes v) (keysBytes ks) in
         let q = p + 1 + length (valueBytes v) in
-        both-between (p + 1) q q (q + length (keysBytes ks)) p (p + length (keysBytes (key o v ks))) (valueDeclared d sc v (p + 1)) _
+        both-between (p + 1 + 1) q q (q + length (keysBytes ks)) p (p + length (keysBytes (key o v ks))) (valueDeclared d sc v (p + 1)) _
         (omega arith) (omega (arith, z)) (omega arith) (omega (arith, z)) (value-between v sc (p + 1)) (keys-between ks sc q)
 
     pub clauses-between : (cs : Clauses) (sc : Scope) (p : ℕ) → Between p (p + length (clausesBytes cs)) (clausesDeclared d sc cs p)
@@ -289,7 +309,7 @@ module _ (d : List Relation) where
 
     pub declared-between : (t : Statement) (sc : Scope) (p : ℕ) → Between (p + 1) (p + size t) (declared d sc t p)
     declared-between (assignment v t) sc p =
-        between-widen (p + 1) (p + 1 + length (valueBytes v)) (p + 1) (p + size (assignment v t)) (valueDeclared d sc v (p + 1)) (omega arith)
+        between-widen (p + 1 + 1) (p + 1 + length (valueBytes v)) (p + 1) (p + size (assignment v t)) (valueDeclared d sc v (p + 1)) (omega arith)
         (omega (arith, length-append (valueBytes v) (referenceBytes t))) (value-between v sc (p + 1))
     declared-between (begin ss) sc p =
         between-widen (p + 1) (p + 1 + length (statementsBytes ss)) (p + 1) (p + size (begin ss)) (declaredAll d sc ss (p + 1)) (omega arith)
@@ -350,7 +370,7 @@ module _ (d : List Relation) where
         (between-widen (p + 2 + size s) (p + 2 + size s + length (receivesBytes rs)) p (p + length (receivesBytes (more m s rs)))
         (receivesDeclared d sc rs (p + 2 + size s)) (omega arith) (omega (arith, z)) (receives-between rs sc (p + 2 + size s)))
 
--- ---- conditions
+-- ---- conditions and from-values
 
 abbrev pub All : {A : Type 0} → (A → Type 0) → List A → Type 0
 All P [] = Unit {0}
@@ -363,6 +383,22 @@ all-append P (x ∷ l) m h k = (h .0, all-append P l m (h .1) k)
 all-map : {A : Type 0} (P Q : A → Type 0) (l : List A) → ((x : A) → P x → Q x) → All P l → All Q l
 all-map P Q [] f h = tt
 all-map P Q (x ∷ l) f h = (f x (h .0), all-map P Q l f (h .1))
+
+-- of what there is, if there is something
+abbrev pub Of : {A : Type 0} → (A → Type 0) → Option A → Type 0
+Of P none = Unit {0}
+Of P (some x) = P x
+
+of-map : {A : Type 0} (P Q : A → Type 0) (o : Option A) → ((x : A) → P x → Q x) → Of P o → Of Q o
+of-map P Q none f h = tt
+of-map P Q (some x) f h = f x h
+
+reference-size : (r : Reference) → 1 ≤ length (referenceBytes r)
+unfolding referenceBytes
+reference-size (field c (named n)) = omega arith
+reference-size (field c (numbered i)) = omega arith
+reference-size (parameter m i) = omega arith
+reference-size (parameter2 m i flag) = omega arith
 
 boolean-size : (b : Boolean) → 1 ≤ length (booleanBytes b)
 unfolding booleanBytes
@@ -378,30 +414,60 @@ module _ (s : List ℕ) (e : Environment) where
   abbrev d : List Relation
   d = e .relations
 
-  -- a condition from lo on, below hi, at most n deep, among declarations inside a scope
-  pub record Holds (lo hi n : ℕ) (outer : List Context) (own : List Declared) (x : Condition) : Type 0 where
-    pub after : lo ≤ x .place
-    pub before : x .place < hi
-    pub shallow : booleanDepth (x .boolean) ≤ n
+  -- what has a place, a depth, bytes, a scope and a rule: from lo on, below hi, at most n deep, among declarations inside a scope
+  pub record Stands (lo hi n : ℕ) (outer : List Context) (own : List Declared) (place depth : ℕ) (bytes : List ℕ) (sc : Scope) (rule : Type 0) : Type 0 where
+    pub after : lo ≤ place
+    pub before : place < hi
+    pub shallow : depth ≤ n
     pub rest : List ℕ
-    pub stands : drop (x .place) s ≡ booleanBytes (x .boolean) ++ rest
-    pub allowed : BooleanAllowed e (x .scope) (x .boolean)
-    pub scoped : x .scope .contexts ≡ outer ++ contextsAt (x .place) own
+    pub stands : drop place s ≡ bytes ++ rest
+    pub allowed : rule
+    pub scoped : sc .contexts ≡ outer ++ contextsAt place own
 
-  widen : (lo hi n lo′ hi′ n′ : ℕ) (outer outer′ : List Context) (own own′ : List Declared) → lo′ ≤ lo → hi ≤ hi′ → n ≤ n′ →
-      ((q : ℕ) → lo ≤ q → q < hi → outer ++ contextsAt q own ≡ outer′ ++ contextsAt q own′) → (x : Condition) → Holds lo hi n outer own x →
-      Holds lo′ hi′ n′ outer′ own′ x
-  widen lo hi n lo′ hi′ n′ outer outer′ own own′ h k j f x w =
-      let a = w .after in let b = w .before in let c = w .shallow in
-      record {
-        after = omega (arith, a);
-        before = omega (arith, b);
-        shallow = omega (arith, c);
-        rest = w .rest;
-        stands = w .stands;
-        allowed = w .allowed;
-        scoped = w .scoped ∙ f (x .place) (w .after) (w .before);
-      }
+  -- a condition, and a from-value
+  abbrev pub Holds : ℕ → ℕ → ℕ → List Context → List Declared → Condition → Type 0
+  Holds lo hi n outer own x =
+      Stands lo hi n outer own (x .place) (booleanDepth (x .boolean)) (booleanBytes (x .boolean)) (x .scope) (BooleanAllowed e (x .scope) (x .boolean))
+
+  abbrev pub HoldsValue : ℕ → ℕ → ℕ → List Context → List Declared → FromValue → Type 0
+  HoldsValue lo hi n outer own x =
+      Stands lo hi n outer own (x .place) (valueDepth (x .value)) (valueBytes (x .value)) (x .scope) (ValueAllowed e (x .scope) (x .value))
+
+  -- those of a statement itself
+  abbrev pub HoldsOwn : ℕ → ℕ → ℕ → List Context → List Declared → Own → Type 0
+  HoldsOwn lo hi n outer own o = All (Holds lo hi n outer own) (o .conditions) × Of (HoldsValue lo hi n outer own) (o .from)
+
+  -- in a wider range, and in a scope that is the same there
+  module _ (lo hi lo′ hi′ n : ℕ) (outer outer′ : List Context) (own own′ : List Declared) (h : lo′ ≤ lo) (k : hi ≤ hi′)
+      (f : (q : ℕ) → lo ≤ q → q < hi → outer ++ contextsAt q own ≡ outer′ ++ contextsAt q own′) where
+    widen : (place depth : ℕ) (bytes : List ℕ) (sc : Scope) (rule : Type 0) → Stands lo hi n outer own place depth bytes sc rule →
+        Stands lo′ hi′ n outer′ own′ place depth bytes sc rule
+    widen place depth bytes sc rule w =
+        let a = w .after in let b = w .before in
+        record {
+          after = omega (arith, a);
+          before = omega (arith, b);
+          shallow = w .shallow;
+          rest = w .rest;
+          stands = w .stands;
+          allowed = w .allowed;
+          scoped = w .scoped ∙ f place (w .after) (w .before);
+        }
+
+    widen-conditions : (xs : List Condition) → All (Holds lo hi n outer own) xs → All (Holds lo′ hi′ n outer′ own′) xs
+    widen-conditions xs w =
+        all-map (Holds lo hi n outer own) (Holds lo′ hi′ n outer′ own′) xs
+        (λ x v. widen (x .place) (booleanDepth (x .boolean)) (booleanBytes (x .boolean)) (x .scope) (BooleanAllowed e (x .scope) (x .boolean)) v) w
+
+    widen-own : (o : Own) → HoldsOwn lo hi n outer own o → HoldsOwn lo′ hi′ n outer′ own′ o
+    widen-own o w = (
+      widen-conditions (o .conditions) (w .0),
+      of-map (HoldsValue lo hi n outer own) (HoldsValue lo′ hi′ n outer′ own′) (o .from)
+          (λ x v. widen (x .place) (valueDepth (x .value)) (valueBytes (x .value)) (x .scope) (ValueAllowed e (x .scope) (x .value)) v) (w .1),
+    )
+
+    widen-all : (os : List Own) → All (HoldsOwn lo hi n outer own) os → All (HoldsOwn lo′ hi′ n outer′ own′) os
+    widen-all os w = all-map (HoldsOwn lo hi n outer own) (HoldsOwn lo′ hi′ n outer′ own′) os widen-own w
 
   -- the first of two parts in a row, and the second
   first-part : (q lo hi : ℕ) (outer : List Context) (a b : List Declared) → Between lo hi b → q < lo →
@@ -443,9 +509,8 @@ module _ (s : List ℕ) (e : Environment) where
           allowed = a .0;
           scoped = before-parts (p + 1) (p + 1 + 1) q q (q + length (clausesBytes cs)) (sc .contexts) one two w v (omega arith) (omega (arith, y));
         },
-        all-map (Holds (q + 1) (q + length (clausesBytes cs)) n (sc .contexts) two) _ (clausesConditions sc cs q)
-            (widen (q + 1) (q + length (clausesBytes cs)) n (p + 1) (p + length (clausesBytes (such x cs))) n (sc .contexts) (sc .contexts) two (one ++ two)
-            (omega arith) (omega (arith, z)) (omega arith) (λ o i j. second-part o (p + 1 + 1) q (sc .contexts) one two w (omega (arith, i))))
+        widen-conditions (q + 1) (q + length (clausesBytes cs)) (p + 1) (p + length (clausesBytes (such x cs))) n (sc .contexts) (sc .contexts) two (one ++ two)
+            (omega arith) (omega (arith, z)) (λ o i j. second-part o (p + 1 + 1) q (sc .contexts) one two w (omega (arith, i))) (clausesConditions sc cs q)
             (clauses-sites cs sc q n post (omega arith) (a .1) (past s (p + 1) (booleanBytes x) _ f1)),
       )
   clauses-sites (sorted ks cs) sc p n post h a f =
@@ -454,10 +519,9 @@ module _ (s : List ℕ) (e : Environment) where
       let q = p + 2 + length (keysBytes ks) in
       let one = keysDeclared d sc ks (p + 2) in
       let two = clausesDeclared d sc cs q in
-      all-map (Holds (q + 1) (q + length (clausesBytes cs)) n (sc .contexts) two) _ (clausesConditions sc cs q)
-      (widen (q + 1) (q + length (clausesBytes cs)) n (p + 1) (p + length (clausesBytes (sorted ks cs))) n (sc .contexts) (sc .contexts) two (one ++ two)
-      (omega arith) (omega (arith, z)) (omega arith)
-      (λ o i j. second-part o (p + 2) q (sc .contexts) one two (keys-between d ks sc (p + 2)) (omega (arith, i))))
+      widen-conditions (q + 1) (q + length (clausesBytes cs)) (p + 1) (p + length (clausesBytes (sorted ks cs))) n (sc .contexts) (sc .contexts) two (one ++ two)
+      (omega arith) (omega (arith, z)) (λ o i j. second-part o (p + 2) q (sc .contexts) one two (keys-between d ks sc (p + 2)) (omega (arith, i)))
+      (clausesConditions sc cs q)
       (clauses-sites cs sc q n post (omega arith) (a .2) (past s (p + 2) (keysBytes ks) _ f1))
 
   heading-hold : (sc : Scope) (h : Heading) (p end q : ℕ) → p + length (headingBytes h) ≤ q → q < end →
@@ -478,19 +542,40 @@ module _ (s : List ℕ) (e : Environment) where
   under q outer inner a b h =
       ap (λ z. z ++ contextsAt q b) h ∙ append-assoc outer (contextsAt q a) (contextsAt q b) ∙ ap (λ z. outer ++ z) (sym (contexts-append q a b))
 
+  -- a statement's own, and those of the statements inside it
+  abbrev ownsFrom : Scope → Statement → ℕ → List Own
+  ownsFrom sc t p = ownOf d sc t p ∷ ownsBelow d sc t p
+
   mutual
-    unfolding statementDepth statementBytes conditions declared rseDepth rseBytes rseConditions rseDeclared underRse underStreams
+    unfolding statementDepth statementBytes ownBooleans ownValue ownsBelow declared rseDepth rseBytes rseConditions rseDeclared underRse underStreams
 
     pub sites : (t : Statement) (sc : Scope) (p n : ℕ) (post : List ℕ) → statementDepth t ≤ n → StatementAllowed e sc t →
-        drop p s ≡ statementBytes t ++ post → All (Holds (p + 1) (p + size t) n (sc .contexts) (declared d sc t p)) (conditions d sc t p)
-    sites (assignment v t) sc p n post h a f = tt
+        drop p s ≡ statementBytes t ++ post → All (HoldsOwn (p + 1) (p + size t) n (sc .contexts) (declared d sc t p)) (ownsFrom sc t p)
+    sites (assignment v t) sc p n post h a f =
+        let z = length-append (valueBytes v) (referenceBytes t) in
+        let y = reference-size t in
+        let own = valueDeclared d sc v (p + 1) in
+        let from : HoldsValue (p + 1) (p + size (assignment v t)) n (sc .contexts) own (record { place = p + 1; value = v; scope = sc }) =
+        record {
+          after = omega arith;
+          before = omega (arith, y, z);
+          shallow = omega arith;
+          rest = referenceBytes t ++ post;
+          stands = past s p (1 ∷ []) _ f ∙ append-assoc (valueBytes v) (referenceBytes t) post;
+          allowed = a .0;
+          scoped = sym (append-nil (sc .contexts)) ∙ ap (λ z. sc .contexts ++ z)
+              (sym (none-before (p + 1) (p + 1 + 1) (p + 1 + length (valueBytes v)) own (value-between d v sc (p + 1)) (omega arith)));
+        } in
+        ((tt, from), tt)
     sites (begin ss) sc p n post h a f =
         let z = length-append (statementsBytes ss) (255 ∷ []) in
-        all-map (Holds (p + 1) (p + 1 + length (statementsBytes ss)) n (sc .contexts) (declaredAll d sc ss (p + 1))) _ (statementsConditions d sc ss (p + 1))
-        (widen (p + 1) (p + 1 + length (statementsBytes ss)) n (p + 1) (p + size (begin ss)) n (sc .contexts) (sc .contexts)
-        (declaredAll d sc ss (p + 1)) (declaredAll d sc ss (p + 1)) (omega arith) (omega (arith, z)) (omega arith) (λ q i j. refl))
-        (all-sites ss sc (p + 1) n _ (omega arith) a (past s p (2 ∷ []) _ f ∙ append-assoc (statementsBytes ss) (255 ∷ []) post))
-    sites (erase c) sc p n post h a f = tt
+        let own = declaredAll d sc ss (p + 1) in (
+          (tt, tt),
+          widen-all (p + 1) (p + 1 + length (statementsBytes ss)) (p + 1) (p + size (begin ss)) n (sc .contexts) (sc .contexts) own own (omega arith)
+              (omega (arith, z)) (λ q i j. refl) (ownsOf d sc ss (p + 1))
+              (all-sites ss sc (p + 1) n _ (omega arith) a (past s p (2 ∷ []) _ f ∙ append-assoc (statementsBytes ss) (255 ∷ []) post)),
+        )
+    sites (erase c) sc p n post h a f = ((tt, tt), tt)
     sites (for (rse ss cs) t) sc p n post h a f =
         let r = rse ss cs in
         let end = p + size (for r t) in
@@ -513,29 +598,31 @@ module _ (s : List ℕ) (e : Environment) where
         λ q i j. under q (sc .contexts) ((underRse d sc r) .contexts) (streams ++ below) inner
         (ap (λ z. sc .contexts ++ z) (sym (streams-hold d blr.for q m end (omega (arith, i, y)) (omega (arith, j, z)) ss (p + 1 + 2)))
         ∙ ap (λ z. sc .contexts ++ z) (sym (contexts-append q streams below ∙ ap (λ z. contextsAt q streams ++ z)
-        (none-after q m (m + length (clausesBytes cs)) below (clauses-between d cs (underStreams d blr.for sc ss) m) (omega (arith, i, y))) ∙ append-nil _))) in
-        all-append _ (rseConditions d sc r (p + 1)) _
-        (all-map (Holds (m + 1) (m + length (clausesBytes cs)) n ((underStreams d blr.for sc ss) .contexts) below) _ (rseConditions d sc r (p + 1))
-        (widen (m + 1) (m + length (clausesBytes cs)) n (p + 1) end n ((underStreams d blr.for sc ss) .contexts) (sc .contexts) below (streams ++ below ++ inner)
-        (omega arith) (omega (arith, y, z)) (omega arith) in-clauses)
-        (clauses-sites cs (underStreams d blr.for sc ss) m n _ (omega arith) (a .0 .3) (past s (p + 1) (headBytes ss) _ f1)))
-        (all-map (Holds (o + 1) (o + size t) n ((underRse d sc r) .contexts) inner) _ (conditions d (underRse d sc r) t o)
-        (widen (o + 1) (o + size t) n (p + 1) end n ((underRse d sc r) .contexts) (sc .contexts) inner (streams ++ below ++ inner)
-        (omega arith) (omega (arith, z)) (omega arith) in-body)
-        (sites t (underRse d sc r) o n post (omega arith) (a .1) (past s (p + 1) (rseBytes r) _ f0)))
+        (none-after q m (m + length (clausesBytes cs)) below (clauses-between d cs (underStreams d blr.for sc ss) m) (omega (arith, i, y))) ∙ append-nil _))) in (
+          (
+            widen-conditions (m + 1) (m + length (clausesBytes cs)) (p + 1) end n ((underStreams d blr.for sc ss) .contexts) (sc .contexts) below
+                (streams ++ below ++ inner) (omega arith) (omega (arith, y, z)) in-clauses (rseConditions d sc r (p + 1))
+                (clauses-sites cs (underStreams d blr.for sc ss) m n _ (omega arith) (a .0 .3) (past s (p + 1) (headBytes ss) _ f1)),
+            tt,
+          ),
+          widen-all (o + 1) (o + size t) (p + 1) end n ((underRse d sc r) .contexts) (sc .contexts) inner (streams ++ below ++ inner)
+              (omega arith) (omega (arith, z)) in-body (ownsFrom (underRse d sc r) t o)
+              (sites t (underRse d sc r) o n post (omega arith) (a .1) (past s (p + 1) (rseBytes r) _ f0)),
+        )
     sites (headed x t) sc p n post h a f =
         let end = p + size (headed x t) in
         let z = length-append (headingBytes x) (statementBytes t) in
         let o = p + length (headingBytes x) in
         let inner = declared d (underHeading d sc x) t o in
         let own = headingDeclared d sc x p end in
-        let f1 : drop p s ≡ headingBytes x ++ (statementBytes t ++ post) = f ∙ append-assoc (headingBytes x) (statementBytes t) post in
-        all-map (Holds (o + 1) (o + size t) n ((underHeading d sc x) .contexts) inner) _ (conditions d (underHeading d sc x) t o)
-        (widen (o + 1) (o + size t) n (p + 1) end n ((underHeading d sc x) .contexts) (sc .contexts) inner (own ++ inner)
-        (omega arith) (omega (arith, z)) (omega arith)
-        (λ q i j. under q (sc .contexts) ((underHeading d sc x) .contexts) own inner (heading-hold sc x p end q (omega (arith, i)) (omega (arith, j, z)))))
-        (sites t (underHeading d sc x) o n post (omega arith) (a .1) (past s p (headingBytes x) _ f1))
-    sites (leave m) sc p n post h a f = tt
+        let f1 : drop p s ≡ headingBytes x ++ (statementBytes t ++ post) = f ∙ append-assoc (headingBytes x) (statementBytes t) post in (
+          (tt, tt),
+          widen-all (o + 1) (o + size t) (p + 1) end n ((underHeading d sc x) .contexts) (sc .contexts) inner (own ++ inner) (omega arith) (omega (arith, z))
+              (λ q i j. under q (sc .contexts) ((underHeading d sc x) .contexts) own inner (heading-hold sc x p end q (omega (arith, i)) (omega (arith, j, z))))
+              (ownsFrom (underHeading d sc x) t o)
+              (sites t (underHeading d sc x) o n post (omega arith) (a .1) (past s p (headingBytes x) _ f1)),
+        )
+    sites (leave m) sc p n post h a f = ((tt, tt), tt)
     sites (if b t) sc p n post h a f =
         let y = boolean-size b in
         let o = p + 1 + length (booleanBytes b) in
@@ -545,25 +632,27 @@ module _ (s : List ℕ) (e : Environment) where
         let z = length-append (booleanBytes b ++ statementBytes t) (255 ∷ []) in
         let x = length-append (booleanBytes b) (statementBytes t) in
         let f1 : drop (p + 1) s ≡ booleanBytes b ++ (statementBytes t ++ (255 ∷ post)) =
-        past s p (8 ∷ []) _ f ∙ append-assoc (booleanBytes b ++ statementBytes t) (255 ∷ []) post ∙ append-assoc (booleanBytes b) (statementBytes t) (255 ∷ post) in (
-          record {
-            after = omega arith;
-            before = omega (arith, x, y, z);
-            shallow = omega arith;
-            rest = statementBytes t ++ (255 ∷ post);
-            stands = f1;
-            allowed = a .0;
-            scoped =
-                before-parts (p + 1) (p + 1 + 1) o (o + 1) (o + size t) (sc .contexts) below own u (declared-between d t sc o) (omega arith)
-                (omega (arith, y));
-          },
-          all-map (Holds (o + 1) (o + size t) n (sc .contexts) own) _ (conditions d sc t o)
-              (widen (o + 1) (o + size t) n (p + 1) (p + size (if b t)) n (sc .contexts) (sc .contexts) own (below ++ own) (omega arith) (omega (arith, x, z)) (omega arith)
-              (λ q i j. second-part q (p + 1 + 1) o (sc .contexts) below own u (omega (arith, i))))
+        past s p (8 ∷ []) _ f ∙ append-assoc (booleanBytes b ++ statementBytes t) (255 ∷ []) post ∙ append-assoc (booleanBytes b) (statementBytes t) (255 ∷ post) in
+        let held : Holds (p + 1) (p + size (if b t)) n (sc .contexts) (below ++ own) (record { place = p + 1; boolean = b; scope = sc }) =
+        record {
+          after = omega arith;
+          before = omega (arith, x, y, z);
+          shallow = omega arith;
+          rest = statementBytes t ++ (255 ∷ post);
+          stands = f1;
+          allowed = a .0;
+          scoped =
+              before-parts (p + 1) (p + 1 + 1) o (o + 1) (o + size t) (sc .contexts) below own u (declared-between d t sc o) (omega arith)
+              (omega (arith, y));
+        } in (
+          ((held, tt), tt),
+          widen-all (o + 1) (o + size t) (p + 1) (p + size (if b t)) n (sc .contexts) (sc .contexts) own (below ++ own) (omega arith) (omega (arith, x, z))
+              (λ q i j. second-part q (p + 1 + 1) o (sc .contexts) below own u (omega (arith, i))) (ownsFrom sc t o)
               (sites t sc o n (255 ∷ post) (omega arith) (a .1) (past s (p + 1) (booleanBytes b) _ f1)),
         )
     sites (ifElse b t u) sc p n post h a f =
         let y = boolean-size b in
+        let end = p + size (ifElse b t u) in
         let o = p + 1 + length (booleanBytes b) in
         let below = booleanDeclared d sc b (p + 1) in
         let one = declared d sc t o in
@@ -575,41 +664,43 @@ module _ (s : List ℕ) (e : Environment) where
         past s p (8 ∷ []) _ f ∙ append-assoc (booleanBytes b ++ statementBytes t) (statementBytes u) post ∙ append-assoc (booleanBytes b) (statementBytes t) (statementBytes u ++ post) in
         let f2 = past s (p + 1) (booleanBytes b) _ f1 in
         let w : Between (o + 1) (o + size t) one = declared-between d t sc o in
-        let v : Between (o + size t + 1) (o + size t + size u) two = declared-between d u sc (o + size t) in (
-          record {
-            after = omega arith;
-            before = omega (arith, x, y, z);
-            shallow = omega arith;
-            rest = statementBytes t ++ (statementBytes u ++ post);
-            stands = f1;
-            allowed = a .0;
-            scoped =
-                before-parts (p + 1) (p + 1 + 1) o (o + 1) (o + size t) (sc .contexts) below one k w (omega arith) (omega (arith, y))
-                ∙ first-part (p + 1) (o + size t + 1) (o + size t + size u) (sc .contexts) (below ++ one) two v (omega (arith, y));
-          },
-          all-append _ (conditions d sc t o) _
-              (all-map (Holds (o + 1) (o + size t) n (sc .contexts) one) _ (conditions d sc t o)
-              (widen (o + 1) (o + size t) n (p + 1) (p + size (ifElse b t u)) n (sc .contexts) (sc .contexts) one (below ++ one ++ two) (omega arith) (omega (arith, x, z)) (omega arith)
+        let v : Between (o + size t + 1) (o + size t + size u) two = declared-between d u sc (o + size t) in
+        let held : Holds (p + 1) end n (sc .contexts) (below ++ one ++ two) (record { place = p + 1; boolean = b; scope = sc }) =
+        record {
+          after = omega arith;
+          before = omega (arith, x, y, z);
+          shallow = omega arith;
+          rest = statementBytes t ++ (statementBytes u ++ post);
+          stands = f1;
+          allowed = a .0;
+          scoped =
+              before-parts (p + 1) (p + 1 + 1) o (o + 1) (o + size t) (sc .contexts) below one k w (omega arith) (omega (arith, y))
+              ∙ first-part (p + 1) (o + size t + 1) (o + size t + size u) (sc .contexts) (below ++ one) two v (omega (arith, y));
+        } in (
+          ((held, tt), tt),
+          all-append _ (ownsFrom sc t o) _
+              (widen-all (o + 1) (o + size t) (p + 1) end n (sc .contexts) (sc .contexts) one (below ++ one ++ two) (omega arith) (omega (arith, x, z))
               (λ q i j. second-part q (p + 1 + 1) o (sc .contexts) below one k (omega (arith, i))
-              ∙ first-part q (o + size t + 1) (o + size t + size u) (sc .contexts) (below ++ one) two v (omega (arith, j))))
+              ∙ first-part q (o + size t + 1) (o + size t + size u) (sc .contexts) (below ++ one) two v (omega (arith, j))) (ownsFrom sc t o)
               (sites t sc o n _ (omega arith) (a .1) f2))
-              (all-map (Holds (o + size t + 1) (o + size t + size u) n (sc .contexts) two) _ (conditions d sc u (o + size t))
-              (widen (o + size t + 1) (o + size t + size u) n (p + 1) (p + size (ifElse b t u)) n (sc .contexts) (sc .contexts) two (below ++ one ++ two) (omega arith) (omega (arith, x, z)) (omega arith)
+              (widen-all (o + size t + 1) (o + size t + size u) (p + 1) end n (sc .contexts) (sc .contexts) two (below ++ one ++ two) (omega arith) (omega (arith, x, z))
               (λ q i j. second-part q (p + 1 + 1) (o + size t) (sc .contexts) (below ++ one) two
               (both-between d (p + 1 + 1) o (o + 1) (o + size t) (p + 1 + 1) (o + size t) below one (omega arith) (omega arith) (omega (arith, y)) (omega arith) k w)
-              (omega (arith, i))))
+              (omega (arith, i))) (ownsFrom sc u (o + size t))
               (sites u sc (o + size t) n post (omega arith) (a .2) (past s o (statementBytes t) _ f2))),
         )
     sites (select rs) sc p n post h a f =
         let z = length-append (receivesBytes rs) (255 ∷ []) in
-        all-map (Holds (p + 1) (p + 1 + length (receivesBytes rs)) n (sc .contexts) (receivesDeclared d sc rs (p + 1))) _ (receivesConditions d sc rs (p + 1))
-        (widen (p + 1) (p + 1 + length (receivesBytes rs)) n (p + 1) (p + size (select rs)) n (sc .contexts) (sc .contexts)
-        (receivesDeclared d sc rs (p + 1)) (receivesDeclared d sc rs (p + 1)) (omega arith) (omega (arith, z)) (omega arith) (λ q i j. refl))
-        (receives-sites rs sc (p + 1) n _ (omega arith) (a .1) (past s p (13 ∷ []) _ f ∙ append-assoc (receivesBytes rs) (255 ∷ []) post))
+        let own = receivesDeclared d sc rs (p + 1) in (
+          (tt, tt),
+          widen-all (p + 1) (p + 1 + length (receivesBytes rs)) (p + 1) (p + size (select rs)) n (sc .contexts) (sc .contexts) own own (omega arith)
+              (omega (arith, z)) (λ q i j. refl) (receivesOwns d sc rs (p + 1))
+              (receives-sites rs sc (p + 1) n _ (omega arith) (a .1) (past s p (13 ∷ []) _ f ∙ append-assoc (receivesBytes rs) (255 ∷ []) post)),
+        )
 
     pub all-sites : (ts : Statements) (sc : Scope) (p n : ℕ) (post : List ℕ) → statementsDepth ts ≤ n → StatementsAllowed e sc ts →
         drop p s ≡ statementsBytes ts ++ post →
-        All (Holds p (p + length (statementsBytes ts)) n (sc .contexts) (declaredAll d sc ts p)) (statementsConditions d sc ts p)
+        All (HoldsOwn p (p + length (statementsBytes ts)) n (sc .contexts) (declaredAll d sc ts p)) (ownsOf d sc ts p)
     all-sites nothing sc p n post h a f = tt
     all-sites (t then ts) sc p n post h a f =
         let end = p + length (statementsBytes (t then ts)) in
@@ -619,24 +710,24 @@ module _ (s : List ℕ) (e : Environment) where
         let w : Between (p + 1) (p + size t) one = declared-between d t sc p in
         let v : Between (p + size t) (p + size t + length (statementsBytes ts)) two = all-between d ts sc (p + size t) in
         let f1 : drop p s ≡ statementBytes t ++ (statementsBytes ts ++ post) = f ∙ append-assoc (statementBytes t) (statementsBytes ts) post in
-        all-append _ (conditions d sc t p) _
-        (all-map (Holds (p + 1) (p + size t) n (sc .contexts) one) _ (conditions d sc t p)
-        (widen (p + 1) (p + size t) n p end n (sc .contexts) (sc .contexts) one (one ++ two) (omega arith) (omega (arith, z)) (omega arith)
-        (λ q i j. first-part q (p + size t) (p + size t + length (statementsBytes ts)) (sc .contexts) one two v j))
+        all-append _ (ownsFrom sc t p) _
+        (widen-all (p + 1) (p + size t) p end n (sc .contexts) (sc .contexts) one (one ++ two) (omega arith) (omega (arith, z))
+        (λ q i j. first-part q (p + size t) (p + size t + length (statementsBytes ts)) (sc .contexts) one two v j) (ownsFrom sc t p)
         (sites t sc p n _ (omega arith) (a .0) f1))
-        (all-map (Holds (p + size t) (p + size t + length (statementsBytes ts)) n (sc .contexts) two) _ (statementsConditions d sc ts (p + size t))
-        (widen (p + size t) (p + size t + length (statementsBytes ts)) n p end n (sc .contexts) (sc .contexts) two (one ++ two) (omega arith) (omega (arith, z)) (omega arith)
-        (λ q i j. second-part q (p + 1) (p + size t) (sc .contexts) one two w i))
+        (widen-all (p + size t) (p + size t + length (statementsBytes ts)) p end n (sc .contexts) (sc .contexts) two (one ++ two) (omega arith) (omega (arith, z))
+        (λ q i j. second-part q (p + 1) (p + size t) (sc .contexts) one two w i) (ownsOf d sc ts (p + size t))
         (all-sites ts sc (p + size t) n post (omega arith) (a .1) (past s p (statementBytes t) _ f1)))
 
     receives-sites : (rs : Receives) (sc : Scope) (p n : ℕ) (post : List ℕ) → receivesDepth rs ≤ n → ReceivesAllowed e sc rs →
         drop p s ≡ receivesBytes rs ++ post →
-        All (Holds p (p + length (receivesBytes rs)) n (sc .contexts) (receivesDeclared d sc rs p)) (receivesConditions d sc rs p)
+        All (HoldsOwn p (p + length (receivesBytes rs)) n (sc .contexts) (receivesDeclared d sc rs p)) (receivesOwns d sc rs p)
     receives-sites (last m t) sc p n post h a f =
-        all-map (Holds (p + 2 + 1) (p + 2 + size t) n (sc .contexts) (declared d sc t (p + 2))) _ (conditions d sc t (p + 2))
-        (widen (p + 2 + 1) (p + 2 + size t) n p (p + length (receivesBytes (last m t))) n (sc .contexts) (sc .contexts)
-        (declared d sc t (p + 2)) (declared d sc t (p + 2)) (omega arith) (omega arith) (omega arith) (λ q i j. refl))
-        (sites t sc (p + 2) n post (omega arith) (a .1) (past s p (12 ∷ m ∷ []) _ f))
+        let own = declared d sc t (p + 2) in (
+          (tt, tt),
+          widen-all (p + 2 + 1) (p + 2 + size t) p (p + length (receivesBytes (last m t))) n (sc .contexts) (sc .contexts) own own (omega arith) (omega arith)
+              (λ q i j. refl) (ownsFrom sc t (p + 2))
+              (sites t sc (p + 2) n post (omega arith) (a .1) (past s p (12 ∷ m ∷ []) _ f)),
+        )
     receives-sites (more m t rs) sc p n post h a f =
         let end = p + length (receivesBytes (more m t rs)) in
         let o = p + 2 in
@@ -645,13 +736,13 @@ module _ (s : List ℕ) (e : Environment) where
         let z = length-append (statementBytes t) (receivesBytes rs) in
         let w : Between (o + 1) (o + size t) one = declared-between d t sc o in
         let v : Between (o + size t) (o + size t + length (receivesBytes rs)) two = receives-between d rs sc (o + size t) in
-        let f1 : drop o s ≡ statementBytes t ++ (receivesBytes rs ++ post) = past s p (12 ∷ m ∷ []) _ f ∙ append-assoc (statementBytes t) (receivesBytes rs) post in
-        all-append _ (conditions d sc t o) _
-        (all-map (Holds (o + 1) (o + size t) n (sc .contexts) one) _ (conditions d sc t o)
-        (widen (o + 1) (o + size t) n p end n (sc .contexts) (sc .contexts) one (one ++ two) (omega arith) (omega (arith, z)) (omega arith)
-        (λ q i j. first-part q (o + size t) (o + size t + length (receivesBytes rs)) (sc .contexts) one two v j))
-        (sites t sc o n _ (omega arith) (a .1) f1))
-        (all-map (Holds (o + size t) (o + size t + length (receivesBytes rs)) n (sc .contexts) two) _ (receivesConditions d sc rs (o + size t))
-        (widen (o + size t) (o + size t + length (receivesBytes rs)) n p end n (sc .contexts) (sc .contexts) two (one ++ two) (omega arith) (omega (arith, z)) (omega arith)
-        (λ q i j. second-part q (o + 1) (o + size t) (sc .contexts) one two w i))
-        (receives-sites rs sc (o + size t) n post (omega arith) (a .2) (past s o (statementBytes t) _ f1)))
+        let f1 : drop o s ≡ statementBytes t ++ (receivesBytes rs ++ post) = past s p (12 ∷ m ∷ []) _ f ∙ append-assoc (statementBytes t) (receivesBytes rs) post in (
+          (tt, tt),
+          all-append _ (ownsFrom sc t o) _
+              (widen-all (o + 1) (o + size t) p end n (sc .contexts) (sc .contexts) one (one ++ two) (omega arith) (omega (arith, z))
+              (λ q i j. first-part q (o + size t) (o + size t + length (receivesBytes rs)) (sc .contexts) one two v j) (ownsFrom sc t o)
+              (sites t sc o n _ (omega arith) (a .1) f1))
+              (widen-all (o + size t) (o + size t + length (receivesBytes rs)) p end n (sc .contexts) (sc .contexts) two (one ++ two) (omega arith) (omega (arith, z))
+              (λ q i j. second-part q (o + 1) (o + size t) (sc .contexts) one two w i) (receivesOwns d sc rs (o + size t))
+              (receives-sites rs sc (o + size t) n post (omega arith) (a .2) (past s o (statementBytes t) _ f1))),
+        )

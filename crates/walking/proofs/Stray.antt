@@ -1,6 +1,6 @@
--- The meaning of a condition that the rules allow is never stray.
-use Prim.Native.Nat.{ℕ, _+_}
-use mathlib.Core.Path.{_≡_, refl, sym, ap, _∙_}
+-- The meaning of a condition or a from-value that the rules allow is never stray.
+use Prim.Native.Nat.{ℕ, zero, suc, _+_}
+use mathlib.Core.Path.{_≡_, refl, sym, ap, subst, _∙_}
 use mathlib.Core.Bool.{Bool, true, false, cond, _&&_}
 use mathlib.Core.List.{List, [], _∷_, _++_, map}
 use mathlib.Core.Option.{Option, none, some}
@@ -8,32 +8,37 @@ use native.Mathlib.Omega.{arith}
 use lib.ListN.{length}
 use lib.IntN.{ℤ, pos, negsuc}
 use lib.Signed.{leZ}
+use Rattle.wire.specs.Codes as blr
 use Rattle.wire.specs.Lists.{isSome}
 use Rattle.wire.specs.declared.codes.Version.{Version}
 use Rattle.wire.specs.declared.codes.Operator.{Operator}
+use Rattle.wire.specs.declared.codes.Statistic.{Statistic}
+use Rattle.wire.specs.declared.codes.Statistic.the-variants.{Average, Maximum, Minimum, Total}
 use Rattle.wire.specs.declared.codes.Comparison.{Comparison}
 use Rattle.wire.specs.declared.codes.Comparison.the-variants.{Geq, Leq}
 use Rattle.wire.specs.declared.codes.TextSearch.{TextSearch}
 use Rattle.wire.specs.declared.codes.Quantifier.{Quantifier}
 use Rattle.decimal.specs.declared.Computed.{Computed}
 use Rattle.decimal.specs.declared.Computed.the-variants as Computed
-use Rattle.decimal.specs.Number.{computed, negated}
+use Rattle.decimal.specs.declared.Number.{Number}
+use Rattle.decimal.specs.Number.{added, quotient, computed, negated}
 use Rattle.grammar.specs.Kind as Scaled
-use Rattle.grammar.specs.Tree.{Stream, Literal, Reference, Value, literal, reference, arithmetic, negate, Boolean, compare, search, between, connect, not, missing, quantify, Clauses, noClauses, such, sorted, Rse, rse}
-use Rattle.grammar.specs.Bytes.{quantifierCode, keysBytes, headBytes}
-use Rattle.grammar.specs.Environment.{Environment, Scope, underStreams}
+use Rattle.grammar.specs.Tree.{Stream, Literal, Reference, Value, literal, reference, arithmetic, negate, statistic, count, Boolean, compare, search, between, connect, not, missing, quantify, Clauses, noClauses, such, sorted, Rse, rse}
+use Rattle.grammar.specs.Bytes.{statisticCode, quantifierCode, keysBytes, headBytes, rseBytes}
+use Rattle.grammar.specs.Environment.{Environment, Scope, underStreams, underRseOf}
 use Rattle.grammar.specs.Kinds.{kindOf, referenceKind, literalKind, alike, oneKind, bothText, allOneKind, resultScale, arithmeticKind, negatedKind}
 use Rattle.grammar.specs.Sizes.{OneStream}
 use Rattle.grammar.specs.Rules.{ValueAllowed, BooleanAllowed, ClausesAllowed, RseAllowed}
 use Rattle.grammar.proofs.StepLaws.{absurd-eq}
 use Rattle.meaning.specs.declared.Truth.{Truth}
+use Rattle.meaning.specs.declared.Truth.the-variants.{True, False, Missing}
 use Rattle.meaning.specs.declared.Kind.{Kind}
 use Rattle.meaning.specs.declared.Kind.the-variants as Kind
-use Rattle.meaning.specs.Data.{Result, is, refused, stray, _>>=_, Datum, number, text, date, absent, kind, sameKind, pair, arithmeticOf, result, negateOf, compareOf, searchOf, betweenOf, missingOf}
+use Rattle.meaning.specs.Data.{Result, is, refused, stray, _>>=_, Datum, number, text, date, absent, kind, sameKind, pair, arithmeticOf, result, negateOf, compareOf, searchOf, betweenOf, missingOf, Gathered, whole, nothingYet, summed, withNumber, withValue, fromGathered, statisticOf}
 use Rattle.meaning.specs.Inputs.{Fetched, value, malformed, nothing, literalValue}
 use Rattle.meaning.specs.Demand.{NotStray}
-use Rattle.meaning.specs.Runs.{dueRun, dueRuns, rseRuns, clausesRuns, LentRun, Around, fetchAround, within, withinEach}
-use Rattle.meaning.specs.Meaning.{fetchedAt, size, booleanSize, valueOf, keptOf, overRun, truthOf, rseTruth, clausesTruth}
+use Rattle.meaning.specs.Runs.{DueRun, dueRun, valueRuns, dueRuns, rseRuns, clausesRuns, LentRun, Around, fetchAround, within, withinEach}
+use Rattle.meaning.specs.Meaning.{fetchedAt, size, booleanSize, keptOf, overRun, ifKept, gatheredOf, numbersOver, countOver, valueOf, rseNumber, rseCount, truthOf, rseTruth, clausesTruth}
 use Rattle.walking.proofs.Sites.{All}
 use Rattle.walking.proofs.Due.{all-first, all-second, Lent}
 
@@ -205,80 +210,58 @@ fetched-kind p k (value x) h = h
 fetched-kind p k malformed h = tt
 fetched-kind p k nothing h = absurd h
 
--- ---- values and booleans, where references give what the rules say
+-- ---- values under a test; `v` and `w` are the kinds of the rules, if there are any
 
-module _ (e : Environment) (sc : Scope) (g : Reference → Fetched)
-    (typed : (r : Reference) (k : Scaled.Kind) → referenceKind e sc r ≡ some k → FetchedOf (unscaled k) (g r)) where
-  pub value-kind : (v : Value) (p : ℕ) (k : Scaled.Kind) → kindOf e sc v ≡ some k → OfKind (unscaled k) (valueOf (e .version) g p v)
-  unfolding kindOf valueOf
-  value-kind (literal l) p k h = let z : k ≡ literalKind l = cc in rw z (literal-kind l)
-  value-kind (reference r) p k h = fetched-kind p (unscaled k) (g r) (typed r k h)
-  value-kind (arithmetic o v w) p k h =
-      let i = operands (e .version) o (kindOf e sc v) (kindOf e sc w) k h in
-      rw (i .result-is)
-      (on-kind Kind.Number Kind.Number (valueOf (e .version) g (p + 1) v) _ (value-kind v (p + 1) (Scaled.Number (i .first)) (i .first-is)) (λ x hx.
-      on-kind Kind.Number Kind.Number (valueOf (e .version) g (p + 1 + size v) w) _ (value-kind w (p + 1 + size v) (Scaled.Number (i .second)) (i .second-is)) (λ y hy.
-      arithmetic-kind (e .version) o p x y hx hy)))
-  value-kind (negate v) p k h =
-      let i = negated-number (kindOf e sc v) k h in
-      rw (i .2) (on-kind Kind.Number Kind.Number (valueOf (e .version) g (p + 1) v) _ (value-kind v (p + 1) (Scaled.Number (i .0)) (i .1)) (λ x hx. negate-kind p x hx))
+-- a value of the kind of the rules
+abbrev Ruled : Option Scaled.Kind → Result Datum → Type 0
+Ruled v m = (k : Scaled.Kind) → v ≡ some k → OfKind (unscaled k) m
 
-  any-kind : (v : Value) (p : ℕ) → isSome (kindOf e sc v) ≡ true → (k : Kind) × OfKind k (valueOf (e .version) g p v)
-  any-kind v p h = go (kindOf e sc v) refl h
-    where
-      go : (x : Option Scaled.Kind) → kindOf e sc v ≡ x → isSome x ≡ true → (k : Kind) × OfKind k (valueOf (e .version) g p v)
-      go (some k) i j = (unscaled k, value-kind v p k i)
-      go none i j = absurd-eq (cc)
+two-met : (v w : Option Scaled.Kind) (m n : Result Datum) (f : Datum → Datum → Result Truth) → oneKind v w ≡ true → Ruled v m → Ruled w n →
+    ((x y : Datum) → kind x ≡ kind y → NotStray (f x y)) → NotStray (m >>= (λ x. n >>= (λ y. f x y)))
+two-met v w m n f h a b t =
+    let i = one-kind v w h in
+    on-truth (unscaled (i .first)) m _ (a (i .first) (i .first-is)) (λ x hx.
+    on-truth (unscaled (i .second)) n _ (b (i .second) (i .second-is)) (λ y hy. t x y (hx ∙ i .same ∙ sym hy)))
 
-  allowed-some : (v : Value) → ValueAllowed e sc v → isSome (kindOf e sc v) ≡ true
-  unfolding kindOf
-  allowed-some (literal l) a = refl
-  allowed-some (reference r) a = a .1
-  allowed-some (arithmetic o v w) a = a .2
-  allowed-some (negate v) a = a .1
+text-value : (v : Option Scaled.Kind) (m : Result Datum) → oneKind v (some Scaled.Text) ≡ true → Ruled v m → OfKind Kind.Text m
+text-value v m h a =
+    let i = one-kind v (some Scaled.Text) h in
+    let z : i .second ≡ Scaled.Text = let y = i .second-is in cc in
+    rw (sym (i .same ∙ ap unscaled z)) (a (i .first) (i .first-is))
 
-  -- two values of one kind, under a test
-  two-met : (v w : Value) (p : ℕ) → OfOneKind (kindOf e sc v) (kindOf e sc w) → (f : Datum → Datum → Result Truth) →
-      ((x y : Datum) → kind x ≡ kind y → NotStray (f x y)) →
-      NotStray (valueOf (e .version) g p v >>= (λ x. valueOf (e .version) g (p + size v) w >>= (λ y. f x y)))
-  two-met v w p i f n =
-      on-truth (unscaled (i .first)) (valueOf (e .version) g p v) _ (value-kind v p (i .first) (i .first-is)) (λ x hx.
-      on-truth (unscaled (i .second)) (valueOf (e .version) g (p + size v) w) _ (value-kind w (p + size v) (i .second) (i .second-is)) (λ y hy.
-      n x y (hx ∙ i .same ∙ sym hy)))
+search-never : (t : TextSearch) (v w : Option Scaled.Kind) (m n : Result Datum) → bothText v w ≡ true → Ruled v m → Ruled w n →
+    NotStray (m >>= (λ x. n >>= (λ y. searchOf t x y)))
+unfolding bothText
+search-never t v w m n h a b =
+    let u = both-true (oneKind v (some Scaled.Text)) (oneKind w (some Scaled.Text)) h in
+    on-truth Kind.Text m _ (text-value v m (u .0) a) (λ x hx. on-truth Kind.Text n _ (text-value w n (u .1) b) (λ y hy. search-met t x y hx hy))
 
-  text-value : (v : Value) (p : ℕ) → oneKind (kindOf e sc v) (some Scaled.Text) ≡ true → OfKind Kind.Text (valueOf (e .version) g p v)
-  text-value v p h =
-      let i = one-kind (kindOf e sc v) (some Scaled.Text) h in
-      let z : i .second ≡ Scaled.Text = let y = i .second-is in cc in
-      rw (sym (i .same ∙ ap unscaled z)) (value-kind v p (i .first) (i .first-is))
+between-never : (u v w : Option Scaled.Kind) (l m n : Result Datum) → allOneKind u v w ≡ true → Ruled u l → Ruled v m → Ruled w n →
+    NotStray (l >>= (λ x. m >>= (λ y. n >>= (λ z. betweenOf x y z))))
+unfolding allOneKind
+between-never u v w l m n h a b c =
+    let q = both-true (oneKind u v) (oneKind u w) h in
+    let i = one-kind u v (q .0) in
+    let j = one-kind u w (q .1) in
+    let same : j .first ≡ i .first = let z = i .first-is in let y = j .first-is in cc in
+    on-truth (unscaled (i .first)) l _ (a (i .first) (i .first-is)) (λ x hx.
+    on-truth (unscaled (i .second)) m _ (b (i .second) (i .second-is)) (λ y hy.
+    on-truth (unscaled (j .second)) n _ (c (j .second) (j .second-is)) (λ z hz.
+    between-met x y z (hx ∙ i .same ∙ sym hy) (hx ∙ ap unscaled (sym same) ∙ j .same ∙ sym hz))))
 
-  search-never : (t : TextSearch) (v w : Value) (p : ℕ) → bothText (kindOf e sc v) (kindOf e sc w) ≡ true →
-      NotStray (valueOf (e .version) g (p + 1) v >>= (λ x. valueOf (e .version) g (p + 1 + size v) w >>= (λ y. searchOf t x y)))
-  unfolding bothText
-  search-never t v w p a =
-      let u = both-true (oneKind (kindOf e sc v) (some Scaled.Text)) (oneKind (kindOf e sc w) (some Scaled.Text)) a in
-      on-truth Kind.Text (valueOf (e .version) g (p + 1) v) _ (text-value v (p + 1) (u .0)) (λ x hx.
-      on-truth Kind.Text (valueOf (e .version) g (p + 1 + size v) w) _ (text-value w (p + 1 + size v) (u .1)) (λ y hy. search-met t x y hx hy))
+any-kind : (v : Option Scaled.Kind) (m : Result Datum) → isSome v ≡ true → Ruled v m → (k : Kind) × OfKind k m
+any-kind (some k) m h a = (unscaled k, a k refl)
+any-kind none m h a = absurd-eq (cc)
 
-  between-never : (u v w : Value) (p : ℕ) → allOneKind (kindOf e sc u) (kindOf e sc v) (kindOf e sc w) ≡ true →
-      NotStray (valueOf (e .version) g (p + 1) u >>= (λ x. valueOf (e .version) g (p + 1 + size u) v >>= (λ y.
-      valueOf (e .version) g (p + 1 + size u + size v) w >>= (λ z. betweenOf x y z))))
-  unfolding allOneKind
-  between-never u v w p a =
-      let q = both-true (oneKind (kindOf e sc u) (kindOf e sc v)) (oneKind (kindOf e sc u) (kindOf e sc w)) a in
-      let i = one-kind (kindOf e sc u) (kindOf e sc v) (q .0) in
-      let j = one-kind (kindOf e sc u) (kindOf e sc w) (q .1) in
-      let same : j .first ≡ i .first = let z = i .first-is in let y = j .first-is in cc in
-      on-truth (unscaled (i .first)) (valueOf (e .version) g (p + 1) u) _ (value-kind u (p + 1) (i .first) (i .first-is)) (λ x hx.
-      on-truth (unscaled (i .second)) (valueOf (e .version) g (p + 1 + size u) v) _ (value-kind v (p + 1 + size u) (i .second) (i .second-is)) (λ y hy.
-      on-truth (unscaled (j .second)) (valueOf (e .version) g (p + 1 + size u + size v) w) _ (value-kind w (p + 1 + size u + size v) (j .second) (j .second-is)) (λ z hz.
-      between-met x y z (hx ∙ i .same ∙ sym hy) (hx ∙ ap unscaled (sym same) ∙ j .same ∙ sym hz))))
+missing-never : (v : Option Scaled.Kind) (m : Result Datum) → isSome v ≡ true → Ruled v m → NotStray (m >>= (λ x. is (missingOf x)))
+missing-never v m h a = let i = any-kind v m h a in on-truth (i .0) m _ (i .1) (λ x hx. tt)
 
-  missing-never : (v : Value) (p : ℕ) → ValueAllowed e sc v → NotStray (valueOf (e .version) g (p + 1) v >>= (λ x. is (missingOf x)))
-  missing-never v p w =
-      let i = any-kind v (p + 1) (allowed-some v w) in on-truth (i .0) (valueOf (e .version) g (p + 1) v) _ (i .1) (λ x hx. tt)
+of-kind : (k : Kind) (m : Result Datum) → OfKind k m → NotStray m
+of-kind k (is x) h = tt
+of-kind k (refused r p) h = tt
+of-kind k stray h = absurd h
 
--- ---- any and unique
+-- ---- any, unique and count
 
 kept-met : {A B : Type 0} (f : A → B) (test : B → Result Truth) → ((x : A) → NotStray (test (f x))) → (l : List A) → NotStray (keptOf test (map f l))
 unfolding keptOf
@@ -289,7 +272,86 @@ over-met : {A B : Type 0} (q : Quantifier) (f : A → B) (test : B → Result Tr
     NotStray (overRun q (some (map f l)) test)
 over-met q f test h l = and-then (keptOf test (map f l)) _ (kept-met f test h l) (λ n. tt)
 
--- ---- booleans, with the messages of an environment and runs; the scope and the records change inside an any
+count-met : {A B : Type 0} (f : A → B) (test : B → Result Truth) → ((x : A) → NotStray (test (f x))) → (l : List A) →
+    OfKind Kind.Number (countOver (some (map f l)) test)
+unfolding kind
+count-met f test h l = counted (keptOf test (map f l)) (kept-met f test h l)
+  where
+    counted : (m : Result ℕ) → NotStray m → OfKind Kind.Number (m >>= (λ n. is (number (whole n))))
+    counted (is n) g = refl
+    counted (refused r p) g = tt
+    counted stray g = absurd g
+
+-- ---- statistics
+
+summed-met : (p n : ℕ) (c : Computed) → NotStray (summed p n c)
+summed-met p n (Computed.Value a) = tt
+summed-met p n Computed.Overflow = tt
+summed-met p n Computed.ZeroDivisor = tt
+
+number-met : (k : Statistic) (p n : ℕ) (a x : Number) → NotStray (withNumber k p n a x)
+number-met Average p n a x = summed-met p (n + 1) (added a x)
+number-met Maximum p n a x = tt
+number-met Minimum p n a x = tt
+number-met Total p n a x = summed-met p (n + 1) (added a x)
+
+value-met : (k : Statistic) (p : ℕ) (g : Gathered) (x : Datum) → kind x ≡ Kind.Number → NotStray (withValue k p g x)
+unfolding withValue kind
+value-met k p g (number x) h = number-met k p (g .values) (g .number) x
+value-met k p g (text t) h = absurd-eq (cc)
+value-met k p g (date d f) h = absurd-eq (cc)
+value-met k p g (absent Kind.Number w) h = tt
+value-met k p g (absent Kind.Text w) h = absurd-eq (cc)
+value-met k p g (absent Kind.Date w) h = absurd-eq (cc)
+
+result-met : (k : Statistic) (p n : ℕ) (a : Number) → OfKind Kind.Number (fromGathered k p n a)
+unfolding kind
+result-met Average p zero a = refl
+result-met Average p (suc n) a = computed-kind p (quotient a (whole (suc n)))
+result-met Maximum p zero a = refl
+result-met Maximum p (suc n) a = refl
+result-met Minimum p zero a = refl
+result-met Minimum p (suc n) a = refl
+result-met Total p n a = refl
+
+module _ {A B : Type 0} (k : Statistic) (p : ℕ) (f : A → B) (test : B → Result Truth) (values : B → Result Datum)
+    (tests : (x : A) → NotStray (test (f x))) (numbered : (x : A) → OfKind Kind.Number (values (f x))) where
+  kept-gathered : (t : Truth) (g : Gathered) (x : A) → NotStray (ifKept t k p values g (f x))
+  kept-gathered True g x = gather (values (f x)) (numbered x)
+    where
+      gather : (m : Result Datum) → OfKind Kind.Number m → NotStray (m >>= (λ v. withValue k p g v))
+      gather (is v) h = value-met k p g v h
+      gather (refused r q) h = tt
+      gather stray h = absurd h
+  kept-gathered False g x = tt
+  kept-gathered (Missing w) g x = tt
+
+  gathered-met : (g : Gathered) (l : List A) → NotStray (gatheredOf k p test values g (map f l))
+  unfolding gatheredOf
+  gathered-met g [] = tt
+  gathered-met g (x ∷ l) =
+      and-then (test (f x)) _ (tests x) (λ t. and-then (ifKept t k p values g (f x)) _ (kept-gathered t g x) (λ h. gathered-met h l))
+
+  -- a statistic of numbers is a number, or is refused
+  numbers-met : (scale : ℤ) (l : List A) → OfKind Kind.Number (numbersOver k p (some (Scaled.Number scale)) (some (map f l)) test values)
+  unfolding statisticOf
+  numbers-met scale l = made (gatheredOf k p test values (nothingYet scale) (map f l)) (gathered-met (nothingYet scale) l)
+    where
+      made : (m : Result Gathered) → NotStray m → OfKind Kind.Number (m >>= (λ g. statisticOf k p g))
+      made (is g) h = result-met k p (g .values) (g .number)
+      made (refused r q) h = tt
+      made stray h = absurd h
+
+-- ---- values and booleans, with the messages of an environment and runs; the scope and the records change inside an rse
+
+allowed-some : (e : Environment) (sc : Scope) (v : Value) → ValueAllowed e sc v → isSome (kindOf e sc v) ≡ true
+unfolding kindOf
+allowed-some e sc (literal l) a = refl
+allowed-some e sc (reference r) a = a .1
+allowed-some e sc (arithmetic o v w) a = a .2
+allowed-some e sc (negate v) a = a .1
+allowed-some e sc (statistic k r v) a = a .3
+allowed-some e sc (count r) a = refl
 
 module _ (e : Environment) (images : List ℕ) (runs : List LentRun) where
   -- what stands around
@@ -297,27 +359,97 @@ module _ (e : Environment) (images : List ℕ) (runs : List LentRun) where
   standing sc rows =
       record { relations = e .relations; messages = e .messages; images = images; scope = sc; records = rows; runs = runs }
 
-  -- one stream, whose run is there
-  rse-met : (ss : List Stream) (q : Quantifier) (sc : Scope) (rows : List ℕ) (p : ℕ) → length ss ≡ 1 → All (Lent runs) (dueRun (e .relations) ss p) →
-      (test : Around → Result Truth) → ((more : List ℕ) → NotStray (test (standing (underStreams (e .relations) (quantifierCode q) sc ss) more))) →
-      NotStray (overRun q (withinEach (standing sc rows) p q ss) test)
+  -- with one stream, whose run is there, each of its records is one more
+  each-met : (ss : List Stream) (o : ℕ) (sc : Scope) (rows : List ℕ) (p : ℕ) → length ss ≡ 1 → All (Lent runs) (dueRun (e .relations) ss p) →
+      (l : List (List ℕ)) × (withinEach (standing sc rows) p o ss ≡ some (map (λ x. standing (underStreams (e .relations) o sc ss) (rows ++ x)) l))
   unfolding withinEach within
-  rse-met [] q sc rows p one l test h = absurd-eq (cc)
-  rse-met (s ∷ []) q sc rows p one l test h =
-      rw (l .0 .1) (over-met q (within (standing sc rows) q s) test (λ x. h (rows ++ x)) (l .0 .0 .records))
-  rse-met (s ∷ t ∷ ss) q sc rows p one l test h = absurd (omega (arith, one))
+  each-met [] o sc rows p one l = absurd-eq (cc)
+  each-met (s ∷ []) o sc rows p one l = (l .0 .0 .records, rw (l .0 .1))
+  each-met (s ∷ t ∷ ss) o sc rows p one l = absurd (omega (arith, one))
 
   module _ (typed : (sc : Scope) (rows : List ℕ) (r : Reference) (k : Scaled.Kind) → referenceKind e sc r ≡ some k →
       FetchedOf (unscaled k) (fetchAround (standing sc rows) r)) where
+    abbrev valued : Scope → List ℕ → ℕ → Value → Result Datum
+    valued sc rows p v = valueOf (e .version) (standing sc rows) p v
+
+    abbrev runsIn : Value → ℕ → List DueRun
+    runsIn v p = valueRuns (e .relations) v p
+
     mutual
-      unfolding truthOf rseTruth clausesTruth dueRuns rseRuns clausesRuns
+      unfolding kindOf valueOf rseNumber rseCount truthOf rseTruth clausesTruth valueRuns dueRuns rseRuns clausesRuns
+
+      pub value-kind : (v : Value) (sc : Scope) (rows : List ℕ) (p : ℕ) (k : Scaled.Kind) → kindOf e sc v ≡ some k → ValueAllowed e sc v →
+          All (Lent runs) (runsIn v p) → OfKind (unscaled k) (valued sc rows p v)
+      value-kind (literal i) sc rows p k h a l = let z : k ≡ literalKind i = cc in rw z (literal-kind i)
+      value-kind (reference r) sc rows p k h a l = fetched-kind p (unscaled k) (fetchAround (standing sc rows) r) (typed sc rows r k h)
+      value-kind (arithmetic o v w) sc rows p k h a l =
+          let i = operands (e .version) o (kindOf e sc v) (kindOf e sc w) k h in
+          let n = p + 1 + size v in
+          rw (i .result-is)
+          (on-kind Kind.Number Kind.Number (valued sc rows (p + 1) v) _
+          (value-kind v sc rows (p + 1) (Scaled.Number (i .first)) (i .first-is) (a .0) (all-first _ (runsIn v (p + 1)) (runsIn w n) l)) (λ x hx.
+          on-kind Kind.Number Kind.Number (valued sc rows n w) _
+          (value-kind w sc rows n (Scaled.Number (i .second)) (i .second-is) (a .1) (all-second _ (runsIn v (p + 1)) (runsIn w n) l)) (λ y hy.
+          arithmetic-kind (e .version) o p x y hx hy)))
+      value-kind (negate v) sc rows p k h a l =
+          let i = negated-number (kindOf e sc v) k h in
+          rw (i .2)
+          (on-kind Kind.Number Kind.Number (valued sc rows (p + 1) v) _ (value-kind v sc rows (p + 1) (Scaled.Number (i .0)) (i .1) (a .0) l) (λ x hx.
+          negate-kind p x hx))
+      value-kind (statistic t r v) sc rows p k h a l =
+          let inner = underRseOf (e .relations) (statisticCode t) sc r in
+          let i = negated-number (kindOf e inner v) k h in
+          let n = p + 1 + length (rseBytes r) in
+          rw (i .2)
+          (subst (λ o. OfKind Kind.Number (rseNumber (e .version) (standing sc rows) p t r o (λ x. valueOf (e .version) x n v))) (sym (ap negatedKind (i .1)))
+          (number-kind r t sc rows p (i .0) (λ x. valueOf (e .version) x n v) (a .0) (a .1) (all-first _ (rseRuns (e .relations) r p) (runsIn v n) l) (λ more.
+          value-kind v inner more n (Scaled.Number (i .0)) (i .1) (a .2) (all-second _ (rseRuns (e .relations) r p) (runsIn v n) l))))
+      value-kind (count r) sc rows p k h a l =
+          let z : k ≡ Scaled.Number (pos 0) = cc in rw z (count-kind r sc rows p (a .0) (a .1) l)
+
+      number-kind : (r : Rse) (t : Statistic) (sc : Scope) (rows : List ℕ) (p : ℕ) (scale : ℤ) (values : Around → Result Datum) → OneStream r →
+          RseAllowed e (statisticCode t) sc r → All (Lent runs) (rseRuns (e .relations) r p) →
+          ((more : List ℕ) → OfKind Kind.Number (values (standing (underRseOf (e .relations) (statisticCode t) sc r) more))) →
+          OfKind Kind.Number (rseNumber (e .version) (standing sc rows) p t r (some (Scaled.Number scale)) values)
+      number-kind (rse ss cs) t sc rows p scale values one a l h =
+          let n = p + 1 + length (headBytes ss) in
+          let inner = underStreams (e .relations) (statisticCode t) sc ss in
+          let w = each-met ss (statisticCode t) sc rows p one (all-first _ (dueRun (e .relations) ss p) (clausesRuns (e .relations) cs n) l) in
+          rw (w .1)
+          (numbers-met t p (λ x. standing inner (rows ++ x)) (λ x. clausesTruth (e .version) x n cs) values (λ x.
+          never-clauses cs inner (rows ++ x) n (a .3) (all-second _ (dueRun (e .relations) ss p) (clausesRuns (e .relations) cs n) l)) (λ x.
+          h (rows ++ x)) scale (w .0))
+
+      count-kind : (r : Rse) (sc : Scope) (rows : List ℕ) (p : ℕ) → OneStream r → RseAllowed e blr.count sc r →
+          All (Lent runs) (rseRuns (e .relations) r p) → OfKind Kind.Number (rseCount (e .version) (standing sc rows) p r)
+      count-kind (rse ss cs) sc rows p one a l =
+          let n = p + 1 + length (headBytes ss) in
+          let inner = underStreams (e .relations) blr.count sc ss in
+          let w = each-met ss blr.count sc rows p one (all-first _ (dueRun (e .relations) ss p) (clausesRuns (e .relations) cs n) l) in
+          rw (w .1)
+          (count-met (λ x. standing inner (rows ++ x)) (λ x. clausesTruth (e .version) x n cs) (λ x.
+          never-clauses cs inner (rows ++ x) n (a .3) (all-second _ (dueRun (e .relations) ss p) (clausesRuns (e .relations) cs n) l)) (w .0))
 
       pub never-stray : (b : Boolean) (sc : Scope) (rows : List ℕ) (p : ℕ) → BooleanAllowed e sc b → All (Lent runs) (dueRuns (e .relations) b p) →
           NotStray (truthOf (e .version) (standing sc rows) p b)
       never-stray (compare c v w) sc rows p a l =
-          two-met e sc (fetchAround (standing sc rows)) (typed sc rows) v w (p + 1) (one-kind (kindOf e sc v) (kindOf e sc w) (a .2)) (compareOf c) (compare-met c)
-      never-stray (search t v w) sc rows p a l = search-never e sc (fetchAround (standing sc rows)) (typed sc rows) t v w p (a .2)
-      never-stray (between u v w) sc rows p a l = between-never e sc (fetchAround (standing sc rows)) (typed sc rows) u v w p (a .3)
+          let n = p + 1 + size v in
+          two-met (kindOf e sc v) (kindOf e sc w) (valued sc rows (p + 1) v) (valued sc rows n w) (compareOf c) (a .2) (λ k i.
+          value-kind v sc rows (p + 1) k i (a .0) (all-first _ (runsIn v (p + 1)) (runsIn w n) l)) (λ k i.
+          value-kind w sc rows n k i (a .1) (all-second _ (runsIn v (p + 1)) (runsIn w n) l)) (compare-met c)
+      never-stray (search t v w) sc rows p a l =
+          let n = p + 1 + size v in
+          search-never t (kindOf e sc v) (kindOf e sc w) (valued sc rows (p + 1) v) (valued sc rows n w) (a .2) (λ k i.
+          value-kind v sc rows (p + 1) k i (a .0) (all-first _ (runsIn v (p + 1)) (runsIn w n) l)) (λ k i.
+          value-kind w sc rows n k i (a .1) (all-second _ (runsIn v (p + 1)) (runsIn w n) l))
+      never-stray (between u v w) sc rows p a l =
+          let n = p + 1 + size u in
+          let m = p + 1 + size u + size v in
+          let first = all-first _ (runsIn u (p + 1) ++ runsIn v n) (runsIn w m) l in
+          between-never (kindOf e sc u) (kindOf e sc v) (kindOf e sc w) (valued sc rows (p + 1) u) (valued sc rows n v) (valued sc rows m w) (a .3) (λ k i.
+          value-kind u sc rows (p + 1) k i (a .0) (all-first _ (runsIn u (p + 1)) (runsIn v n) first)) (λ k i.
+          value-kind v sc rows n k i (a .1) (all-second _ (runsIn u (p + 1)) (runsIn v n) first)) (λ k i.
+          value-kind w sc rows m k i (a .2) (all-second _ (runsIn u (p + 1) ++ runsIn v n) (runsIn w m) l))
       never-stray (connect c a b) sc rows p w l =
           let n = p + 1 + booleanSize a in
           and-then (truthOf (e .version) (standing sc rows) (p + 1) a) _
@@ -325,16 +457,19 @@ module _ (e : Environment) (images : List ℕ) (runs : List LentRun) where
           and-then (truthOf (e .version) (standing sc rows) n b) _
           (never-stray b sc rows n (w .1) (all-second _ (dueRuns (e .relations) a (p + 1)) (dueRuns (e .relations) b n) l)) (λ y. tt))
       never-stray (not a) sc rows p w l = and-then (truthOf (e .version) (standing sc rows) (p + 1) a) _ (never-stray a sc rows (p + 1) w l) (λ x. tt)
-      never-stray (missing v) sc rows p w l = missing-never e sc (fetchAround (standing sc rows)) (typed sc rows) v p w
+      never-stray (missing v) sc rows p w l =
+          missing-never (kindOf e sc v) (valued sc rows (p + 1) v) (allowed-some e sc v w) (λ k i. value-kind v sc rows (p + 1) k i w l)
       never-stray (quantify q r) sc rows p w l = never-rse r q sc rows p (w .0) (w .1) l
 
       never-rse : (r : Rse) (q : Quantifier) (sc : Scope) (rows : List ℕ) (p : ℕ) → OneStream r → RseAllowed e (quantifierCode q) sc r →
           All (Lent runs) (rseRuns (e .relations) r p) → NotStray (rseTruth (e .version) (standing sc rows) p q r)
       never-rse (rse ss cs) q sc rows p one a l =
           let n = p + 1 + length (headBytes ss) in
-          rse-met ss q sc rows p one (all-first _ (dueRun (e .relations) ss p) (clausesRuns (e .relations) cs n) l) _ (λ more.
-          never-clauses cs (underStreams (e .relations) (quantifierCode q) sc ss) more n (a .3)
-          (all-second _ (dueRun (e .relations) ss p) (clausesRuns (e .relations) cs n) l))
+          let inner = underStreams (e .relations) (quantifierCode q) sc ss in
+          let w = each-met ss (quantifierCode q) sc rows p one (all-first _ (dueRun (e .relations) ss p) (clausesRuns (e .relations) cs n) l) in
+          rw (w .1)
+          (over-met q (λ x. standing inner (rows ++ x)) (λ x. clausesTruth (e .version) x n cs) (λ x.
+          never-clauses cs inner (rows ++ x) n (a .3) (all-second _ (dueRun (e .relations) ss p) (clausesRuns (e .relations) cs n) l)) (w .0))
 
       never-clauses : (cs : Clauses) (sc : Scope) (rows : List ℕ) (p : ℕ) → ClausesAllowed e sc cs → All (Lent runs) (clausesRuns (e .relations) cs p) →
           NotStray (clausesTruth (e .version) (standing sc rows) p cs)
@@ -342,3 +477,10 @@ module _ (e : Environment) (images : List ℕ) (runs : List LentRun) where
       never-clauses (such b cs) sc rows p a l =
           never-stray b sc rows (p + 1) (a .0) (all-first _ (dueRuns (e .relations) b (p + 1)) (clausesRuns (e .relations) cs (p + 1 + booleanSize b)) l)
       never-clauses (sorted ks cs) sc rows p a l = never-clauses cs sc rows (p + 2 + length (keysBytes ks)) (a .2) l
+
+    -- so is a value
+    pub never-stray-value : (v : Value) (sc : Scope) (rows : List ℕ) (p : ℕ) → ValueAllowed e sc v → All (Lent runs) (runsIn v p) →
+        NotStray (valued sc rows p v)
+    never-stray-value v sc rows p a l =
+        let i = any-kind (kindOf e sc v) (valued sc rows p v) (allowed-some e sc v a) (λ k i. value-kind v sc rows p k i a l) in
+        of-kind (i .0) (valued sc rows p v) (i .1)

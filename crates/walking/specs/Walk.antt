@@ -18,9 +18,11 @@ use Rattle.wire.specs.declared.codes.ValueCode.the-variants as Code
 use Rattle.wire.specs.declared.codes.BooleanCode.{BooleanCode}
 use Rattle.wire.specs.declared.codes.BooleanCode.the-variants as Boolean
 use Rattle.wire.specs.declared.codes.Quantifier.{Quantifier}
+use Rattle.wire.specs.declared.codes.Statistic.{Statistic}
 use Rattle.dictionary.specs.Dictionary.{nameAt}
 use Rattle.dictionary.specs.Naming.{named, numbered}
 use Rattle.dictionary.specs.Format.{widthBytes}
+use Rattle.grammar.specs.Kind as Grammar
 use Rattle.grammar.specs.Tree as Tree
 use Rattle.grammar.specs.Tree.{Reference, field, parameter, parameter2}
 use Rattle.meaning.specs.declared.Truth.{Truth}
@@ -28,7 +30,7 @@ use Rattle.meaning.specs.declared.Truth.the-variants.{True}
 use Rattle.meaning.specs.declared.Fault.{Fault}
 use Rattle.meaning.specs.Data.{Result, is, refused, stray, Datum, arithmeticOf, negateOf, compareOf, searchOf, betweenOf, missingOf, connected, opposite}
 use Rattle.meaning.specs.Inputs.{Fetched, literalValue}
-use Rattle.meaning.specs.Meaning.{fetchedAt, overRun}
+use Rattle.meaning.specs.Meaning.{fetchedAt, overRun, numbersOver, countOver}
 
 -- a thing and the place after it; or the first refusal or stray met
 pub data Walked (A : Type 0) : Type 0 where
@@ -80,25 +82,15 @@ referenceAt g s p Parameter2 =
 abbrev pub versionAt : List ℕ → Version
 versionAt s = versionOf (byteAt s 0)
 
--- what stands under a value's code at p; `inner` gives the values one level down
-unfoldable pub valueUnder : (Reference → Fetched) → (ℕ → Walked Datum) → List ℕ → ℕ → ValueCode → Walked Datum
-valueUnder g inner s p Code.Literal = literalAt s (p + 1)
-valueUnder g inner s p (Code.Reference c) = referenceAt g s p c
-valueUnder g inner s p (Code.Arithmetic o) = inner (p + 1) ▷ (λ x q. inner q ▷ (λ y e. ended (arithmeticOf (versionAt s) o p x y) e))
-valueUnder g inner s p Code.Negate = inner (p + 1) ▷ (λ x e. ended (negateOf p x) e)
+-- ---- runs
 
--- a value at a place, with so many levels left
-unfoldable pub valueAt : (Reference → Fetched) → ℕ → List ℕ → ℕ → Walked Datum
-valueAt g zero s p = astray
-valueAt g (suc l) s p = onClass (valueClass (byteAt s p)) (λ k. valueUnder g (λ q. valueAt g l s q) s p k)
-
--- ---- any and unique
-
--- the run of an any or a unique: where the condition of its rse stands, if it has one; the place after it; and what is seen with each
--- record of the run in turn
+-- the run of an any, a unique or a statistic: where the condition of its rse stands, if it has one; the place after the rse, where a
+-- statistic's number stands; the place after all of it; the kind of that number; and what is seen with each record of the run in turn
 pub record Over (E : Type 0) : Type 0 where
   pub such : Option ℕ
+  pub number : ℕ
   pub end : ℕ
+  pub kind : Option Grammar.Kind
   pub each : List E
 
 -- what is seen from an E: what a reference gives, and the run of the code at a place
@@ -117,12 +109,32 @@ abbrev pub suchAt : Option ℕ → (ℕ → Walked Truth) → Result Truth
 suchAt none test = is True
 suchAt (some c) test = resultOf (test c)
 
--- over each record of a run, if there is one; `test` gives the boolean at a place, with one record
+-- over each record of a run, if there is one; `test` gives the boolean and `values` the value at a place, with one record
 abbrev pub overAt : {E : Type 0} → Quantifier → Option (Over E) → (E → ℕ → Walked Truth) → Walked Truth
 overAt q none test = astray
 overAt q (some o) test = ended (overRun q (some (o .each)) (λ x. suchAt (o .such) (test x))) (o .end)
 
--- ---- booleans
+abbrev pub numbersAt : {E : Type 0} → Statistic → ℕ → Option (Over E) → (E → ℕ → Walked Truth) → (E → ℕ → Walked Datum) → Walked Datum
+numbersAt k p none test values = astray
+numbersAt k p (some o) test values =
+    ended (numbersOver k p (o .kind) (some (o .each)) (λ x. suchAt (o .such) (test x)) (λ x. resultOf (values x (o .number)))) (o .end)
+
+abbrev pub countAt : {E : Type 0} → Option (Over E) → (E → ℕ → Walked Truth) → Walked Datum
+countAt none test = astray
+countAt (some o) test = ended (countOver (some (o .each)) (λ x. suchAt (o .such) (test x))) (o .end)
+
+-- ---- values and booleans
+
+-- what stands under a value's code at p; `inner` gives the values one level down, `numbers` a statistic and `counted` a count
+unfoldable pub valueUnder : (Reference → Fetched) → (ℕ → Walked Datum) → (Statistic → Walked Datum) → Walked Datum → List ℕ → ℕ → ValueCode →
+    Walked Datum
+valueUnder g inner numbers counted s p Code.Literal = literalAt s (p + 1)
+valueUnder g inner numbers counted s p (Code.Reference c) = referenceAt g s p c
+valueUnder g inner numbers counted s p (Code.Arithmetic o) =
+    inner (p + 1) ▷ (λ x q. inner q ▷ (λ y e. ended (arithmeticOf (versionAt s) o p x y) e))
+valueUnder g inner numbers counted s p Code.Negate = inner (p + 1) ▷ (λ x e. ended (negateOf p x) e)
+valueUnder g inner numbers counted s p (Code.Statistic k) = numbers k
+valueUnder g inner numbers counted s p Code.Count = counted
 
 -- what stands under a boolean's code at p; `values` gives the values and `inner` the booleans one level down, and `runs` an any or a unique
 unfoldable pub booleanUnder : (ℕ → Walked Datum) → (ℕ → Walked Truth) → (Quantifier → Walked Truth) → ℕ → BooleanCode → Walked Truth
@@ -135,10 +147,19 @@ booleanUnder values inner runs p Boolean.Not = inner (p + 1) ▷ (λ x e. at (op
 booleanUnder values inner runs p Boolean.Missing = values (p + 1) ▷ (λ x e. at (missingOf x) e)
 booleanUnder values inner runs p (Boolean.Quantify q) = runs q
 
--- a boolean at a place, with so many levels left, as it is seen from x
-unfoldable pub booleanAt : {E : Type 0} → Sight E → E → ℕ → List ℕ → ℕ → Walked Truth
-booleanAt w x zero s p = astray
-booleanAt w x (suc l) s p =
-    onClass (booleanClass (byteAt s p))
-    (λ k. booleanUnder (λ q. valueAt (w .fetch x) l s q) (λ q. booleanAt w x l s q)
-    (λ q. overAt q (w .over x p) (λ y c. booleanAt w y l s c)) p k)
+-- a value and a boolean at a place, with so many levels left, as they are seen from x
+unfoldable mutual
+  pub valueAt : {E : Type 0} → Sight E → E → ℕ → List ℕ → ℕ → Walked Datum
+  valueAt w x zero s p = astray
+  valueAt w x (suc l) s p =
+      onClass (valueClass (byteAt s p))
+      (λ k. valueUnder (w .fetch x) (λ q. valueAt w x l s q)
+      (λ c. numbersAt c p (w .over x p) (λ y q. booleanAt w y l s q) (λ y q. valueAt w y l s q))
+      (countAt (w .over x p) (λ y q. booleanAt w y l s q)) s p k)
+
+  pub booleanAt : {E : Type 0} → Sight E → E → ℕ → List ℕ → ℕ → Walked Truth
+  booleanAt w x zero s p = astray
+  booleanAt w x (suc l) s p =
+      onClass (booleanClass (byteAt s p))
+      (λ k. booleanUnder (λ q. valueAt w x l s q) (λ q. booleanAt w x l s q)
+      (λ q. overAt q (w .over x p) (λ y c. booleanAt w y l s c)) p k)

@@ -12,7 +12,8 @@ use Rattle.wire.specs.declared.codes.ReferenceCode.{ReferenceCode}
 use Rattle.wire.specs.declared.codes.ReferenceCode.the-variants.{Field, Fid, Parameter, Parameter2}
 use Rattle.wire.specs.declared.codes.Operator.the-variants.{Add, Subtract, Multiply, Divide}
 use Rattle.wire.specs.declared.codes.ValueCode.{ValueCode}
-use Rattle.wire.specs.declared.codes.ValueCode.the-variants.{Literal, Reference, Arithmetic, Negate}
+use Rattle.wire.specs.declared.codes.ValueCode.the-variants.{Literal, Reference, Arithmetic, Negate, Statistic, Count}
+use Rattle.wire.specs.declared.codes.Statistic.the-variants.{Average, Maximum, Minimum, Total}
 use Rattle.wire.specs.declared.codes.Comparison.the-variants.{Eql, Neq, Gtr, Geq, Lss, Leq}
 use Rattle.wire.specs.declared.codes.TextSearch.the-variants.{Containing, Matching, Starting}
 use Rattle.wire.specs.declared.codes.Connective.the-variants.{Or, And}
@@ -57,16 +58,16 @@ statementClass =
     (blr.label, Label) ∷ (blr.leave, Leave) ∷ (blr.if, If) ∷ (blr.select, Select) ∷ [])
     (blr.dcl-variable ∷ blr.fetch ∷ blr.store2 ∷ blr.post ∷ [])
 
--- 01: "Values: .."; left out: "values 22, 26–31, 39, 40, 42–45"
+-- 01: "Values: .."; left out: "values 22, 26–31, 39, 40, 42–45"; 02, No. 9: "Values 27 to 31 leave refusal 7; type 27 stays there."
 unfoldable pub valueClass : ℕ → Class ValueCode
 valueClass =
     classify
     ((blr.literal, Literal) ∷ (blr.field, Reference Field) ∷ (blr.fid, Reference Fid) ∷
-    (blr.parameter, Reference Parameter) ∷ (blr.parameter2, Reference Parameter2) ∷ (blr.add, Arithmetic Add) ∷
-    (blr.subtract, Arithmetic Subtract) ∷ (blr.multiply, Arithmetic Multiply) ∷ (blr.divide, Arithmetic Divide) ∷
-    (blr.negate, Negate) ∷ [])
-    (blr.dbkey ∷ blr.variable ∷ blr.average ∷ blr.count ∷ blr.maximum ∷ blr.minimum ∷ blr.total ∷
-    blr.concatenate ∷ blr.substring ∷ blr.from ∷ blr.via ∷ blr.user-name ∷ blr.null ∷ [])
+    (blr.parameter, Reference Parameter) ∷ (blr.parameter2, Reference Parameter2) ∷ (blr.average, Statistic Average) ∷
+    (blr.count, Count) ∷ (blr.maximum, Statistic Maximum) ∷ (blr.minimum, Statistic Minimum) ∷ (blr.total, Statistic Total) ∷
+    (blr.add, Arithmetic Add) ∷ (blr.subtract, Arithmetic Subtract) ∷ (blr.multiply, Arithmetic Multiply) ∷
+    (blr.divide, Arithmetic Divide) ∷ (blr.negate, Negate) ∷ [])
+    (blr.dbkey ∷ blr.variable ∷ blr.concatenate ∷ blr.substring ∷ blr.from ∷ blr.via ∷ blr.user-name ∷ blr.null ∷ [])
 
 -- 01: "Targets: 23, 24, 25, 41."
 unfoldable pub targetClass : ℕ → Class ReferenceCode

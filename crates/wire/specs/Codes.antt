@@ -106,13 +106,7 @@ negate = 38
 abbrev pub parameter2 : ℕ
 parameter2 = 41
 
--- Values left out.
-abbrev pub dbkey : ℕ
-dbkey = 22
-
-abbrev pub variable : ℕ
-variable = 26
-
+-- 02, No. 9: "average 27, maximum 29, minimum 30 and total 31 with an rse of one stream and a number, and count 28 with an rse only"
 abbrev pub average : ℕ
 average = 27
 
@@ -127,6 +121,13 @@ minimum = 30
 
 abbrev pub total : ℕ
 total = 31
+
+-- Values left out.
+abbrev pub dbkey : ℕ
+dbkey = 22
+
+abbrev pub variable : ℕ
+variable = 26
 
 abbrev pub concatenate : ℕ
 concatenate = 39

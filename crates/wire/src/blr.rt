@@ -72,11 +72,6 @@ pub const NEGATE: u8 = 38;
 
 pub const PARAMETER2: u8 = 41;
 
-// Values left out.
-pub const DBKEY: u8 = 22;
-
-pub const VARIABLE: u8 = 26;
-
 pub const AVERAGE: u8 = 27;
 
 pub const COUNT: u8 = 28;
@@ -86,6 +81,11 @@ pub const MAXIMUM: u8 = 29;
 pub const MINIMUM: u8 = 30;
 
 pub const TOTAL: u8 = 31;
+
+// Values left out.
+pub const DBKEY: u8 = 22;
+
+pub const VARIABLE: u8 = 26;
 
 pub const CONCATENATE: u8 = 39;
 

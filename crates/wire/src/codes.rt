@@ -37,11 +37,21 @@ pub enum Operator {
     Divide,
 }
 
+// What is worked out of a number over the records of an rse.
+pub enum Statistic {
+    Average,
+    Maximum,
+    Minimum,
+    Total,
+}
+
 pub enum ValueCode {
     Literal,
     Reference(ReferenceCode),
     Arithmetic(Operator),
     Negate,
+    Statistic(Statistic),
+    Count,
 }
 
 pub enum Comparison {

@@ -1,8 +1,8 @@
 //! Pieces of requests written by hand, beside the relation of `dictionaries::house`.
 
 use crate::wire::{
-    ADD, ASSIGNMENT, BEGIN, BOOLEAN, DIVIDE, END, EOC, FID, FOR, INT64, LITERAL, LONG, MESSAGE,
-    MULTIPLY, NEGATE, PARAMETER, RID, RSE, SHORT, SUBTRACT, TEXT, VERSION4,
+    ADD, ASSIGNMENT, BEGIN, BOOLEAN, COUNT, DIVIDE, END, EOC, FID, FOR, INT64, LITERAL, LONG,
+    MESSAGE, MULTIPLY, NEGATE, PARAMETER, RID, RSE, SHORT, SUBTRACT, TEXT, VERSION4,
 };
 
 /// The empty begin.
@@ -77,6 +77,12 @@ pub fn for_loop(streams: &[&[u8]], clauses: &[u8], statement: &[u8]) -> Vec<u8> 
 /// A code that goes over a run, with the rse of a stream and clauses.
 pub fn over(code: u8, stream: &[u8], clauses: &[u8]) -> Vec<u8> {
     [&[code, RSE, 1], stream, clauses, &[END]].concat()
+}
+
+/// A statistic with the rse of a stream and clauses, and a number unless it is count.
+pub fn statistic(code: u8, stream: &[u8], clauses: &[u8], number: &[u8]) -> Vec<u8> {
+    let number = if code == COUNT { &[] } else { number };
+    [&over(code, stream, clauses), number].concat()
 }
 
 /// A for over relation 1 in context 0, with a statement.

@@ -9,9 +9,9 @@ use super::{Case, Size, TABLE_LENGTHS};
 use crate::dictionary::{Dictionary, Field, Relation};
 use crate::hex;
 use crate::wire::{
-    AND, ANY, ASCENDING, BEGIN, BOOLEAN, CSTRING, DATE, DIVIDE, END, EOC, EQL, FIELD, IF, INT64,
-    LITERAL, LONG, MISSING, MULTIPLY, NEGATE, NOT, OR, READING, RELATION, RSE, SEND, SHORT, SORT,
-    TEXT, UNIQUE, VARYING, VERSION4, VERSION5,
+    AND, ANY, ASCENDING, BEGIN, BOOLEAN, COUNT, CSTRING, DATE, DIVIDE, END, EOC, EQL, FIELD, IF,
+    INT64, LITERAL, LONG, MISSING, MULTIPLY, NEGATE, NOT, OR, READING, RELATION, RSE, SEND, SHORT,
+    SORT, STATISTICS, TEXT, UNIQUE, VARYING, VERSION4, VERSION5,
 };
 use std::sync::OnceLock;
 
@@ -23,6 +23,7 @@ pub fn all() -> Vec<Case> {
         message_sizes(),
         context_counts(),
         selections(),
+        statistics(),
         request_ranges(),
         ranges_of_type_16(),
         arithmetic_scales(),
@@ -50,7 +51,7 @@ pub fn of(size: Size) -> &'static [Case] {
 
 /// The cases of the greatest sizes of a request, of which many are refused with 8.
 pub fn request_sizes(size: Size) -> Vec<Case> {
-    let parts = [depths(), counts(), message_sizes(), context_counts(), selections()];
+    let parts = [depths(), counts(), message_sizes(), context_counts(), selections(), statistics()];
     let cases = parts.into_iter().flatten();
     cases.filter(|case| size == Size::Mixed || is_small(case)).collect()
 }
@@ -168,6 +169,29 @@ fn selections() -> Vec<Case> {
             let inner = over(code, &rid(1, 7), &[&[BOOLEAN], &test[..]].concat());
             let refuted = [vec![NOT; nots], inner].concat();
             cases.push(read(assemble::request(&[&condition(&refuted)])));
+        }
+    }
+    cases
+}
+
+/// 0, 1, 2, 8 and 9 streams of every statistic, and 32 and 33 levels below it.
+fn statistics() -> Vec<Case> {
+    let mut cases = Vec::new();
+    for code in STATISTICS {
+        let number = if code == COUNT { Vec::new() } else { short(0, 1) };
+        for count in [0, 1, 2, 8, 9] {
+            let streams: Vec<Vec<u8>> = (1..=count).map(|context| rid(1, context)).collect();
+            let rse = [&[code, RSE, count], &streams.concat()[..], &[END], &number].concat();
+            cases.push(read(assemble::request(&[&condition(&operator(MISSING, &[&rse]))])));
+        }
+        // Levels: begin, for, missing, negates, the statistic, its number or its test's values.
+        for negates in [26, 27, 28] {
+            let test = [vec![BOOLEAN], operator(MISSING, &[&short(0, 1)])].concat();
+            for clauses in [vec![], test] {
+                let inner = assemble::statistic(code, &rid(1, 7), &clauses, &number);
+                let value = [vec![NEGATE; negates], inner].concat();
+                cases.push(read(assemble::request(&[&condition(&operator(MISSING, &[&value]))])));
+            }
         }
     }
     cases

@@ -78,6 +78,18 @@ pub fn request(
     builder.draft
 }
 
+/// A request that begins with an assignment inside a send or a store, where there is a target.
+pub fn assigning(rng: &mut Rng, dictionary: &Dictionary, size: Size, focus: Focus) -> Draft {
+    let mut builder = Builder::new(rng, dictionary, size, focus);
+    builder.open_request();
+    builder.assigning_statement(2);
+    if builder.rng.one_in(3) {
+        builder.statement(2);
+    }
+    builder.draft.raw(&[END, EOC]);
+    builder.draft
+}
+
 impl<'a> Builder<'a> {
     fn new(rng: &'a mut Rng, dictionary: &'a Dictionary, size: Size, focus: Focus) -> Builder<'a> {
         let budget = match size {
@@ -106,12 +118,17 @@ impl<'a> Builder<'a> {
         }
     }
 
-    /// Version, begin, messages, statements, end, eoc.
-    fn write_request(&mut self, conditional: bool) {
+    /// Version, begin, messages.
+    fn open_request(&mut self) {
         self.draft.raw(&[self.version]);
         self.draft.code(Role::Statement, BEGIN);
         self.statements += 1;
         self.write_messages();
+    }
+
+    /// Version, begin, messages, statements, end, eoc.
+    fn write_request(&mut self, conditional: bool) {
+        self.open_request();
         if conditional {
             self.conditional_statement(2);
         }

@@ -143,8 +143,19 @@ pub fn records(
     condition: &Condition,
     malformed: usize,
 ) -> Vec<Vec<u8>> {
+    records_for(rng, parsed, dictionary, &condition.contexts, malformed)
+}
+
+/// Proper records for contexts, each apart.
+pub fn records_for(
+    rng: &mut Rng,
+    parsed: &Parsed,
+    dictionary: &Dictionary,
+    contexts: &[usize],
+    malformed: usize,
+) -> Vec<Vec<u8>> {
     let mut records = Vec::new();
-    for context in &condition.contexts {
+    for context in contexts {
         let relation = &dictionary.relations[parsed.contexts[*context].relation];
         records.push(record(rng, relation, malformed));
     }
@@ -158,7 +169,7 @@ pub fn run(records: &[Vec<u8>]) -> Vec<u8> {
     [&length.to_le_bytes()[..], &7u16.to_le_bytes(), &body].concat()
 }
 
-/// Proper runs for a condition, each apart. Of a relation with records too long a run is empty.
+/// Proper runs for a condition, each apart.
 pub fn runs(
     rng: &mut Rng,
     parsed: &Parsed,
@@ -166,8 +177,19 @@ pub fn runs(
     condition: &Condition,
     malformed: usize,
 ) -> Vec<Vec<u8>> {
+    runs_for(rng, parsed, dictionary, &condition.runs, malformed)
+}
+
+/// Proper runs for contexts, each apart. Of a relation with records too long a run is empty.
+pub fn runs_for(
+    rng: &mut Rng,
+    parsed: &Parsed,
+    dictionary: &Dictionary,
+    contexts: &[usize],
+    malformed: usize,
+) -> Vec<Vec<u8>> {
     let mut runs = Vec::new();
-    for context in &condition.runs {
+    for context in contexts {
         let relation = &dictionary.relations[parsed.contexts[*context].relation];
         let is_long = relation.entry_length() > GREATEST_LENGTH;
         let count = if is_long { 0 } else { rng.pick(&[0, 1, 1, 2, 2, 3, 5]) };

@@ -17,11 +17,11 @@ use crate::reader::parsed::{Condition, Parsed, Role};
 use crate::record::Cause;
 use crate::refusal::{Refusal, WRONG_RUNS};
 use crate::wire::{
-    self, ADD, ANY, BOOLEANS, CSTRING, DIVIDE, EQL, GEQ, MISSING, MULTIPLY, NEQ, PARAMETER2, SHORT,
-    UNIQUE, VALUES, VARYING, VERSION4, VERSION5,
+    self, ADD, ANY, AVERAGE, BOOLEANS, CSTRING, DIVIDE, EQL, GEQ, MAXIMUM, MINIMUM, MISSING,
+    MULTIPLY, NEQ, PARAMETER2, SHORT, STATISTICS, UNIQUE, VALUES, VARYING, VERSION4, VERSION5,
 };
 
-/// The causes of a missing answer.
+/// The causes of a missing field or parameter.
 pub const CAUSES: [Cause; 3] = [Cause::Bit, Cause::Reading, Cause::Flag];
 
 /// An outcome that a case is to have.
@@ -35,7 +35,7 @@ pub fn outcome(case: &Case) -> Option<Outcome> {
             let result = evaluate_over(request, dictionary, *condition, lent);
             Some(result.map_err(|refusal: Refusal| refusal.number))
         }
-        Case::Read { .. } => None,
+        Case::Read { .. } | Case::Value { .. } => None,
     }
 }
 
@@ -62,10 +62,21 @@ fn until(wanted: Outcome, mut make: impl FnMut() -> Case) -> Case {
 
 /// An evaluation with an answer: true, false, missing in turn, by one cause after another.
 pub fn answered(rng: &mut Rng, size: Size, turn: usize) -> Case {
+    if turn % 16 == 15 {
+        return of_nothing(rng, size);
+    }
     let cause = CAUSES[(turn / 3 + turn / 72) % 3];
     let answers = [Answer::True, Answer::False, Answer::Missing(cause)];
     let wanted = answers[(turn + turn / 24) % 3];
     until(Ok(wanted), || proper(rng, size, focus(turn), 12))
+}
+
+/// An evaluation that is missing because a statistic has nothing to work on.
+fn of_nothing(rng: &mut Rng, size: Size) -> Case {
+    until(Ok(Answer::Missing(Cause::Nothing)), || {
+        let focus = (Role::Value, rng.pick(&[AVERAGE, MAXIMUM, MINIMUM]));
+        proper(rng, size, focus, 1000)
+    })
 }
 
 /// An evaluation with proper messages and records; texts malformed once in so many times.
@@ -75,9 +86,12 @@ fn proper(rng: &mut Rng, size: Size, focus: Focus, malformed: usize) -> Case {
     with_data(rng, &dictionary, request, malformed)
 }
 
-/// An evaluation whose request is likely to have an any or a unique.
+/// An evaluation whose request is likely to have an any, a unique or a statistic.
 pub fn over_runs(rng: &mut Rng, size: Size) -> Case {
-    let focus = (Role::Boolean, rng.pick(&[ANY, UNIQUE]));
+    let focus = match rng.one_in(2) {
+        true => (Role::Boolean, rng.pick(&[ANY, UNIQUE])),
+        false => (Role::Value, rng.pick(&STATISTICS)),
+    };
     proper(rng, size, focus, 12)
 }
 
@@ -177,14 +191,14 @@ fn wrong_messages(rng: &mut Rng, size: Size, turn: usize) -> Case {
 }
 
 /// Damages the length once in two times.
-fn may_damage(rng: &mut Rng, bytes: &mut Vec<u8>) {
+pub fn may_damage(rng: &mut Rng, bytes: &mut Vec<u8>) {
     if rng.one_in(2) {
         damage_length(rng, bytes);
     }
 }
 
 /// Some bytes more, or one less.
-fn damage_length(rng: &mut Rng, bytes: &mut Vec<u8>) {
+pub fn damage_length(rng: &mut Rng, bytes: &mut Vec<u8>) {
     match rng.below(3) {
         0 => bytes.push(0),
         1 => bytes.extend([0; 5]),
@@ -241,7 +255,7 @@ fn wrong_runs(rng: &mut Rng, size: Size, turn: usize) -> Case {
 }
 
 /// The entries of joined bytes that are whole entries.
-fn entries(bytes: &[u8]) -> Vec<Vec<u8>> {
+pub fn entries(bytes: &[u8]) -> Vec<Vec<u8>> {
     let mut entries = Vec::new();
     let mut rest = bytes;
     while let Some(length) = wire::word(rest, 0) {
@@ -253,7 +267,7 @@ fn entries(bytes: &[u8]) -> Vec<Vec<u8>> {
 }
 
 /// Runs with one fault; `way` says which.
-fn damage_run(rng: &mut Rng, runs: &mut Vec<Vec<u8>>, way: usize) {
+pub fn damage_run(rng: &mut Rng, runs: &mut Vec<Vec<u8>>, way: usize) {
     let at = rng.below(runs.len());
     let entry = &mut runs[at];
     let last = entry.len() - 1;

@@ -1,8 +1,8 @@
 //! Generation of cases from fixed seeds.
 //!
-//! A case is an input of `reader::read` or of `evaluator::evaluate`. Cases of the size `small` have
-//! short dictionaries and requests; those of the size `mixed` may have any. The n-th case of a seed
-//! is always the same.
+//! A case is an input of `reader::read`, of `evaluator::evaluate_over` or of
+//! `evaluator::evaluate_value`. Cases of the size `small` have short dictionaries and requests;
+//! those of the size `mixed` may have any. The n-th case of a seed is always the same.
 
 /// Pieces of requests written by hand.
 pub mod assemble;
@@ -22,6 +22,8 @@ pub mod dictionaries;
 pub mod draft;
 /// Evaluations.
 pub mod evaluations;
+/// From-values of assignments.
+pub mod from_values;
 /// Inputs of the listing program.
 pub mod inputs;
 /// Small readings, and evaluations refused before their condition.
@@ -56,7 +58,7 @@ impl Size {
     }
 }
 
-/// An input of the reader or of the evaluator.
+/// An input of the reader, of the evaluator, or of the evaluator of from-values.
 #[derive(Clone, Debug, PartialEq, Eq)]
 pub enum Case {
     Read {
@@ -73,6 +75,15 @@ pub enum Case {
         records: Vec<u8>,
         runs: Vec<u8>,
     },
+    Value {
+        dictionary: Vec<u8>,
+        request: Vec<u8>,
+        /// The row of an assignment.
+        row: usize,
+        messages: Vec<u8>,
+        records: Vec<u8>,
+        runs: Vec<u8>,
+    },
 }
 
 impl Case {
@@ -81,6 +92,7 @@ impl Case {
         match self {
             Case::Read { dictionary, request, .. } => (dictionary, request),
             Case::Evaluate { dictionary, request, .. } => (dictionary, request),
+            Case::Value { dictionary, request, .. } => (dictionary, request),
         }
     }
 }
@@ -97,10 +109,11 @@ enum Aim {
     RefusedEvaluation,
     DamagedEvaluation,
     Edge,
+    Value,
 }
 
 /// The aims, one after another and again.
-const AIMS: [Aim; 20] = [
+const AIMS: [Aim; 22] = [
     Aim::Accepted,
     Aim::Answered,
     Aim::Refused,
@@ -121,6 +134,8 @@ const AIMS: [Aim; 20] = [
     Aim::Refused,
     Aim::Boundary,
     Aim::Edge,
+    Aim::Value,
+    Aim::Value,
 ];
 
 /// The first cases of a seed.
@@ -152,6 +167,7 @@ fn make(rng: &mut Rng, size: Size, aim: Aim, turn: usize) -> Case {
         Aim::RefusedEvaluation => evaluations::refused(rng, size, 20 + (turn % 7) as u32, turn / 7),
         Aim::DamagedEvaluation => evaluations::damaged(rng, size, turn),
         Aim::Edge => evaluations::edge(rng),
+        Aim::Value => from_values::case(rng, size, turn),
     }
 }
 

@@ -13,7 +13,8 @@ use crate::wire::{AND, ANY, BOOLEAN, EQL, MISSING, SHORT};
 /// The first readings of a seed.
 pub fn cases(seed: u64, count: usize) -> impl Iterator<Item = Case> {
     let generated = super::cases(Size::Small, seed, usize::MAX);
-    let readings = generated.filter(|case| !conditions::is_reached(case));
+    let is_value = |case: &Case| matches!(case, Case::Value { .. });
+    let readings = generated.filter(move |case| !is_value(case) && !conditions::is_reached(case));
     written().into_iter().chain(readings).take(count)
 }
 

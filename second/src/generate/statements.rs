@@ -31,6 +31,23 @@ impl Builder<'_> {
         }
     }
 
+    /// Writes a send or a store of an assignment.
+    pub fn assigning_statement(&mut self, level: usize) {
+        let may_send = !self.messages.is_empty() && self.rng.one_in(2);
+        if may_send || self.dictionary.relations.is_empty() {
+            self.open(SEND);
+            return self.conversation(SEND, level);
+        }
+        self.open(STORE);
+        let open = self.stream(false, &[]);
+        self.contexts.push(open);
+        self.updates.push(open);
+        let code = if self.targets().is_empty() { BEGIN } else { ASSIGNMENT };
+        self.write_statement(code, level + 1);
+        self.updates.pop();
+        self.contexts.pop();
+    }
+
     /// Whether a statement may stand here and leaves room for what it holds.
     fn may_stand(&self, code: u8, level: usize) -> bool {
         let roomy = level + 3 <= self.depth && self.has_budget();

@@ -2,7 +2,7 @@
 
 use super::assemble::{
     self, assignment, condition, fid, for_house, for_loop, int64, message, operator, over,
-    parameter, rid, short, text, NOTHING,
+    parameter, rid, short, statistic, text, NOTHING,
 };
 use super::boundaries;
 use super::builder::{self, foci};
@@ -14,12 +14,12 @@ use crate::dictionary::Dictionary;
 use crate::reader;
 use crate::reader::parsed::Role;
 use crate::wire::{
-    ADD, AND, ANY, ASCENDING, BEGIN, BETWEEN, BOOLEAN, CONTAINING, DATE, DIVIDE, END, EQL, ERASE,
-    FIELD, FOR, GEQ, INT64, LABEL, LEAVE, LEFT_OUT_BOOLEANS, LEFT_OUT_CLAUSES,
+    ADD, AND, ANY, ASCENDING, AVERAGE, BEGIN, BETWEEN, BOOLEAN, CONTAINING, COUNT, DATE, DIVIDE,
+    END, EQL, ERASE, FIELD, FOR, GEQ, INT64, LABEL, LEAVE, LEFT_OUT_BOOLEANS, LEFT_OUT_CLAUSES,
     LEFT_OUT_DESCRIPTORS, LEFT_OUT_LITERALS, LEFT_OUT_STATEMENTS, LEFT_OUT_STREAMS,
-    LEFT_OUT_VALUES, LITERAL, LOOP, MATCHING, MISSING, MODIFY, MULTIPLY, NEGATE, PARAMETER2,
-    RECEIVE, RELATION, RID, RSE, SELECT, SEND, SHORT, SORT, STARTING, STORE, TEXT, UNIQUE,
-    VERSION4,
+    LEFT_OUT_VALUES, LITERAL, LOOP, MATCHING, MAXIMUM, MINIMUM, MISSING, MODIFY, MULTIPLY, NEGATE,
+    PARAMETER2, RECEIVE, RELATION, RID, RSE, SELECT, SEND, SHORT, SORT, STARTING, STORE, TEXT,
+    TOTAL, UNIQUE, VERSION4,
 };
 
 /// The refusals of a reading; those that have many causes come more than once.
@@ -284,7 +284,8 @@ fn message_faults() -> Faults {
 
 /// 11: a context declared again, out of scope, or not yet in scope.
 fn wrong_contexts(rng: &mut Rng) -> Vec<u8> {
-    one_of(rng, &[], context_faults())
+    let faults = [context_faults(), statistic_contexts()].concat();
+    one_of(rng, &[], faults)
 }
 
 /// Statements that name a context which is not in scope, or declare one that is.
@@ -311,6 +312,31 @@ fn context_faults() -> Vec<Vec<u8>> {
     ]
 }
 
+/// Tests of statistics over a text or a date, and one whose context ends with its number.
+fn statistic_faults(words: u8) -> Vec<Vec<u8>> {
+    let test = |value: Vec<u8>| condition(&operator(MISSING, &[&value]));
+    let over = |code: u8, number: &[u8]| test(statistic(code, &rid(1, 4), &[], number));
+    let mut faults: Vec<Vec<u8>> = [AVERAGE, MAXIMUM, MINIMUM, TOTAL]
+        .iter()
+        .flat_map(|code| [over(*code, &fid(4, words)), over(*code, &fid(4, 6))])
+        .collect();
+    let count = statistic(COUNT, &rid(1, 4), &[], &[]);
+    faults.push(test(operator(ADD, &[&count, &text(b"a")])));
+    faults
+}
+
+/// Statements that name the context of a statistic behind its end, or declare it again inside.
+fn statistic_contexts() -> Vec<Vec<u8>> {
+    let count = statistic(COUNT, &rid(1, 4), &[], &[]);
+    let total = statistic(TOTAL, &rid(1, 4), &[], &fid(4, 0));
+    vec![
+        condition(&operator(EQL, &[&count, &fid(4, 0)])),
+        condition(&operator(EQL, &[&total, &fid(4, 0)])),
+        condition(&operator(MISSING, &[&statistic(TOTAL, &rid(1, 4), &[], &count)])),
+        condition(&operator(MISSING, &[&statistic(AVERAGE, &rid(1, 0), &[], &fid(0, 0))])),
+    ]
+}
+
 /// A test of a field of a context.
 fn field_of(context: u8) -> Vec<u8> {
     operator(MISSING, &[&fid(context, 0)])
@@ -322,6 +348,7 @@ fn no_fit(rng: &mut Rng) -> Vec<u8> {
     let words = rng.pick(&[3, 4, 5]);
     let (messages, mut statements) = fit_faults(field, words);
     statements.extend(later_fields());
+    statements.extend(statistic_faults(words));
     one_of(rng, &messages, statements)
 }
 
@@ -416,6 +443,8 @@ pub fn written() -> Vec<Case> {
         fit_faults(1, 4),
         fit_faults(2, 3),
         (Vec::new(), later_fields()),
+        (Vec::new(), statistic_faults(3)),
+        (Vec::new(), statistic_contexts()),
         statement_faults(7),
     ];
     let mut cases = Vec::new();

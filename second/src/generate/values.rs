@@ -8,9 +8,9 @@ use crate::datatype::{DataType, Kind};
 use crate::decimal;
 use crate::reader::parsed::Role;
 use crate::wire::{
-    self, ADD, AND, ANY, BETWEEN, BOOLEANS, CONTAINING, DIVIDE, FID, FIELD, INT64, LITERAL,
-    MATCHING, MISSING, MULTIPLY, NEGATE, NOT, OR, PARAMETER, PARAMETER2, STARTING, SUBTRACT, TEXT,
-    UNIQUE, VERSION5,
+    self, ADD, AND, ANY, BETWEEN, BOOLEANS, CONTAINING, COUNT, DIVIDE, FID, FIELD, INT64, LITERAL,
+    MATCHING, MISSING, MULTIPLY, NEGATE, NOT, OR, PARAMETER, PARAMETER2, STARTING, STATISTICS,
+    SUBTRACT, TEXT, UNIQUE, VERSION5,
 };
 
 /// A field or parameter that may be named.
@@ -126,6 +126,9 @@ impl Builder<'_> {
         if kind == Kind::Number && level < self.depth && self.has_budget() {
             codes.extend([ADD, SUBTRACT, MULTIPLY, DIVIDE, NEGATE]);
         }
+        if kind == Kind::Number && self.may_select(level) {
+            codes.extend(STATISTICS);
+        }
         let code = self.choose(Role::Value, &codes);
         match code {
             LITERAL => self.literal(kind),
@@ -134,6 +137,7 @@ impl Builder<'_> {
                 self.value(Kind::Number, level + 1)
             }
             ADD | SUBTRACT | MULTIPLY | DIVIDE => self.arithmetic(code, level),
+            _ if STATISTICS.contains(&code) => self.statistic(code, level),
             _ => {
                 let mut named = sources;
                 named.retain(|source| self.source_codes(*source).contains(&code));
@@ -141,6 +145,15 @@ impl Builder<'_> {
                 self.write_source(Role::Value, code, source)
             }
         }
+    }
+
+    /// Writes a statistic.
+    fn statistic(&mut self, code: u8, level: usize) -> i8 {
+        self.draft.code(Role::Value, code);
+        self.selection(level + 1);
+        let scale = if code == COUNT { 0 } else { self.value(Kind::Number, level + 1) };
+        self.contexts.pop();
+        scale
     }
 
     /// Writes a literal of a kind.

@@ -83,7 +83,7 @@ struct Reader<'a> {
     cursor: Cursor<'a>,
     dictionary: &'a Dictionary,
     scope: Scope,
-    /// The contexts of the codes met in the present condition that go over a run.
+    /// The contexts of the codes met in the present condition or from-value that go over a run.
     runs: Vec<usize>,
     parsed: Parsed,
 }

@@ -33,7 +33,7 @@ impl Message {
 }
 
 /// A context: its number, its scope, the index of its relation in the dictionary, and the code that
-/// opened it: for, store, modify, any or unique.
+/// opened it: for, store, modify, any, unique or a statistic.
 #[derive(Clone, Debug)]
 pub struct Context {
     pub number: u8,
@@ -85,6 +85,8 @@ pub enum Form {
     /// One of the operators with two values.
     Arithmetic(u8, Box<[Value; 2]>),
     Negate(Box<Value>),
+    /// One of the statistics over a run, with the number that all but count have.
+    Statistic(u8, Box<Selection>, Option<Box<Value>>),
 }
 
 /// A boolean with its code.
@@ -119,6 +121,16 @@ pub struct Condition {
     pub runs: Vec<usize>,
 }
 
+/// The from-value of an assignment with its row, the contexts in scope at it, and those that go
+/// over its runs.
+#[derive(Clone, Debug)]
+pub struct FromValue {
+    pub row: usize,
+    pub value: Value,
+    pub contexts: Vec<usize>,
+    pub runs: Vec<usize>,
+}
+
 /// The part that a code has in a request.
 #[derive(Clone, Copy, Debug, PartialEq, Eq, PartialOrd, Ord)]
 pub enum Role {
@@ -142,6 +154,7 @@ pub struct Parsed {
     pub messages: Vec<Message>,
     pub contexts: Vec<Context>,
     pub conditions: Vec<Condition>,
+    pub from_values: Vec<FromValue>,
     /// The codes met, each with its part, for counting.
     pub codes: Vec<(Role, u8)>,
 }

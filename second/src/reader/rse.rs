@@ -94,14 +94,16 @@ impl Reader<'_> {
         }
     }
 
-    /// The sort count and its values.
+    /// The sort count and its values, whose codes have no run.
     fn sort(&mut self, level: usize) -> Result<(), Refusal> {
         let count = self.cursor.count()?;
+        let runs = std::mem::take(&mut self.runs);
         for _ in 0..count {
             let order = self.cursor.code(&[ASCENDING, DESCENDING], &[])?;
             self.note(Role::Order, order);
             self.value(level)?;
         }
+        self.runs = runs;
         Ok(())
     }
 }

@@ -4,6 +4,7 @@
 //! context from a for", "Leave stands inside a label of its number". "A 14 that hangs on a ctx,
 //! message or label byte follows that byte's own tests and precedes all later ones."
 
+use super::parsed::FromValue;
 use super::Reader;
 use crate::refusal::{self, refuse, Refusal};
 use crate::wire::{
@@ -18,7 +19,7 @@ impl Reader<'_> {
         let code = self.cursor.code(&STATEMENTS, &LEFT_OUT_STATEMENTS)?;
         let row = self.open_statement(place, code, Some(parent), level)?;
         match code {
-            ASSIGNMENT => self.assignment(place, level)?,
+            ASSIGNMENT => self.assignment(row, place, level)?,
             BEGIN => self.begin(row, level)?,
             ERASE => self.erase(place)?,
             FOR => self.for_loop(row, level)?,
@@ -38,12 +39,15 @@ impl Reader<'_> {
     }
 
     /// Value, then target, then their fit.
-    fn assignment(&mut self, place: usize, level: usize) -> Result<(), Refusal> {
-        let from = self.value(level + 1)?;
+    fn assignment(&mut self, row: usize, place: usize, level: usize) -> Result<(), Refusal> {
+        let value = self.value(level + 1)?;
+        let runs = std::mem::take(&mut self.runs);
         let to = self.target(place)?;
-        if from.shape.kind != to.shape.kind {
+        if value.shape.kind != to.shape.kind {
             return refuse(refusal::NO_FIT, place);
         }
+        let contexts = self.scope.contexts.clone();
+        self.parsed.from_values.push(FromValue { row, value, contexts, runs });
         Ok(())
     }
 

@@ -7,6 +7,10 @@
 //! parameter target stands inside a send of its message": 14 at the assignment, after the tests of
 //! the ctx or message byte.
 //!
+//! Document 02, No. 9: "Accept average 27, maximum 29, minimum 30 and total 31 with an rse of one
+//! stream and a number, and count 28 with an rse only, ... the scope reaching over the number";
+//! "at the statistic's code 13 over text or date".
+//!
 //! Document 02, No. 8: "a type 16 field may stand in a dictionary but a version 4 request that names
 //! it gets 13 at the field code"; in version 5 "a quotient has the sum of the two scales".
 
@@ -16,8 +20,9 @@ use crate::datatype::{self, Kind};
 use crate::decimal;
 use crate::refusal::{self, refuse, Refusal};
 use crate::wire::{
-    self, ADD, FID, FIELD, INT64, LEFT_OUT_LITERALS, LEFT_OUT_VALUES, LITERAL, LONG, MULTIPLY,
-    NEGATE, PARAMETER, PARAMETER2, SHORT, SUBTRACT, TARGETS, VALUES, VERSION5,
+    self, ADD, COUNT, FID, FIELD, INT64, LEFT_OUT_LITERALS, LEFT_OUT_VALUES, LITERAL, LONG,
+    MULTIPLY, NEGATE, PARAMETER, PARAMETER2, SHORT, STATISTICS, SUBTRACT, TARGETS, VALUES,
+    VERSION5,
 };
 
 const TEXT_SHAPE: Shape = Shape { kind: Kind::Text, scale: 0 };
@@ -45,6 +50,7 @@ impl Reader<'_> {
                 self.parameter(place, code, message)
             }
             NEGATE => self.negate(place, level),
+            _ if STATISTICS.contains(&code) => self.statistic(place, code, level),
             _ => self.arithmetic(place, code, level),
         }
     }
@@ -127,6 +133,23 @@ impl Reader<'_> {
             return refuse(refusal::NO_FIT, place);
         }
         Ok(Value { place, shape: operand.shape, form: Form::Negate(Box::new(operand)) })
+    }
+
+    /// The rse of a statistic and its number, then the number's fit.
+    fn statistic(&mut self, place: usize, code: u8, level: usize) -> Result<Value, Refusal> {
+        let selection = Box::new(self.selection(place, code, level + 1)?);
+        if code == COUNT {
+            self.close_scope(1);
+            let form = Form::Statistic(code, selection, None);
+            return Ok(Value { place, shape: number(0), form });
+        }
+        let operand = self.value(level + 1)?;
+        self.close_scope(1);
+        if operand.shape.kind != Kind::Number {
+            return refuse(refusal::NO_FIT, place);
+        }
+        let shape = operand.shape;
+        Ok(Value { place, shape, form: Form::Statistic(code, selection, Some(Box::new(operand))) })
     }
 
     /// The two operands of an operator, then their fit.

@@ -12,9 +12,9 @@ use Rattle.classes.proofs.value_class.Tie as tie
 abbrev arms : List (List ℕ)
 arms =
     each
-    (blr.literal ∷ blr.field ∷ blr.fid ∷ blr.parameter ∷ blr.parameter2 ∷ blr.add ∷ blr.subtract ∷ blr.multiply ∷
-    blr.divide ∷ blr.negate ∷ [])
-    ((blr.dbkey ∷ []) ∷ [])
+    (blr.literal ∷ blr.field ∷ blr.fid ∷ blr.parameter ∷ blr.parameter2 ∷ blr.average ∷ blr.count ∷ blr.maximum ∷
+    blr.minimum ∷ blr.total ∷ blr.add ∷ blr.subtract ∷ blr.multiply ∷ blr.divide ∷ blr.negate ∷ [])
+    ((blr.dbkey ∷ blr.variable ∷ []) ∷ [])
 
 returns : tie.Need-returns
 unfolding valueClass classify
@@ -57,28 +57,40 @@ unfolding valueClass classify
 returns-10 c = ap valueClass (sym (c .match .keys10))
 
 returns-11 : tie.Need-returns-11
-unfolding valueClass classify among anyOf
-returns-11 c = between foreign valueClass [] 0 21 refl (c .before .before .args .code) tt (search needs) (search needs)
+unfolding valueClass classify
+returns-11 c = ap valueClass (sym (c .match .keys11))
 
 returns-12 : tie.Need-returns-12
-unfolding valueClass classify among anyOf
-returns-12 c = between foreign valueClass [] 32 34 refl (c .before .before .before .before .args .code) tt (search needs) (search needs)
+unfolding valueClass classify
+returns-12 c = ap valueClass (sym (c .match .keys12))
 
 returns-13 : tie.Need-returns-13
-unfolding valueClass classify among anyOf
-returns-13 c = between foreign valueClass [] 46 256 refl (c .before .before .before .before .before .args .code) tt (search needs) (search needs)
+unfolding valueClass classify
+returns-13 c = ap valueClass (sym (c .match .keys13))
 
 returns-14 : tie.Need-returns-14
-unfolding valueClass classify among anyOf
-returns-14 c = at-key leftOut valueClass (blr.dbkey ∷ []) refl _ (c .match .keys11)
+unfolding valueClass classify
+returns-14 c = ap valueClass (sym (c .match .keys14))
 
 returns-15 : tie.Need-returns-15
-unfolding valueClass classify among anyOf
-returns-15 c = between leftOut valueClass arms 21 32 refl _ (c .before .before .match .rest) (search needs) (search needs)
+unfolding valueClass classify
+returns-15 c = ap valueClass (sym (c .match .keys15))
 
 returns-16 : tie.Need-returns-16
 unfolding valueClass classify among anyOf
-returns-16 c = between leftOut valueClass arms 34 46 refl _ (c .before .before .before .before .match .rest) (search needs) (search needs)
+returns-16 c = between foreign valueClass arms 0 34 refl _ (c .before .match .rest) (search needs) (search needs)
+
+returns-17 : tie.Need-returns-17
+unfolding valueClass classify among anyOf
+returns-17 c = between foreign valueClass [] 46 256 refl (c .before .before .before .args .code) tt (search needs) (search needs)
+
+returns-18 : tie.Need-returns-18
+unfolding valueClass classify among anyOf
+returns-18 c = at-key leftOut valueClass (blr.dbkey ∷ blr.variable ∷ []) refl _ (c .match .keys16)
+
+returns-19 : tie.Need-returns-19
+unfolding valueClass classify among anyOf
+returns-19 c = between leftOut valueClass arms 34 46 refl _ (c .before .before .match .rest) (search needs) (search needs)
 
 pub value-class-spec : {M : Type 1} → statement M
 value-class-spec =
@@ -99,4 +111,7 @@ value-class-spec =
     returns-13
     returns-14
     returns-15
-    returns-16)
+    returns-16
+    returns-17
+    returns-18
+    returns-19)

@@ -1,34 +1,23 @@
--- `input::is_number` meets its contract. By the two tests. Assumes nothing.
+-- `input::is_number` meets its contract. By the test of each kind. Assumes nothing.
 use Rattle.input.specs.Evaluation.{wholeNumber}
 use mathlib.Core.Path.{sym, _∙_}
-use borrow.Author.Tests.{not-true, not-false}
 use borrow.Author.Needs.{needs}
 use Rattle.input.proofs.is_number.Statement.{statement}
 use Rattle.input.proofs.is_number.Tie as tie
 
-is-whole-requires : tie.Need-is-whole-requires
-is-whole-requires c κs = search needs
+is-word-requires : tie.Need-is-word-requires
+is-word-requires c κs = search needs
 
 returns : tie.Need-returns
 unfolding wholeNumber
-returns c =
-    let is-whole′ = c .before .is-whole in
-    let if1′ = c .if1 in
-    rw (wholeNumber, sym (is-whole′ .ensures) ∙ not-true (is-whole′ .result) (if1′ .taken))
+returns c = rw (wholeNumber, sym (c .before .is-word .ensures) ∙ c .if1 .taken)
 
-word-at-requires : tie.Need-word-at-requires
-word-at-requires c κs = search needs
-
-cast-result : tie.Need-cast-result
-cast-result c = search needs
+is-word-requires-2 : tie.Need-is-word-requires-2
+is-word-requires-2 c κs = search needs
 
 returns-2 : tie.Need-returns-2
 unfolding wholeNumber
-returns-2 c =
-    let is-whole′ = c .before .before .is-whole in
-    let if1′ = c .before .if1 in
-    let word-at′ = c .word-at in
-    rw (wholeNumber, sym (is-whole′ .ensures) ∙ not-false (is-whole′ .result) (if1′ .left), ← word-at′ .ensures .0)
+returns-2 c = rw (wholeNumber, sym (c .before .before .is-word .ensures) ∙ c .before .if1 .left, ← c .is-word2 .ensures)
 
 pub is-number-spec : {M : Type 1} → statement M
-is-number-spec = tie.close (tie.spec is-whole-requires returns word-at-requires cast-result returns-2)
+is-number-spec = tie.close (tie.spec is-word-requires returns is-word-requires-2 returns-2)

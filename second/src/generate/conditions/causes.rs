@@ -29,6 +29,7 @@ fn number(sheet: &mut Sheet, cause: Cause) -> Vec<u8> {
         Cause::Bit => sheet.field(&reading(0, u16::MAX), true),
         Cause::Reading => sheet.field(&reading(0, u16::MAX), false),
         Cause::Flag => sheet.flagged(&short(0, 1), &short(0, -1)),
+        Cause::Nothing => unreachable!("a field or parameter is never missing so"),
     }
 }
 

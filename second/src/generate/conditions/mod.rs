@@ -21,9 +21,11 @@ mod mixed;
 /// Numbers.
 mod numbers;
 /// Any and unique over runs.
-mod runs;
+pub(super) mod runs;
 /// One condition with what it names.
 mod sheet;
+/// Statistics over runs.
+pub(super) mod statistics;
 /// Texts.
 mod texts;
 /// Version 5: 64-bit integers and its quotients.
@@ -32,6 +34,7 @@ mod wide;
 use super::evaluations::{self, outcome, Outcome};
 use super::rng::Rng;
 use super::{Case, Size};
+use crate::dictionary::Relation;
 use crate::evaluator::Answer;
 use crate::record::Cause;
 use crate::refusal::{MALFORMED_TEXT, OVERFLOW, ZERO_DIVISOR};
@@ -41,7 +44,7 @@ use crate::wire::{EQL, GEQ, GTR, LEQ, LSS, NEQ};
 const COMPARISONS: [u8; 6] = [EQL, NEQ, GTR, GEQ, LSS, LEQ];
 
 /// The outcomes that conditions at random are made for, in turn.
-const WANTED: [Outcome; 10] = [
+const WANTED: [Outcome; 11] = [
     Ok(Answer::True),
     Ok(Answer::False),
     Ok(Answer::Missing(Cause::Bit)),
@@ -52,6 +55,7 @@ const WANTED: [Outcome; 10] = [
     Err(MALFORMED_TEXT),
     Err(OVERFLOW),
     Err(ZERO_DIVISOR),
+    Ok(Answer::Missing(Cause::Nothing)),
 ];
 
 /// The first conditions of a seed.
@@ -154,7 +158,18 @@ fn later() -> Vec<Vec<Case>> {
         runs::in_order(),
         runs::outer(),
         runs::versions(),
+        statistics::tests(),
+        statistics::in_tests(),
+        statistics::at_ends(),
+        statistics::in_runs(),
+        statistics::in_sorts(),
+        statistics::versions(),
     ]
+}
+
+/// The relation of a run's beds, with fields of these types.
+pub(super) fn bed_relation(fields: &[sheet::FieldValue]) -> Relation {
+    sheet::relation(2, fields)
 }
 
 /// The condition at random of a seed with an index, of the outcome whose turn it is.

@@ -14,39 +14,46 @@ use crate::wire::{
 const CODES: [u8; 2] = [ANY, UNIQUE];
 
 /// A bed: its number, its heat, its name's length word, which may be above 2.
-type Bed = (i16, u16, u16);
+pub type Bed = (i16, u16, u16);
 
 /// The fields of a bed.
-fn fields((number, heat, length): Bed) -> Vec<FieldValue> {
+pub fn fields((number, heat, length): Bed) -> Vec<FieldValue> {
     let name = varying(length, b"ab");
     vec![(short(0, number), false), (reading(-1, heat), false), (name, false)]
 }
 
 /// The record of a bed of relation 2.
-fn bed(bed: Bed) -> Vec<u8> {
+pub fn bed(bed: Bed) -> Vec<u8> {
     let fields = fields(bed);
     record(&relation(2, &fields), &fields)
 }
 
+/// The record of a bed whose heat has its missing bit, with the heat beneath it.
+pub fn marked(number: i16, heat: u16) -> Vec<u8> {
+    let mut fields = fields((number, heat, 1));
+    fields[1].1 = true;
+    record(&relation(2, &fields), &fields)
+}
+
 /// A run of beds.
-fn run(beds: &[Bed]) -> Vec<u8> {
+pub fn run(beds: &[Bed]) -> Vec<u8> {
     let records: Vec<Vec<u8>> = beds.iter().map(|one| bed(*one)).collect();
     data::run(&records)
 }
 
 /// A run of beds with these heats, numbered from 1 on.
-fn heats(heats: &[u16]) -> Vec<u8> {
+pub fn heats(heats: &[u16]) -> Vec<u8> {
     let beds: Vec<Bed> = heats.iter().zip(1..).map(|(heat, number)| (number, *heat, 1)).collect();
     run(&beds)
 }
 
 /// An evaluation of a statement's first condition over records and runs of beds.
-fn evaluation(statement: &[u8], records: &[Vec<u8>], runs: &[Vec<u8>]) -> Case {
+pub fn evaluation(statement: &[u8], records: &[Vec<u8>], runs: &[Vec<u8>]) -> Case {
     evaluation_of(VERSION4, statement, records, runs)
 }
 
 /// An evaluation of a request of a version.
-fn evaluation_of(version: u8, statement: &[u8], records: &[Vec<u8>], runs: &[Vec<u8>]) -> Case {
+pub fn evaluation_of(version: u8, statement: &[u8], records: &[Vec<u8>], runs: &[Vec<u8>]) -> Case {
     let relations = vec![relation(2, &fields((0, 0, 0)))];
     Case::Evaluate {
         dictionary: dictionaries::encode(&Dictionary { relations }),
@@ -59,22 +66,22 @@ fn evaluation_of(version: u8, statement: &[u8], records: &[Vec<u8>], runs: &[Vec
 }
 
 /// An evaluation of an if over runs.
-fn when(boolean: &[u8], runs: &[Vec<u8>]) -> Case {
+pub fn when(boolean: &[u8], runs: &[Vec<u8>]) -> Case {
     evaluation(&[&[IF], boolean, &NOTHING, &[END]].concat(), &[], runs)
 }
 
 /// Any or unique over the beds in a context, with a condition.
-fn with(code: u8, context: u8, condition: &[u8]) -> Vec<u8> {
+pub fn with(code: u8, context: u8, condition: &[u8]) -> Vec<u8> {
     over(code, &rid(2, context), &[&[BOOLEAN], condition].concat())
 }
 
 /// Whether the bed of a context is above thirty.
-fn is_warm(context: u8) -> Vec<u8> {
+pub fn is_warm(context: u8) -> Vec<u8> {
     operator(GTR, &[&fid(context, 1), &assemble::short(0, 30)])
 }
 
 /// A bed that is warm, one that is not, and one whose heat is missing.
-const HEATS: [u16; 3] = [301, 300, 65_535];
+pub const HEATS: [u16; 3] = [301, 300, 65_535];
 
 /// Every choice of no, one, two and three beds that are warm, cold or missing.
 pub fn kept() -> Vec<Case> {

@@ -21,6 +21,12 @@ enum-known-code-2 c = search needs
 enum-told-2 : tie.Need-enum-told-2
 enum-told-2 c = search needs
 
+enum-known-code-3 : tie.Need-enum-known-code-3
+enum-known-code-3 c = search needs
+
+enum-told-3 : tie.Need-enum-told-3
+enum-told-3 c = search needs
+
 -- src/forms.rt:51:1
 returns : tie.Need-returns
 returns c = search needs
@@ -37,6 +43,12 @@ returns-3 c = sym (c .before .code2 .given .1)
 returns-4 : tie.Need-returns-4
 returns-4 c = search needs
 
+returns-5 : tie.Need-returns-5
+returns-5 c = sym (c .before .code3 .given .1)
+
+returns-6 : tie.Need-returns-6
+returns-6 c = search needs
+
 pub value-form-spec : {M : Type 1} → statement M
 value-form-spec =
     tie.close
@@ -45,7 +57,11 @@ value-form-spec =
     enum-known-code
     enum-known-code-2
     enum-told-2
+    enum-known-code-3
+    enum-told-3
     returns
     returns-2
     returns-3
-    returns-4)
+    returns-4
+    returns-5
+    returns-6)

@@ -3,7 +3,7 @@ use Prim.Native.Nat.{_+_}
 use mathlib.Core.Path.{refl}
 use native.Mathlib.Omega.{arith}
 use Rattle.wire.specs.declared.codes.TextType.the-variants.{Text}
-use Rattle.values.specs.declared.Source.the-variants.{Request}
+use Rattle.meaning.specs.declared.Source.the-variants.{Request}
 use Rattle.inputs.proofs.TextLaws.{text-literal}
 use Rattle.inputs.proofs.LiteralLaws.{width-small, number-literal, text-walked}
 use borrow.Author.Needs.{needs}

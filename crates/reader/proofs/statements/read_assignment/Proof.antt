@@ -31,9 +31,10 @@ same-length c = search needs
 returns : tie.Need-returns
 returns c =
     let args′ = c .before .before .before .before .before .before .before .before .before .before .args in
+    let pre′ = c .before .before .before .before .before .before .before .before .before .before .pre in
     let read-value′ = c .before .before .before .before .read-value in
     let enum-told′ = c .enum-told in
-    assignment-stopped _ _ _ _ (args′ .x) (read-value′ .ensures) (enum-told′ .given .1)
+    assignment-stopped _ _ _ _ (args′ .x) (read-value′ .ensures (pre′ .0)) (enum-told′ .given .1)
 
 -- src/statements.rt:328:9
 read-target-requires : tie.Need-read-target-requires
@@ -55,11 +56,12 @@ same-length-2 c = search needs
 returns-2 : tie.Need-returns-2
 returns-2 c =
     let args′ = c .before .before .before .before .before .before .before .before .before .before .before .before .before .before .args in
+    let pre′ = c .before .before .before .before .before .before .before .before .before .before .before .before .before .before .pre in
     let read-value′ = c .before .before .before .before .before .before .before .before .read-value in
     let v′ = c .before .before .before .before .v in
     let read-target′ = c .before .before .read-target in
     let enum-told2′ = c .enum-told2 in
-    target-stopped _ _ _ _ (args′ .x) (read-value′ .ensures) (v′ .given .1) (read-target′ .ensures) (enum-told2′ .given .1)
+    target-stopped _ _ _ _ (args′ .x) (read-value′ .ensures (pre′ .0)) (v′ .given .1) (read-target′ .ensures) (enum-told2′ .given .1)
 
 -- src/statements.rt:332:12
 one-kind-requires : tie.Need-one-kind-requires
@@ -84,7 +86,7 @@ returns-3 c =
     let t′ = c .before .before .before .t in
     let tested′ = c .tested in
     let one-kind′ = c .before .one-kind in
-    assignment-wrote _ _ _ _ (args′ .x) (read-value′ .ensures) (v′ .given .1) (read-target′ .ensures) (pre′) (t′ .given .1) (tested′ .ensures ∙ ap (λ b. testStep b (args′ .x .at) (t′ .given .0 .1 .0)) (one-kind′ .ensures))
+    assignment-wrote _ _ _ _ (args′ .x) (read-value′ .ensures (pre′ .0)) (v′ .given .1) (read-target′ .ensures) (pre′ .1) (t′ .given .1) (tested′ .ensures ∙ ap (λ b. testStep b (args′ .x .at) (t′ .given .0 .1 .0)) (one-kind′ .ensures))
 
 pub read-assignment-spec : {M : Type 1} → statement M
 read-assignment-spec =

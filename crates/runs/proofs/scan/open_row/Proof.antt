@@ -11,7 +11,7 @@ returns c =
     let args′ = c .before .before .before .before .before .before .args in
     let stop′ = c .stop in
     let if1′ = c .before .if1 in
-    open-full (args′ .dictionary .now) (args′ .request .now) (args′ .scan) (args′ .bindings .now) (stop′ .result) (if1′ .taken) (stop′ .ensures)
+    open-full (args′ .dictionary .now) (args′ .request .now) (args′ .scan) (args′ .bindings .now) (args′ .more) (stop′ .result) (if1′ .taken) (stop′ .ensures)
 
 add-opened-at : tie.Need-add-opened-at
 add-opened-at c = search needs
@@ -25,22 +25,26 @@ cast-put-row c = search needs
 put-row-requires : tie.Need-put-row-requires
 put-row-requires c κs = search needs
 
-add-t7 : tie.Need-add-t7
-add-t7 c = search needs
+add-t13 : tie.Need-add-t13
+add-t13 c = search needs
 
-cast-t11 : tie.Need-cast-t11
-cast-t11 c = search needs
+add-t14 : tie.Need-add-t14
+add-t14 c = search needs
+
+cast-t12 : tie.Need-cast-t12
+cast-t12 c = search needs
 
 same-length : tie.Need-same-length
 same-length c = search needs
 
 returns-2 : tie.Need-returns-2
 returns-2 c =
-    let args′ = c .before .before .before .before .before .before .before .before .before .before .before .before .before .before .args in
-    let opened-at′ = c .before .before .before .before .before .before .before .opened-at in
-    let put-row′ = c .before .before .before .before .put-row in
-    let if1′ = c .before .before .before .before .before .before .before .before .before .if1 in
-    open-room (args′ .dictionary .now) (args′ .request .now) (args′ .scan) (args′ .bindings .now) (opened-at′ .result) (put-row′ .last .0) (if1′ .left) (opened-at′ .ensures) (put-row′ .ensures)
+    let args′ = c .before .before .before .before .before .before .before .before .before .before .before .before .before .before .before .args in
+    let fits′ = c .before .before .before .before .before .before .before .before .before .before .before .before .before .before .before .fits in
+    let opened-at′ = c .before .before .before .before .before .before .before .before .opened-at in
+    let put-row′ = c .before .before .before .before .before .put-row in
+    let if1′ = c .before .before .before .before .before .before .before .before .before .before .if1 in
+    open-room (args′ .dictionary .now) (args′ .request .now) (args′ .scan) (args′ .bindings .now) (args′ .more) (opened-at′ .result) (put-row′ .last .0) (if1′ .left) (opened-at′ .ensures) (put-row′ .ensures) (fits′ .more .fits)
 
 pub open-row-spec : {M : Type 1} → statement M
 open-row-spec =
@@ -52,7 +56,8 @@ open-row-spec =
     opened-at-requires
     cast-put-row
     put-row-requires
-    add-t7
-    cast-t11
+    add-t13
+    add-t14
+    cast-t12
     same-length
     returns-2)

@@ -73,29 +73,29 @@ go-on-requires-3 c κs = search needs
 enum-told-3 : tie.Need-enum-told-3
 enum-told-3 c = search needs
 
-add-go-on-6 : tie.Need-add-go-on-6
-add-go-on-6 c = search needs
-
 byte-on-requires-2 : tie.Need-byte-on-requires-2
 byte-on-requires-2 c κs = search needs
 
-cast-go-on-4 : tie.Need-cast-go-on-4
-cast-go-on-4 c = search needs
+cast-keys : tie.Need-cast-keys
+cast-keys c = search needs
 
-add-go-on-7 : tie.Need-add-go-on-7
-add-go-on-7 c = search needs
+add-pass-over : tie.Need-add-pass-over
+add-pass-over c = search needs
+
+pass-over-requires : tie.Need-pass-over-requires
+pass-over-requires c κs = search needs
 
 go-on-requires-4 : tie.Need-go-on-requires-4
 go-on-requires-4 c κs = search needs
 
-enum-told-4 : tie.Need-enum-told-4
-enum-told-4 c = search needs
+enum-known-form-2 : tie.Need-enum-known-form-2
+enum-known-form-2 c = search needs
 
 open-row-requires : tie.Need-open-row-requires
 open-row-requires c κs = search needs
 
-enum-told-5 : tie.Need-enum-told-5
-enum-told-5 c = search needs
+enum-told-4 : tie.Need-enum-told-4
+enum-told-4 c = search needs
 
 cast-note-such : tie.Need-cast-note-such
 cast-note-such c = search needs
@@ -106,20 +106,20 @@ add-note-such c = search needs
 note-such-requires : tie.Need-note-such-requires
 note-such-requires c κs = search needs
 
-add-go-on-8 : tie.Need-add-go-on-8
-add-go-on-8 c = search needs
+add-go-on-6 : tie.Need-add-go-on-6
+add-go-on-6 c = search needs
 
 go-on-requires-5 : tie.Need-go-on-requires-5
 go-on-requires-5 c κs = search needs
 
-enum-told-6 : tie.Need-enum-told-6
-enum-told-6 c = search needs
+enum-told-5 : tie.Need-enum-told-5
+enum-told-5 c = search needs
 
 close-row-requires : tie.Need-close-row-requires
 close-row-requires c κs = search needs
 
-enum-told-7 : tie.Need-enum-told-7
-enum-told-7 c = search needs
+enum-told-6 : tie.Need-enum-told-6
+enum-told-6 c = search needs
 
 stop-requires-2 : tie.Need-stop-requires-2
 stop-requires-2 c κs = search needs
@@ -152,23 +152,24 @@ returns-4 c =
 
 returns-5 : tie.Need-returns-5
 returns-5 c =
-    let args′ = c .before .before .before .before .before .before .before .before .before .before .args in
-    let form-of′ = c .before .before .before .before .form-of in
+    let args′ = c .before .before .before .before .before .before .before .before .before .before .before .args in
+    let form-of′ = c .before .before .before .before .before .form-of in
     let go-on4′ = c .go-on4 in
-    let byte-on2′ = c .before .byte-on2 in
-    let enum-told3′ = c .before .before .enum-told3 in
-    step-sort (args′ .dictionary .now) (args′ .request .now) (args′ .scan) (args′ .bindings .now) (form-of′ .result) (go-on4′ .result) (form-of′ .ensures) (byte-on2′ .result) (enum-told3′ .given .1) (byte-on2′ .ensures) (go-on4′ .ensures)
+    let byte-on2′ = c .before .before .byte-on2 in
+    let pass-over′ = c .before .pass-over in
+    let enum-told3′ = c .before .before .before .enum-told3 in
+    step-sort (args′ .dictionary .now) (args′ .request .now) (args′ .scan) (args′ .bindings .now) (form-of′ .result) (go-on4′ .result) (form-of′ .ensures) (byte-on2′ .result) (pass-over′ .result) (enum-told3′ .given .1) (byte-on2′ .ensures) (pass-over′ .ensures .0) (go-on4′ .ensures)
 
 same-length : tie.Need-same-length
 same-length c = search needs
 
 returns-6 : tie.Need-returns-6
 returns-6 c =
-    let args′ = c .before .before .before .before .before .before .before .before .before .before .before .before .args in
-    let form-of′ = c .before .before .before .before .before .before .form-of in
+    let args′ = c .before .before .before .before .before .before .before .before .before .before .before .before .before .args in
+    let form-of′ = c .before .before .before .before .before .before .before .form-of in
     let open-row′ = c .before .before .open-row in
-    let enum-told4′ = c .before .before .before .before .enum-told4 in
-    step-open (args′ .dictionary .now) (args′ .request .now) (args′ .scan) (args′ .bindings .now) (form-of′ .result) (open-row′ .result) (form-of′ .ensures) (open-row′ .last .1 .1 .0) (enum-told4′ .given .1) (open-row′ .ensures)
+    let form2′ = c .before .before .before .before .before .form2 in
+    step-open (args′ .dictionary .now) (args′ .request .now) (args′ .scan) (args′ .bindings .now) (form-of′ .result) (open-row′ .result) (form-of′ .ensures) _ (open-row′ .last .1 .1 .0) (form2′ .given .1) (open-row′ .ensures)
 
 same-length-2 : tie.Need-same-length-2
 same-length-2 c = search needs
@@ -179,8 +180,8 @@ returns-7 c =
     let form-of′ = c .before .before .before .before .before .before .before .form-of in
     let go-on5′ = c .go-on5 in
     let note-such′ = c .before .before .before .note-such in
-    let enum-told5′ = c .before .before .before .before .before .enum-told5 in
-    step-such (args′ .dictionary .now) (args′ .request .now) (args′ .scan) (args′ .bindings .now) (form-of′ .result) (go-on5′ .result) (form-of′ .ensures) (note-such′ .last .0) (enum-told5′ .given .1) (note-such′ .ensures) (go-on5′ .ensures)
+    let enum-told4′ = c .before .before .before .before .before .enum-told4 in
+    step-such (args′ .dictionary .now) (args′ .request .now) (args′ .scan) (args′ .bindings .now) (form-of′ .result) (go-on5′ .result) (form-of′ .ensures) (note-such′ .last .0) (enum-told4′ .given .1) (note-such′ .ensures) (go-on5′ .ensures)
 
 same-length-3 : tie.Need-same-length-3
 same-length-3 c = search needs
@@ -190,16 +191,16 @@ returns-8 c =
     let args′ = c .before .before .before .before .before .before .before .before .before .before .before .before .args in
     let form-of′ = c .before .before .before .before .before .before .form-of in
     let close-row′ = c .before .before .close-row in
-    let enum-told6′ = c .before .before .before .before .enum-told6 in
-    step-close (args′ .dictionary .now) (args′ .request .now) (args′ .scan) (args′ .bindings .now) (form-of′ .result) (close-row′ .result) (form-of′ .ensures) (close-row′ .last .0) (enum-told6′ .given .1) (close-row′ .ensures)
+    let enum-told5′ = c .before .before .before .before .enum-told5 in
+    step-close (args′ .dictionary .now) (args′ .request .now) (args′ .scan) (args′ .bindings .now) (form-of′ .result) (close-row′ .result) (form-of′ .ensures) (close-row′ .last .1 .0) (enum-told5′ .given .1) (close-row′ .ensures)
 
 returns-9 : tie.Need-returns-9
 returns-9 c =
     let args′ = c .before .before .before .before .before .before .before .before .before .args in
     let form-of′ = c .before .before .before .form-of in
     let stop2′ = c .stop2 in
-    let enum-told7′ = c .before .enum-told7 in
-    step-other (args′ .dictionary .now) (args′ .request .now) (args′ .scan) (args′ .bindings .now) (form-of′ .result) (stop2′ .result) (form-of′ .ensures) (enum-told7′ .given .1) (stop2′ .ensures)
+    let enum-told6′ = c .before .enum-told6 in
+    step-other (args′ .dictionary .now) (args′ .request .now) (args′ .scan) (args′ .bindings .now) (form-of′ .result) (stop2′ .result) (form-of′ .ensures) (enum-told6′ .given .1) (stop2′ .ensures)
 
 pub step-spec : {M : Type 1} → statement M
 step-spec =
@@ -227,22 +228,22 @@ step-spec =
     add-go-on-5
     go-on-requires-3
     enum-told-3
-    add-go-on-6
     byte-on-requires-2
-    cast-go-on-4
-    add-go-on-7
+    cast-keys
+    add-pass-over
+    pass-over-requires
     go-on-requires-4
-    enum-told-4
+    enum-known-form-2
     open-row-requires
-    enum-told-5
+    enum-told-4
     cast-note-such
     add-note-such
     note-such-requires
-    add-go-on-8
+    add-go-on-6
     go-on-requires-5
-    enum-told-6
+    enum-told-5
     close-row-requires
-    enum-told-7
+    enum-told-6
     stop-requires-2
     returns-2
     returns-3

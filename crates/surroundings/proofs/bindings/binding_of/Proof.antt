@@ -13,7 +13,7 @@ use Rattle.surroundings.proofs.bindings.binding_of.Tie as tie
 abbrev Inv-loop : tie.InvT-loop
 Inv-loop bindings number rows row₀ row =
     (rowBinding bindings (number .0) (rowsIn bindings) 0 ≡ rowBinding bindings (number .0) (rows - row) row)
-    × (row ≤ rows) × (rows * 8 ≤ length bindings)
+    × (row ≤ rows) × (rows * 10 ≤ length bindings)
 
 abbrev μ-loop : tie.MeasureT-loop
 μ-loop bindings number rows row₀ row = rows - row
@@ -21,7 +21,7 @@ abbrev μ-loop : tie.MeasureT-loop
 loop-holds : tie.Need-loop-holds Inv-loop μ-loop
 loop-holds c =
     let args′ = c .before .args in
-    let k : length (args′ .bindings .now) / 8 - 0 ≡ length (args′ .bindings .now) / 8 = omega arith in
+    let k : length (args′ .bindings .now) / 10 - 0 ≡ length (args′ .bindings .now) / 10 = omega arith in
     (rw k, omega arith, omega arith)
 
 binds-at-requires : tie.Need-binds-at-requires Inv-loop μ-loop
@@ -34,7 +34,7 @@ returns c =
     let loop-test′ = c .before .before .loop-test in
     let binds-at′ = c .before .binds-at in
     let if1′ = c .if1 in
-    let rows = length (args′ .bindings .now) / 8 in
+    let rows = length (args′ .bindings .now) / 10 in
     binding-here (args′ .bindings .now) (args′ .number .0) rows (loop′ .row) (loop-test′ .taken) (sym (binds-at′ .ensures) ∙ if1′ .taken)
     ∙ sym (ap boundAnswer (loop′ .inv .0))
 
@@ -51,7 +51,7 @@ loop-again c =
     let loop-test′ = c .before .before .loop-test in
     let binds-at′ = c .before .binds-at in
     let if1′ = c .if1 in
-    let rows = length (args′ .bindings .now) / 8 in
+    let rows = length (args′ .bindings .now) / 10 in
     let next =
     binding-next (args′ .bindings .now) (args′ .number .0) rows (loop′ .row) (loop-test′ .taken) (sym (binds-at′ .ensures) ∙ if1′ .left) in
     (loop′ .inv .0 ∙ next, omega arith, loop′ .inv .2)
@@ -61,7 +61,7 @@ returns-2 c =
     let args′ = c .before .before .before .args in
     let loop′ = c .before .loop in
     let loop-test′ = c .loop-test in
-    let rows = length (args′ .bindings .now) / 8 in
+    let rows = length (args′ .bindings .now) / 10 in
     binding-end (args′ .bindings .now) (args′ .number .0) rows (loop′ .row) (loop-test′ .left) ∙ sym (ap boundAnswer (loop′ .inv .0))
 
 pub binding-of-spec : {M : Type 1} → statement M

@@ -12,7 +12,7 @@ use Rattle.surroundings.proofs.bindings.row_coded.Tie as tie
 
 abbrev Inv-loop : tie.InvT-loop
 Inv-loop bindings at rows row₀ row =
-    (rowCoded bindings at (rowsIn bindings) 0 ≡ rowCoded bindings at (rows - row) row) × (row ≤ rows) × (rows * 8 ≤ length bindings)
+    (rowCoded bindings at (rowsIn bindings) 0 ≡ rowCoded bindings at (rows - row) row) × (row ≤ rows) × (rows * 10 ≤ length bindings)
 
 abbrev μ-loop : tie.MeasureT-loop
 μ-loop bindings at rows row₀ row = rows - row
@@ -20,7 +20,7 @@ abbrev μ-loop : tie.MeasureT-loop
 loop-holds : tie.Need-loop-holds Inv-loop μ-loop
 loop-holds c =
     let args′ = c .before .args in
-    let k : length (args′ .bindings .now) / 8 - 0 ≡ length (args′ .bindings .now) / 8 = omega arith in
+    let k : length (args′ .bindings .now) / 10 - 0 ≡ length (args′ .bindings .now) / 10 = omega arith in
     (rw k, omega arith, omega arith)
 
 mul-number-at : tie.Need-mul-number-at Inv-loop μ-loop
@@ -42,7 +42,7 @@ returns c =
     let loop-test′ = c .before .before .loop-test in
     let number-at′ = c .before .number-at in
     let if1′ = c .if1 in
-    let rows = length (args′ .bindings .now) / 8 in
+    let rows = length (args′ .bindings .now) / 10 in
     coded-here (args′ .bindings .now) (args′ .at) rows (loop′ .row) (loop-test′ .taken) (number-at′ .result) (number-at′ .ensures) (if1′
     .taken)
     ∙ sym (ap boundAnswer (loop′ .inv .0))
@@ -60,7 +60,7 @@ loop-again c =
     let loop-test′ = c .before .before .loop-test in
     let number-at′ = c .before .number-at in
     let if1′ = c .if1 in
-    let rows = length (args′ .bindings .now) / 8 in
+    let rows = length (args′ .bindings .now) / 10 in
     let next =
     coded-next (args′ .bindings .now) (args′ .at) rows (loop′ .row) (loop-test′ .taken) (number-at′ .result) (number-at′ .ensures) (if1′
     .left) in
@@ -71,7 +71,7 @@ returns-2 c =
     let args′ = c .before .before .before .args in
     let loop′ = c .before .loop in
     let loop-test′ = c .loop-test in
-    let rows = length (args′ .bindings .now) / 8 in
+    let rows = length (args′ .bindings .now) / 10 in
     coded-end (args′ .bindings .now) (args′ .at) rows (loop′ .row) (loop-test′ .left) ∙ sym (ap boundAnswer (loop′ .inv .0))
 
 pub row-coded-spec : {M : Type 1} → statement M

@@ -1,6 +1,6 @@
 use Rattle.reader.proofs.StatementLaws.{assignment-coded, erase-coded, leave-coded, begin-coded}
 use Rattle.reader.proofs.Matches.{holding-told}
-use Rattle.reader.proofs.Ready.{below-given, below-inside}
+use Rattle.reader.proofs.Ready.{below-given, below-ready, below-inside}
 use mathlib.Core.Path.{refl}
 use Prim.Native.Nat.{ℕ}
 use native.Mathlib.Omega.{arith}
@@ -25,7 +25,11 @@ pub enum-told : (t : ℕ) → read-coded-lts.Need-enum-told (calls t) (read-code
 enum-told t c = search needs
 
 pub read-assignment-requires : (t : ℕ) → read-coded-lts.Need-read-assignment-requires (calls t) (read-coded-at t) read-coded.Post
-read-assignment-requires t c κs = search needs
+read-assignment-requires t c κs =
+    let below′ = c .before .before .before .below in
+    let pre′ = c .before .before .before .before .before .before .before .before .before .before .pre in
+    let args′ = c .before .before .before .before .before .before .before .before .before .before .args in
+    below-ready (args′ .level) (pre′ .1) (below′ .ensures)
 
 pub enum-told-2 : (t : ℕ) → read-coded-lts.Need-enum-told-2 (calls t) (read-coded-at t) read-coded.Post
 enum-told-2 t c = search needs
