@@ -13,3 +13,4 @@ pub mod Ordered
 pub mod Parts
 pub mod Working
 pub mod Worked
+pub mod PlainSums

@@ -1,6 +1,6 @@
 -- The theorem on comparing: two numbers compare as their whole parts, cut toward zero, and where these are equal as their signed fractions. Assumes nothing.
 -- It is about `compared`, which `compare` promises. It asks nothing of the scales: in both, one outside -18 to 0 counts as the nearest of these.
-use Prim.Native.Nat.{ℕ, suc, _+_, _-_, _*_, _/_, _%_, _^_, _≤_, _<_}
+use Prim.Native.Nat.{ℕ, suc, _+_, _-_, _*_, _/_, _%_, _^_, max, _≤_, _<_}
 use mathlib.Core.Path.{_≡_, refl, sym, ap, ap₂, _∙_}
 use mathlib.Core.Bool.{Bool, true, false}
 use native.Mathlib.Omega.{arith}
@@ -12,11 +12,12 @@ use lib.Signed.{quotZ, remZ}
 use Rattle.wire.specs.declared.order.Order.{Order}
 use Rattle.wire.specs.declared.order.Order.the-variants.{Less, Equal, Greater}
 use Rattle.decimal.specs.declared.Number.{Number}
-use Rattle.decimal.specs.Number.{places, valueAt, common, compared}
+use Rattle.decimal.specs.Number.{places, scaleOf, scaled, valueAt, common, compared}
 use Rattle.wire.specs.Orders.{orderℤ, whereEqual}
 use Rattle.decimal.specs.Internal.Signs.{isNegative, signed}
 use Rattle.decimal.specs.Comparing.{wholePart, fractionAt, byParts}
-use Rattle.decimal.proofs.Scales.{places-le}
+use Rattle.decimal.proofs.Fitted.{raised-by-none}
+use Rattle.decimal.proofs.Scales.{places-le, places-scale}
 use Rattle.decimal.proofs.Signed.{product-signed}
 use Rattle.decimal.proofs.Ordered.{signed-parts, common-factor, equal-only, equal-itself}
 
@@ -126,3 +127,34 @@ pub fractions-decide : (a b : Number) → wholePart a ≡ wholePart b
     → compared a b ≡ orderℤ (fractionAt (common a b) a) (fractionAt (common a b) b)
 unfolding byParts
 fractions-decide a b e = compares-by-parts a b ∙ rw (e, equal-itself (wholePart b))
+
+-- numbers of one scale are in the order of their values
+own-places : (x a : ℤ) → valueAt (places a) (scaled x a) ≡ x
+own-places x a = let z : places a - places a ≡ 0 = omega arith in ap (λ (k : ℕ). x *ℤ pos (10 ^ k)) z ∙ raised-by-none x
+
+pub same-scale-order : (x y a : ℤ) → compared (scaled x a) (scaled y a) ≡ orderℤ x y
+same-scale-order x y a =
+    let l : places a ≤ places a = omega arith in
+    compared-at (places a) (scaled x a) (scaled y a) l l (places-le a) ∙ ap₂ orderℤ (own-places x a) (own-places y a)
+
+-- the order by parts asks for the places alone
+parts-at : ℤ → ℕ → ℤ → ℕ → Order
+parts-at x p y q =
+    whereEqual (orderℤ (quotZ x (pos (10 ^ p))) (quotZ y (pos (10 ^ q))))
+    (orderℤ (remZ x (pos (10 ^ p)) *ℤ pos (10 ^ (max p q - p))) (remZ y (pos (10 ^ q)) *ℤ pos (10 ^ (max p q - q))))
+
+parts-are : (x a y b : ℤ) → byParts (scaled x a) (scaled y b) ≡ parts-at x (places a) y (places b)
+unfolding byParts wholePart fractionAt parts-at
+parts-are x a y b = refl
+
+by-places : (x a y b : ℤ) → byParts (scaled x (scaleOf (places a))) (scaled y (scaleOf (places b))) ≡ byParts (scaled x a) (scaled y b)
+by-places x a y b =
+    parts-are x (scaleOf (places a)) y (scaleOf (places b))
+    ∙ ap₂ (λ (p q : ℕ). parts-at x p y q) (places-scale (places a) (places-le a)) (places-scale (places b) (places-le b))
+    ∙ sym (parts-are x a y b)
+
+-- the order by parts that a call found of two values and their places
+pub parts-found : (a b : Number) {r : Order} {x y : ℤ} {p q : ℕ} → r ≡ byParts (scaled x (scaleOf p)) (scaled y (scaleOf q))
+    → x ≡ a .value → y ≡ b .value → p ≡ places (a .scale) → q ≡ places (b .scale) → r ≡ compared a b
+parts-found a b e f g h k =
+    e ∙ rw (f, g, h, k) (by-places (a .value) (a .scale) (b .value) (b .scale) ∙ sym (compares-by-parts a b))

@@ -36,6 +36,11 @@ unfolding places
 places-le (pos n) = omega arith
 places-le (negsuc n) = min-le-left 18 (suc n)
 
+pub places-scale : (k : ℕ) → k ≤ 18 → places (scaleOf k) ≡ k
+unfolding places
+places-scale zero h = refl
+places-scale (suc n) h = min-eq-right h
+
 -- the places that a call found of a scale
 pub places-found : (z : ℤ) {k : ℕ} → mag z < 2 ^ 7 → k ≡ places (toZ w8 (ofZ w8 z)) → k ≡ places z
 places-found z h e = e ∙ ap places (read-back w8 z h)

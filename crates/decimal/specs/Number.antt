@@ -14,6 +14,10 @@ use Rattle.decimal.specs.declared.Number.{Number}
 use Rattle.decimal.specs.declared.Computed.{Computed}
 use Rattle.decimal.specs.declared.Computed.the-variants.{Value, Overflow, ZeroDivisor}
 
+-- the number of a value and a scale
+abbrev pub scaled : ℤ → ℤ → Number
+scaled x a = record { value = x; scale = a }
+
 -- 01: "arithmetic -18 to 0"
 abbrev pub maxPlaces : ℕ
 maxPlaces = 18

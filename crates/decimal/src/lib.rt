@@ -1,9 +1,13 @@
 // Scaled numbers: a signed 64-bit value with a scale, a signed byte from -18 to 0. The number is the value times ten to the scale.
 ghost use mathlib.Core.Path.{_≡_};
-ghost use Rattle.decimal.specs.Number.{places, rescaled, added, subtracted, multiplied, quotient, quotient5, negated, computed, compared};
+ghost use Rattle.decimal.specs.Number.{places, rescaled, added, subtracted, multiplied, quotient, quotient5, negated, computed};
+ghost use Rattle.decimal.specs.Number.{compared, scaled};
+ghost use Rattle.decimal.specs.Internal.Plain.{hasPlaces, PlainSum};
 use wire::codes::Operator;
 use wire::codes::Version;
+use wire::limits::MIN_ARITHMETIC_SCALE;
 use wire::order::Order;
+use wire::order::signed_order;
 
 mod order;
 mod places;
@@ -113,5 +117,39 @@ pub fn compute(v: Version, o: Operator, a: Number, b: Number) -> Computed
 pub fn compare(a: Number, b: Number) -> Order
     ensures { λ r. ⌜ r ≡ compared a b ⌝ }
 {
-    order::by_parts(a, b)
+    let x = a.value;
+    let y = b.value;
+    order::by_parts(x, places::places_in(a), y, places::places_in(b))
+}
+
+// The same by values and scales. Numbers of one scale are in the order of their values, and no part of them is worked out.
+pub fn order_of(x: i64, a: i8, y: i64, b: i8) -> Order
+    ensures { λ r. ⌜ r ≡ compared (scaled x a) (scaled y b) ⌝ }
+{
+    if a == b {
+        return signed_order(x, y);
+    }
+    order::by_parts(x, places::places_of(a), y, places::places_of(b))
+}
+
+// Whether a scale is one that arithmetic has.
+fn has_places(scale: i8) -> bool
+    ensures { λ r. ⌜ r ≡ hasPlaces scale ⌝ }
+{
+    if 0 < scale {
+        return false;
+    }
+    MIN_ARITHMETIC_SCALE <= scale
+}
+
+// Whether two numbers have one scale that arithmetic has, and the sum of their values fits: it is their sum then, at that scale.
+pub fn sums_plainly(x: i64, a: i8, y: i64, b: i8) -> bool
+    ensures { λ r. ⌜ PlainSum x a y b r ⌝ }
+{
+    if a == b {
+        if has_places(a) {
+            return values::sum_fits(x, y);
+        }
+    }
+    false
 }

@@ -3,10 +3,8 @@ ghost use mathlib.Core.Path.{_≡_};
 ghost use Prim.Native.Nat.{_*_, _^_, _≤_, _<_};
 ghost use lib.IntN.{pos, _*ℤ_};
 ghost use lib.Signed.{quotZ, remZ};
-ghost use Rattle.decimal.specs.Number.{maxPlaces};
+ghost use Rattle.decimal.specs.Number.{maxPlaces, scaleOf, scaled};
 ghost use Rattle.decimal.specs.Comparing.{byParts};
-use super::Number;
-use super::places::places_in;
 use super::powers::powers_for;
 use wire::order::Order;
 use wire::order::signed_order;
@@ -28,13 +26,12 @@ fn fraction(x: i64, power: u64, lacking: u64) -> i64
     x % (power as i64) * (lacking as i64)
 }
 
-// First the whole parts; where these are equal, the fractions at the larger count of places.
-pub(crate) fn by_parts(a: Number, b: Number) -> Order
-    ensures { λ r. ⌜ r ≡ byParts a b ⌝ }
+// Of two values with p and q places: first the whole parts; where these are equal, the fractions at the larger count of places.
+pub(crate) fn by_parts(x: i64, p: usize, y: i64, q: usize) -> Order
+    requires { ⌜ (p ≤ maxPlaces) × (q ≤ maxPlaces) ⌝ }
+    ensures { λ r. ⌜ r ≡ byParts (scaled x (scaleOf p)) (scaled y (scaleOf q)) ⌝ }
 {
-    let x = a.value;
-    let y = b.value;
-    let t = powers_for(places_in(a), places_in(b));
+    let t = powers_for(p, q);
     match signed_order(whole(x, t.first), whole(y, t.second)) {
         Order::Less => Order::Less,
         Order::Equal => signed_order(

@@ -11,7 +11,7 @@ use super::Number;
 use super::sign::make;
 
 // Whether the sum fits. With y below 0 the complements are tested: !y is not below 0.
-fn sum_fits(x: i64, y: i64) -> bool
+pub(crate) fn sum_fits(x: i64, y: i64) -> bool
     ensures { λ r. ⌜ r ≡ fits (x +ℤ y) ⌝ }
 {
     if y < 0 {

@@ -1,7 +1,12 @@
 -- Each way through the code of the walk gives what the walk gives there.
-use Prim.Native.Nat.{ℕ, _+_, _-_, _<_, min}
-use mathlib.Core.Path.{_≡_, refl, sym, ap, _∙_}
+use Prim.Native.Nat.{ℕ, zero, suc, _+_, _-_, _^_, _<_, min}
+use mathlib.Core.Path.{_≡_, refl, sym, ap, ap₂, _∙_}
+use mathlib.Core.Bool.{true}
+use lib.IntN.{ℤ}
 use lib.ListN.{length}
+use lib.Signed.{mag}
+use mir.Syntax.{w8, w64}
+use mir.Val.{toZ, ofZ}
 use Rattle.wire.specs.Words.{byteAt}
 use Rattle.wire.specs.Classes.{valueClass, booleanClass}
 use Rattle.wire.specs.Versions.{versionOf}
@@ -18,12 +23,16 @@ use Rattle.classes.specs.declared.ValueClass.the-variants as ValueClass
 use Rattle.classes.specs.declared.BooleanClass.{BooleanClass}
 use Rattle.classes.specs.declared.BooleanClass.the-variants as BooleanClass
 use Rattle.classes.specs.Classes.{valueClassOf, booleanClassOf}
+use Rattle.decimal.proofs.Bits.{read-back}
 use Rattle.meaning.specs.declared.Truth.{Truth}
 use Rattle.meaning.specs.Data.{Datum, arithmeticOf, negateOf, compareOf, searchOf, betweenOf, missingOf, connected, opposite}
 use Rattle.walking.specs.Walk.{Walked, at, astray, _▷_, ended, onClass, literalAt, referenceAt, valueUnder, booleanUnder}
 use Rattle.walking.proofs.Laws.{second-after, third-after, no-further, value-level, value-by, value-past, value-inside, boolean-level, boolean-by, boolean-past}
 use Rattle.values.specs.declared.Valued.{Valued}
 use Rattle.values.specs.Values.{valued}
+use Rattle.values.specs.Numbers.{numberOf}
+use Rattle.inputs.specs.declared.singles.Two.{Two}
+use Rattle.inputs.specs.Singles.{TwoAt}
 use Rattle.inputs.proofs.LiteralLaws.{no-literal}
 use Rattle.evaluator.specs.declared.forms.OperationCode.{OperationCode}
 use Rattle.evaluator.specs.declared.forms.OperationCode.the-variants as Operation
@@ -37,7 +46,11 @@ use Rattle.evaluator.specs.declared.forms.LogicCode.{LogicCode}
 use Rattle.evaluator.specs.declared.forms.LogicCode.the-variants as Logic
 use Rattle.evaluator.specs.declared.forms.BooleanForm.{BooleanForm}
 use Rattle.evaluator.specs.Forms.{operationCode, valueCode, pairCode, testCode, logicCode, booleanCode, judged}
-use Rattle.evaluator.specs.Slices.{Slices, lentOf, fetchedBy, sightOf, valuesOf, booleansOf, runsOf, underOf}
+use Rattle.evaluator.specs.Slices.{Slices, InTurn, lentOf, parametersOf, fetchedBy, sightOf, valuesOf, booleansOf, runsOf, underOf}
+
+-- a number whose value and scale are read back from their bits
+pub number-back : (x s : ℤ) → mag x < 2 ^ 63 → mag s < 2 ^ 7 → numberOf (toZ w64 (ofZ w64 x)) (toZ w8 (ofZ w8 s)) ≡ numberOf x s
+number-back x s h i = ap₂ numberOf (read-back w64 x h) (read-back w8 s i)
 
 module _ (g : Slices) where
   abbrev next : ℕ → ℕ
@@ -100,6 +113,51 @@ module _ (g : Slices) where
       pub negation-is : {r : Walked Datum} → k ≡ Operation.Negate → r ≡ (a ▷ λ x e. ended (negateOf p x) e) → r ≡ under (operationCode k)
       unfolding valueUnder
       negation-is f h = h ∙ ap (λ z. z ▷ λ x e. ended (negateOf p x) e) (next-value l p n i) ∙ sym (rw f)
+
+  -- ---- two values one after the other
+
+  -- two numbers that were found after a byte
+  pub found-after : (l p : ℕ) {q : ℕ} {r : Two} → (l ≡ 0 → ⊥) → q ≡ next p →
+      TwoAt (g .request) (g .dictionary) (g .bindings) (g .records) (g .runs) q r → r .is ≡ true →
+      InTurn g l (p + 1) (numberOf (r .first) (r .«first_scale»)) (numberOf (r .second) (r .«second_scale»)) (r .after)
+  unfolding sightOf
+  found-after zero p level n h is = absurd (level refl)
+  found-after (suc l) p level n h is =
+      record {
+        between = h .middle;
+        first = sym (next-value (suc l) p n (sym (h .first is (g .parameters) (parametersOf g) (g .images) l)));
+        second = h .second is (g .parameters) (parametersOf g) (g .images) l;
+      }
+
+  in-turn : {C : Type 0} {l p : ℕ} {x y : Datum} {e : ℕ} (f : Datum → Datum → ℕ → Walked C) → InTurn g l p x y e →
+      (valuesOf g l p ▷ λ a q. valuesOf g l q ▷ λ b u. f a b u) ≡ f x y e
+  in-turn {l = l} {x = x} f t =
+      ap (λ z. z ▷ λ a q. valuesOf g l q ▷ λ b u. f a b u) (t .first) ∙ ap (λ z. z ▷ λ b u. f x b u) (t .second)
+
+  module _ (l p : ℕ) {x y x′ y′ : Datum} {e : ℕ} (t : InTurn g l (p + 1) x y e) (i : x′ ≡ x) (j : y′ ≡ y) where
+    pub computed-is : (k : OperationCode) {o : Operator} {r : Walked Datum} {v : Version} {w : ℕ} → k ≡ Operation.Arithmetic o →
+        w ≡ byteAt (g .request) 0 → v ≡ versionOf w → r ≡ ended (arithmeticOf v o p x′ y′) e → r ≡ underOf g l p (operationCode k)
+    unfolding valueUnder
+    computed-is k {o} f first is h =
+        h ∙ ap₂ (λ v a. ended (arithmeticOf v o p a y′) e) (is ∙ ap versionOf first) i
+        ∙ ap (λ b. ended (arithmeticOf (versionOf (byteAt (g .request) 0)) o p x b) e) j
+        ∙ sym (in-turn (λ a b u. ended (arithmeticOf (versionOf (byteAt (g .request) 0)) o p a b) u) t) ∙ sym (rw f)
+
+    pub compared-is : (k : TestCode) {q : PairCode} {c : Comparison} {r : Walked Truth} → k ≡ Test.Pair q → q ≡ Pair.Compare c →
+        r ≡ ended (compareOf c x′ y′) e → r ≡ booleanUnder (valuesOf g l) (booleansOf g l) (runsOf g l p) p (testCode k)
+    unfolding booleanUnder
+    compared-is k {c = c} f m h =
+        h ∙ ap₂ (λ a b. ended (compareOf c a b) e) i j ∙ sym (in-turn (λ a b u. ended (compareOf c a b) u) t) ∙ sym (rw (f, m))
+
+  -- the same code by another name
+  pub same-operation : (l p : ℕ) {k k′ : OperationCode} {r : Walked Datum} → k′ ≡ k → r ≡ underOf g l p (operationCode k′) →
+      r ≡ underOf g l p (operationCode k)
+  same-operation l p e h = h ∙ ap (λ k. underOf g l p (operationCode k)) e
+
+  pub same-test : (l p : ℕ) {k k′ : TestCode} {r : Walked Truth} → k′ ≡ k →
+      r ≡ booleanUnder (valuesOf g l) (booleansOf g l) (runsOf g l p) p (testCode k′) →
+      r ≡ booleanUnder (valuesOf g l) (booleansOf g l) (runsOf g l p) p (testCode k)
+  same-test l p e h = h ∙ ap (λ k. booleanUnder (valuesOf g l) (booleansOf g l) (runsOf g l p) p (testCode k)) e
 
   -- ---- a boolean at a place
 

@@ -1,6 +1,7 @@
 -- What the code of the walk is handed, and what it answers.
-use Prim.Native.Nat.{ℕ, _/_, _≤_, _<_, min}
+use Prim.Native.Nat.{ℕ, _+_, _/_, _≤_, _<_, min}
 use mathlib.Core.Path.{_≡_}
+use mathlib.Core.Bool.{true}
 use mathlib.Core.List.{List}
 use mathlib.Core.Option.{Option, some}
 use lib.ListN.{length}
@@ -14,14 +15,16 @@ use Rattle.meaning.specs.declared.Truth.{Truth}
 use Rattle.meaning.specs.Data.{Datum, _>>=_, betweenOf}
 use Rattle.meaning.specs.Inputs.{Fetched}
 use Rattle.meaning.specs.Meaning.{ifKept}
-use Rattle.walking.specs.Walk.{Walked, _▷_, ended, Over, Sight, resultOf, suchAt, overAt, numbersAt, countAt, valueUnder, booleanUnder, valueAt, booleanAt}
+use Rattle.walking.specs.Walk.{Walked, at, _▷_, ended, Over, Sight, resultOf, suchAt, overAt, numbersAt, countAt, valueUnder, booleanUnder, valueAt, booleanAt}
 use Rattle.values.specs.declared.Valued.{Valued}
 use Rattle.values.specs.declared.Tested.{Tested}
 use Rattle.values.specs.declared.statistics.Gathered.{Gathered}
 use Rattle.values.specs.declared.statistics.Gathering.{Gathering}
 use Rattle.values.specs.Values.{Lent, lent, valued, tested}
+use Rattle.values.specs.Numbers.{numberOf}
 use Rattle.values.specs.Statistics.{gatheredIn, gathering}
 use Rattle.surroundings.specs.Bindings.{placeIf, boundSight, runOf}
+use Rattle.inputs.specs.declared.singles.Two.{Two}
 use Rattle.evaluator.specs.declared.forms.PairCode.{PairCode}
 use Rattle.evaluator.specs.declared.quantifiers.Kept.{Kept}
 use Rattle.evaluator.specs.Forms.{judged}
@@ -111,6 +114,19 @@ ValueAt g levels p r = valued (lentOf g) r ≡ valuesOf g levels p
 
 abbrev pub ValueAfter : Slices → ℕ → Valued → Valued → Type 0
 ValueAfter g levels a r = valued (lentOf g) r ≡ (valued (lentOf g) a ▷ λ x q. valuesOf g levels q)
+
+-- two values stand one after the other from a place on
+pub record InTurn (g : Slices) (levels p : ℕ) (x y : Datum) (e : ℕ) : Type 0 where
+  pub between : ℕ
+  pub first : valuesOf g levels p ≡ at x between
+  pub second : valuesOf g levels between ≡ at y e
+
+-- the two numbers after the code at a place, if they were found: the walk gives just these, whatever the parameters and the images are
+abbrev pub TwoAfter : List ℕ → List ℕ → List ℕ → List ℕ → List ℕ → ℕ → ℕ → Two → Type 0
+TwoAfter s d bindings records runs levels p r =
+    r .is ≡ true → (parameters images : List ℕ) →
+    InTurn (slices s d bindings parameters images records runs) levels (p + 1) (numberOf (r .first) (r .«first_scale»))
+    (numberOf (r .second) (r .«second_scale»)) (r .after)
 
 -- what stands under a value's code at a place, and the same where that place is before the end
 abbrev pub underOf : Slices → ℕ → ℕ → ValueCode → Walked Datum

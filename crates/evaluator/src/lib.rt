@@ -15,6 +15,7 @@ mod answers;
 mod conditions;
 mod forms;
 mod gathering;
+mod numbers;
 mod places;
 mod prepared;
 mod quantifiers;

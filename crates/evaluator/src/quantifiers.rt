@@ -1,6 +1,7 @@
 // How many records of a run are kept, and what an any, a unique or a count comes out as by that.
 ghost use mathlib.Core.Path.{_≡_};
 ghost use Prim.Native.Nat.{ℕ, _<_, _≤_};
+ghost use Rattle.wire.specs.Limits.{maxContexts};
 ghost use Rattle.meaning.specs.Meaning.{kept, answerOf};
 ghost use Rattle.walking.specs.Walk.{at};
 ghost use Rattle.surroundings.specs.Bindings.{bindingEnd, bindingCount, cell};
@@ -45,7 +46,7 @@ pub(crate) fn kept_with(condition: Truth, n: u32) -> u32
 
 // So many kept, and the place after what a row stands for.
 pub(crate) fn kept_end(bindings: &[u32], row: usize, n: u32) -> Kept
-    requires { ⌜ row ≤ 32 ⌝ }
+    requires { ⌜ row ≤ maxContexts ⌝ }
     ensures { λ r. ⌜ keptIn r ≡ at n (cell (now (bindings .entry)) row bindingEnd) ⌝ }
 {
     let end = cell_of(bindings, row, BINDING_END);
@@ -54,7 +55,7 @@ pub(crate) fn kept_end(bindings: &[u32], row: usize, n: u32) -> Kept
 
 // The same for a row whose rse has no condition: every record of its run is kept.
 pub(crate) fn all_kept(bindings: &[u32], row: usize) -> Kept
-    requires { ⌜ row ≤ 32 ⌝ }
+    requires { ⌜ row ≤ maxContexts ⌝ }
     ensures { λ r. ⌜ keptIn r ≡
         at (cell (now (bindings .entry)) row bindingCount) (cell (now (bindings .entry)) row bindingEnd) ⌝ }
 {

@@ -2,6 +2,7 @@
 ghost use mathlib.Core.Path.{_≡_};
 ghost use Prim.Native.Nat.{ℕ, _+_, _*_, _<_, _≤_};
 ghost use lib.Seq.{sets};
+ghost use Rattle.wire.specs.Limits.{maxContexts};
 ghost use Rattle.surroundings.specs.Bindings.{bindingRowNumbers, cell};
 use surroundings::bindings::BINDING_ROW;
 use wire::table::number_at;
@@ -9,7 +10,7 @@ use wire::table::put;
 
 // Where a number of a row stands in a table of bindings.
 pub(crate) fn cell_place(row: usize, column: usize) -> usize
-    requires { ⌜ (row ≤ 32) × (column < 10) ⌝ }
+    requires { ⌜ (row ≤ maxContexts) × (column < bindingRowNumbers) ⌝ }
     ensures { λ r. ⌜ r ≡ row * bindingRowNumbers + column ⌝ }
 {
     row * BINDING_ROW + column
@@ -17,7 +18,7 @@ pub(crate) fn cell_place(row: usize, column: usize) -> usize
 
 // A number of a row.
 pub(crate) fn cell_of(bindings: &[u32], row: usize, column: usize) -> usize
-    requires { ⌜ (row ≤ 32) × (column < 10) ⌝ }
+    requires { ⌜ (row ≤ maxContexts) × (column < bindingRowNumbers) ⌝ }
     ensures { λ r. ⌜ (r ≡ cell (now (bindings .entry)) row column) × (r < 4294967296) ⌝ }
 {
     number_at(bindings, cell_place(row, column)) as usize

@@ -4,3 +4,4 @@ pub mod TextLaws
 pub mod FieldLaws
 pub mod LiteralLaws
 pub mod ReferenceLaws
+pub mod SingleLaws

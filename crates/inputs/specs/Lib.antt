@@ -1,2 +1,3 @@
 -- What messages, records and literals hold, as the code has it.
 pub mod Answers
+pub mod Singles

@@ -4,6 +4,7 @@ pub mod literals;
 mod numbers;
 mod parameters;
 pub mod references;
+pub mod singles;
 mod stored;
 
 use values::Value;

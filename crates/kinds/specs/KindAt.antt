@@ -28,7 +28,7 @@ use Rattle.grammar.specs.Kinds.{formatKind, fieldKind, flagged, arithmeticKind,
 use Rattle.grammar.specs.Tree.{Reference, field, parameter, parameter2}
 use Rattle.walking.specs.Walk.{versionAt}
 use Rattle.surroundings.specs.Parameters.{parameterFrom}
-use Rattle.surroundings.specs.Bindings.{cell, rowsIn, bindingRowNumbers, bindingCode, bindingAfter, bindingKind}
+use Rattle.surroundings.specs.Bindings.{cell, rowsIn, bindingRowNumbers, bindingCode, bindingAfter, bindingKind, textKind, dateKind}
 use Rattle.kinds.specs.Spans.{Span, spansIn, spanAround, spanCoded}
 
 -- the kind of what stands at a place, if it has one, and the place after it
@@ -131,8 +131,8 @@ scaleNumber (negsuc n) = cond (leb n 17) (n + 2) 0
 unfoldable pub kindNumber : Option Kind → ℕ
 kindNumber none = 0
 kindNumber (some (Number z)) = scaleNumber z
-kindNumber (some Text) = 20
-kindNumber (some Date) = 21
+kindNumber (some Text) = textKind
+kindNumber (some Date) = dateKind
 
 -- a statistic that takes a number
 abbrev pub takesNumber : Class ValueCode → Bool

@@ -15,16 +15,14 @@ use surroundings::bindings::BINDING_AFTER;
 use surroundings::bindings::BINDING_CODE;
 use surroundings::bindings::BINDING_KIND;
 use surroundings::bindings::BINDING_ROW;
+use surroundings::bindings::DATE_KIND;
+use surroundings::bindings::TEXT_KIND;
 use wire::bytes::byte_at;
 use wire::codes::ValueCode;
 use wire::limits::MAX_DEPTH;
 use wire::limits::MIN_ARITHMETIC_SCALE;
 use wire::table::number_at;
 use wire::table::put;
-
-const TEXT: u32 = 20;
-
-const DATE: u32 = 21;
 
 // A scale as a number of a row.
 fn scale_number(scale: i8) -> u32
@@ -45,8 +43,8 @@ fn kind_number(kind: Fit) -> u32
 {
     match kind {
         Fit::Number(scale) => scale_number(scale),
-        Fit::Text => TEXT,
-        Fit::Date => DATE,
+        Fit::Text => TEXT_KIND,
+        Fit::Date => DATE_KIND,
         Fit::NoKind => 0,
     }
 }

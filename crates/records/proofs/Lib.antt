@@ -2,3 +2,4 @@
 pub mod Offsets
 pub mod Records
 pub mod RunLaws
+pub mod Locations

@@ -1,2 +1,3 @@
 -- What the functions promise each other: nobody outside has to believe it.
 pub mod Answers
+pub mod Locations

@@ -1,12 +1,14 @@
 // How long the records of a relation are, and where each field stands in them.
 ghost use mathlib.Core.Path.{_≡_};
 ghost use Prim.Native.Nat.{_+_, _/_, _≤_, _<_};
-ghost use lib.ListN.{take};
+ghost use mathlib.Core.Option.{none};
+ghost use lib.ListN.{length, take};
 ghost use Rattle.wire.specs.declared.codes.FieldType.the-variants.{Plain};
 ghost use Rattle.dictionary.specs.Format.{typeBytes, held};
 ghost use Rattle.dictionary.specs.Internal.Walk.{fieldsFrom, relationAt};
 ghost use Rattle.records.specs.Record.{fieldCount, offsetOf, recordLength};
 ghost use Rattle.records.specs.Internal.Answers.{formatAt, allHeld, within, lengthAnswer};
+ghost use Rattle.records.specs.Internal.Locations.{locatedOf, reachedFrom, locatedIn};
 use dictionary::entries::is_field;
 use dictionary::entries::next_place;
 use dictionary::entries::type_at;
@@ -55,17 +57,24 @@ pub fn held_bytes(d: &[u8], q: usize) -> usize
     type_bytes(type_at(d, q), word_on(d, q, FIELD_SIZE))
 }
 
-// How many fields a relation has.
-pub fn field_count(d: &[u8], relation: usize) -> usize
-    ensures { λ r. ⌜ r ≡ fieldCount (relationAt (now (d .entry)) relation) ⌝ }
+// How many fields stand one after another from a place on.
+fn count_from(d: &[u8], from: usize) -> usize
+    ensures { λ r. ⌜ r ≡ length (fieldsFrom (now (d .entry)) from) ⌝ }
 {
-    let mut q = next_place(d, relation);
+    let mut q = from;
     let mut n: usize = 0;
     while is_field(d, q) {
         n += 1;
         q = next_place(d, q);
     }
     n
+}
+
+// How many fields a relation has.
+pub fn field_count(d: &[u8], relation: usize) -> usize
+    ensures { λ r. ⌜ r ≡ fieldCount (relationAt (now (d .entry)) relation) ⌝ }
+{
+    count_from(d, next_place(d, relation))
 }
 
 // "one missing bit a field": the bytes of n bits.
@@ -107,6 +116,68 @@ pub fn offset_within(d: &[u8], relation: usize, i: usize, limit: usize) -> Lengt
         return Length::Long;
     }
     packed_within(d, next_place(d, relation), i, start, limit)
+}
+
+// Where a field's entry stands in the dictionary, and its bytes in a record's entry; or that there is no such field, or that it would stand
+// past the end of the longest record.
+pub struct Located {
+    pub is: bool,
+    pub entry: usize,
+    pub offset: usize,
+}
+
+fn nowhere() -> Located
+    ensures { λ r. ⌜ locatedOf r ≡ none ⌝ }
+{
+    Located {
+        is: false,
+        entry: 0,
+        offset: 0,
+    }
+}
+
+// Field i of those from a place on, with the bytes of the fields before it.
+fn reached(d: &[u8], from: usize, i: usize) -> Located
+    ensures { λ r. ⌜ locatedOf r ≡ reachedFrom (now (d .entry)) from i ⌝ }
+{
+    let mut q = from;
+    let mut left = i;
+    let mut sum: usize = 0;
+    while 0 < left {
+        if !is_field(d, q) {
+            return nowhere();
+        }
+        let n = held_bytes(d, q);
+        if MAX_RECORD_BYTES - sum < n {
+            return nowhere();
+        }
+        sum += n;
+        left -= 1;
+        q = next_place(d, q);
+    }
+    Located {
+        is: is_field(d, q),
+        entry: q,
+        offset: sum,
+    }
+}
+
+// Field i of a relation, by one pass over the entries of its fields.
+pub fn locate(d: &[u8], relation: usize, i: usize) -> Located
+    ensures { λ r. ⌜ locatedOf r ≡ locatedIn (now (d .entry)) relation i ⌝ }
+{
+    let field = reached(d, next_place(d, relation), i);
+    if !field.is {
+        return nowhere();
+    }
+    let entry = field.entry;
+    let fields = i + count_from(d, entry);
+    let offset = RECORD_BITS + missing_bytes(fields) + field.offset;
+    Located {
+        is: offset <= MAX_RECORD_BYTES,
+        entry,
+        offset,
+    }
 }
 
 // Where field i stands in a record's entry.

@@ -4,6 +4,7 @@ ghost use Prim.Native.Nat.{_+_, _*_, _≤_, _<_};
 ghost use lib.ListN.{length};
 ghost use lib.Seq.{sets};
 ghost use Rattle.wire.specs.Limits.{maxContexts, maxRequestBytes};
+ghost use Rattle.surroundings.specs.Bindings.{bindingRowNumbers};
 ghost use Rattle.runs.specs.Steps.{stateOf, moved, stopped, openRow, openedHere, suchNoted, closed, stepped, found};
 use crate::forms::Form;
 use crate::forms::form_of;
@@ -13,6 +14,7 @@ use crate::stream::Opened;
 use crate::stream::opened_at;
 use surroundings::bindings::BINDING_AFTER;
 use surroundings::bindings::BINDING_END;
+use surroundings::bindings::BINDING_HALF;
 use surroundings::bindings::BINDING_ROW;
 use surroundings::bindings::BINDING_SUCH;
 use surroundings::bindings::put_half;
@@ -62,7 +64,7 @@ fn go_on(scan: Scan, place: usize, more: usize) -> Scan
 // A row as it is opened.
 fn put_row(bindings: &mut [u32], row: usize, place: u32, opened: Opened, within: u32, more: u8)
     requires { ⌜ row < maxContexts ⌝ }
-    ensures { λ _. ⌜ now (bindings .exit) ≡ sets (now (bindings .entry)) (row * 10) (openRow place opened within more) ⌝ }
+    ensures { λ _. ⌜ now (bindings .exit) ≡ sets (now (bindings .entry)) (row * bindingRowNumbers) (openRow place opened within more) ⌝ }
 {
     let at = (row * BINDING_ROW) as u32;
     put_half(
@@ -74,7 +76,7 @@ fn put_row(bindings: &mut [u32], row: usize, place: u32, opened: Opened, within:
         0,
         0,
     );
-    put_half(bindings, at + 5, within, 0, 0, more as u32, 0);
+    put_half(bindings, at + BINDING_HALF, within, 0, 0, more as u32, 0);
 }
 
 // An any, a unique or a statistic, with so many numbers due after its rse.

@@ -59,11 +59,20 @@ abbrev pub bindingKind : ℕ
 bindingKind = 9
 
 -- the kind that a number says: 0 none, 1 and on a number of scale 0 and on down to -18, 20 text, 21 date
+abbrev pub numberKinds : ℕ
+numberKinds = 19
+
+abbrev pub textKind : ℕ
+textKind = 20
+
+abbrev pub dateKind : ℕ
+dateKind = 21
+
 unfoldable pub kindIf : ℕ → Option Grammar.Kind
 kindIf k =
     cond (eqb k 0) none
-    (cond (leb k 19) (some (Grammar.Kind.Number (negℤ (pos (k - 1)))))
-    (cond (eqb k 20) (some Grammar.Kind.Text) (cond (eqb k 21) (some Grammar.Kind.Date) none)))
+    (cond (leb k numberKinds) (some (Grammar.Kind.Number (negℤ (pos (k - 1)))))
+    (cond (eqb k textKind) (some Grammar.Kind.Text) (cond (eqb k dateKind) (some Grammar.Kind.Date) none)))
 
 pub record Binding : Type 0 where
   pub code : ℕ

@@ -43,6 +43,16 @@ pub const BINDING_AFTER: usize = 8;
 
 pub const BINDING_KIND: usize = 9;
 
+// The numbers of kinds: 1 and on up to here a number of scale 0 and on down; then text and date.
+pub const NUMBER_KINDS: usize = 19;
+
+pub const TEXT_KIND: u32 = 20;
+
+pub const DATE_KIND: u32 = 21;
+
+// Where the second half of a row begins.
+pub const BINDING_HALF: u32 = 5;
+
 // Half a row: five numbers from a place on.
 pub fn put_half(bindings: &mut [u32], at: u32, a: u32, b: u32, c: u32, d: u32, e: u32)
     ensures { λ _. ⌜ now (bindings .exit) ≡ sets (now (bindings .entry)) at (a ∷ b ∷ c ∷ d ∷ e ∷ []) ⌝ }
@@ -63,7 +73,7 @@ fn put_context(bindings: &mut [u32], row: usize, number: u32, relation: u32, pla
 {
     let at = (row * BINDING_ROW) as u32;
     put_half(bindings, at, 0, number, relation, place, 0);
-    put_half(bindings, at + 5, 0, 0, 0, 0, 0);
+    put_half(bindings, at + BINDING_HALF, 0, 0, 0, 0, 0);
 }
 
 // The rows of so many contexts in scope, at most 32. The record of each stands after those of the contexts before it, by their length

@@ -2,6 +2,7 @@
 pub mod Values
 pub mod Pairs
 pub mod Operands
+pub mod Numbers
 pub mod Outcomes
 pub mod Promises
 pub mod Spans

@@ -2,12 +2,15 @@
 ghost use Rattle.values.specs.Values.{lent};
 ghost use Rattle.values.specs.Outcomes.{ComparedOf};
 ghost use Rattle.values.specs.Promises.{Compared};
+ghost use Rattle.values.specs.Numbers.{NumbersCompared};
+use crate::Position;
 use crate::Tested;
 use crate::Value;
 use crate::Valued;
 use crate::logic::truth_of;
 use crate::operands::Operands;
 use crate::operands::in_order;
+use crate::operands::plain_of;
 use crate::orders::date_order;
 use crate::orders::holds;
 use crate::outcomes::Outcome;
@@ -43,6 +46,16 @@ pub(crate) fn comparison_of<'a>(
     }
 }
 
+// Of two numbers by their values and scales, with the place after them.
+pub fn numbers_compared(c: Comparison, x: i64, a: i8, y: i64, b: i8, after: usize) -> Tested
+    ensures { λ r. ⌜ NumbersCompared c x a y b after r ⌝ }
+{
+    Tested::Is(
+        truth_of(holds(c, decimal::order_of(x, a, y, b))),
+        Position { at: after },
+    )
+}
+
 pub fn comparison<'a>(
     request: &'a [u8],
     images: &'a [u8],
@@ -54,6 +67,13 @@ pub fn comparison<'a>(
 ) -> Tested
     ensures { λ r. ⌜ Compared (lent (now (request .entry)) (now (images .entry)) (now (records .entry)) (now (runs .entry))) c a b r ⌝ }
 {
+    let x = plain_of(a);
+    let y = plain_of(b);
+    if x.is {
+        if y.is {
+            return numbers_compared(c, x.value, x.scale, y.value, y.scale, y.after);
+        }
+    }
     match in_order(a, b) {
         Operands::Are(x, y, end) => ended(
             comparison_of(request, images, records, runs, c, x, y),

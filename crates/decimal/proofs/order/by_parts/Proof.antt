@@ -1,44 +1,46 @@
 -- `decimal::order::by_parts` meets its contract. By the order of the whole parts, then that of the fractions. Assumes nothing.
 use Prim.Native.Nat.{ℕ, _-_, _^_, max, _≤_, _<_}
-use mathlib.Core.Path.{_≡_, ap, ap₂, _∙_}
+use mathlib.Core.Path.{_≡_, sym, ap, ap₂, _∙_}
 use native.Mathlib.Omega.{arith}
 use borrow.Author.Needs.{needs}
 use mir.Syntax.{w64}
 use mir.Val.{toZ, ofZ}
+use mir.Facts.{toZ-ofZ}
 use Rattle.wire.specs.declared.order.Order.{Order}
 use Rattle.decimal.specs.declared.Number.{Number}
-use Rattle.decimal.specs.Number.{places, common}
+use Rattle.decimal.specs.Number.{places, scaleOf, scaled, common}
 use Rattle.wire.specs.Orders.{orderℤ, whereEqual}
 use Rattle.decimal.specs.Comparing.{fractionAt, byParts}
-use Rattle.decimal.proofs.Bits.{read-back}
-use Rattle.decimal.proofs.Scales.{places-le}
+use Rattle.decimal.proofs.Scales.{places-le, places-scale}
 use Rattle.decimal.proofs.Working.{power-in, product-in, whole-found, fraction-found, in-order}
 use Rattle.decimal.proofs.order.by_parts.Statement.{statement}
 use Rattle.decimal.proofs.order.by_parts.Tie as tie
 
--- the powers, as the calls found them
+-- the powers, as the call found them
 module _ (s : tie.After-powers-for) where
   abbrev first : Number
-  first = s .before .before .before .before .before .args .a
+  first = scaled (s .before .args .x) (scaleOf (s .before .args .p))
 
   abbrev second : Number
-  second = s .before .before .before .before .before .args .b
+  second = scaled (s .before .args .y) (scaleOf (s .before .args .q))
+
+  places-first : s .before .args .p ≡ places (first .scale)
+  places-first = sym (places-scale (s .before .args .p) (s .before .pre .0))
+
+  places-second : s .before .args .q ≡ places (second .scale)
+  places-second = sym (places-scale (s .before .args .q) (s .before .pre .1))
 
   power-first : s .powers-for .result .first ≡ 10 ^ places (first .scale)
-  power-first = s .powers-for .ensures .0 .0 ∙ ap (λ (n : ℕ). 10 ^ n) (s .before .before .places-in .ensures .0)
+  power-first = s .powers-for .ensures .0 .0 ∙ ap (λ (n : ℕ). 10 ^ n) places-first
 
   lacks-first : s .powers-for .result .«first_lacks» ≡ 10 ^ (common first second - places (first .scale))
-  lacks-first =
-      s .powers-for .ensures .0 .1
-      ∙ ap₂ (λ (m n : ℕ). 10 ^ (max m n - m)) (s .before .before .places-in .ensures .0) (s .before .places-in2 .ensures .0)
+  lacks-first = s .powers-for .ensures .0 .1 ∙ ap₂ (λ (m n : ℕ). 10 ^ (max m n - m)) places-first places-second
 
   power-second : s .powers-for .result .second ≡ 10 ^ places (second .scale)
-  power-second = s .powers-for .ensures .1 .0 ∙ ap (λ (n : ℕ). 10 ^ n) (s .before .places-in2 .ensures .0)
+  power-second = s .powers-for .ensures .1 .0 ∙ ap (λ (n : ℕ). 10 ^ n) places-second
 
   lacks-second : s .powers-for .result .«second_lacks» ≡ 10 ^ (common first second - places (second .scale))
-  lacks-second =
-      s .powers-for .ensures .1 .1
-      ∙ ap₂ (λ (m n : ℕ). 10 ^ (max m n - n)) (s .before .before .places-in .ensures .0) (s .before .places-in2 .ensures .0)
+  lacks-second = s .powers-for .ensures .1 .1 ∙ ap₂ (λ (m n : ℕ). 10 ^ (max m n - n)) places-first places-second
 
   fits-first : (0 < s .powers-for .result .first) × (s .powers-for .result .first ≤ 10 ^ 18)
   fits-first = power-in (places (first .scale)) 18 (places-le (first .scale)) (omega arith) power-first
@@ -50,10 +52,10 @@ module _ (s : tie.After-powers-for) where
   most = omega (arith, places-le (first .scale), places-le (second .scale))
 
   value-first : toZ w64 (ofZ w64 (first .value)) ≡ first .value
-  value-first = read-back w64 (first .value) (s .before .before .before .before .struct-told .given .0 .1)
+  value-first = toZ-ofZ (s .before .fits .x)
 
   value-second : toZ w64 (ofZ w64 (second .value)) ≡ second .value
-  value-second = read-back w64 (second .value) (s .before .before .before .struct-told2 .given .0 .1)
+  value-second = toZ-ofZ (s .before .fits .y)
 
 -- the order of the whole parts, as a match told it
 module _ (t : tie.After-signed-order) where
@@ -69,12 +71,6 @@ module _ (t : tie.After-signed-order) where
       in-order a b (t .signed-order .ensures)
       (whole-found a (t .before .before .whole .ok) (t .before .before .whole .ensures) (value-first s) (power-first s))
       (whole-found b (t .before .whole2 .ok) (t .before .whole2 .ensures) (value-second s) (power-second s)) told
-
-places-in-requires : tie.Need-places-in-requires
-places-in-requires c κs = search needs
-
-places-in-requires-2 : tie.Need-places-in-requires-2
-places-in-requires-2 c κs = search needs
 
 powers-for-requires : tie.Need-powers-for-requires
 powers-for-requires c κs = search needs
@@ -133,8 +129,6 @@ pub by-parts-spec : {M : Type 1} → statement M
 by-parts-spec =
     tie.close
     (tie.spec
-    places-in-requires
-    places-in-requires-2
     powers-for-requires
     whole-requires
     whole-requires-2
