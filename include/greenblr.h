@@ -2,9 +2,9 @@
  *
  * BLR is the binary request language of the InterBase and Rdb family. The library checks a request beside a house dictionary
  * and lists what it holds (greenblr_read), evaluates a condition of it over records and runs of them (greenblr_evaluate), or the value
- * that an assignment puts into its target (greenblr_evaluate_value), and keeps the records of one relation in a buffer of the caller's
- * (greenblr_store_make and five more). A node that can't measure sends 65535: that is no reading, a comparison with it is missing, neither
- * true nor false, and no average has it.
+ * that an assignment puts into its target (greenblr_evaluate_value), lists the tests that decide a condition (greenblr_explain), and keeps
+ * the records of one relation in a buffer of the caller's (greenblr_store_make and five more). A node that can't measure sends 65535: that
+ * is no reading, a comparison with it is missing, neither true nor false, and no average has it.
  *
  * All calls
  * - Every call returns, whatever the bytes are; nothing has to be tested before it. This is proved, and so is what each call gives.
@@ -18,7 +18,7 @@
  * - What a call writes (tables, answer, the buffer of a store) may not overlap anything else that it is given.
  *
  * Machines: the archive is for x86-64 Linux with 64-bit pointers, and needs memcpy and memset of the C library, nothing else.
- * C99 and later, and C++, can include this header. Stack: the requests that were tried use up to 68 kilobytes, which is measured
+ * C99 and later, and C++, can include this header. Stack: the requests that were tried use up to 135 kilobytes, which is measured
  * and not proved.
  *
  * Names: all start with greenblr_ or GREENBLR_, so this header can stand in one file with InterBase's ibase.h and blr.h, in
@@ -62,6 +62,7 @@ typedef char greenblr_size_t_has_64_bits[sizeof(size_t) == 8 ? 1 : -1];
 #define GREENBLR_MAX_STATEMENTS 512
 #define GREENBLR_MAX_PARAMETERS 256     /* in all messages */
 #define GREENBLR_MAX_CONTEXTS 32
+#define GREENBLR_MAX_TESTS 10922        /* in a condition */
 
 /* ---- Tables: rows of 32-bit numbers in reading order, and zeros after them. A place is a count of bytes from the request's first. */
 
@@ -91,18 +92,27 @@ typedef char greenblr_size_t_has_64_bits[sizeof(size_t) == 8 ? 1 : -1];
 #define GREENBLR_CONTEXT_OPENER 5       /* code that opened it: of a for, store, modify, any, unique or statistic */
 #define GREENBLR_CONTEXT_ROW 6          /* numbers a row */
 
-/* The least numbers that each table must have, so that the rows of every request fit. With less in one, every request is refused
- * with 1. */
+/* A row of the tests of a condition. */
+#define GREENBLR_TEST_PLACE 0           /* place of its code */
+#define GREENBLR_TEST_OUTCOME 1         /* its own outcome: GREENBLR_FALSE, GREENBLR_TRUE or GREENBLR_MISSING */
+#define GREENBLR_TEST_ROW 2             /* numbers a row */
+
+/* The least numbers that each table of greenblr_read must have, so that the rows of every request fit. With less in one, every request is
+ * refused with 1. */
 #define GREENBLR_STATEMENT_TABLE (GREENBLR_MAX_STATEMENTS * GREENBLR_STATEMENT_ROW)
 #define GREENBLR_PARAMETER_TABLE (GREENBLR_MAX_PARAMETERS * GREENBLR_PARAMETER_ROW)
 #define GREENBLR_CONTEXT_TABLE (GREENBLR_MAX_CONTEXTS * GREENBLR_CONTEXT_ROW)
+
+/* The numbers of a table of greenblr_explain in which the tests of every condition fit. It may have less: refused with 1 is then what does
+ * not fit. */
+#define GREENBLR_TEST_TABLE (GREENBLR_MAX_TESTS * GREENBLR_TEST_ROW)
 
 /* ---- Refusals: by number what is refused, and where its place lies. Later versions may have more. */
 
 enum greenblr_refusal {
     GREENBLR_REFUSAL_NONE = 0,
     /* Of reading. The place lies in the request, but for 3. */
-    GREENBLR_REFUSAL_TABLES_TOO_SHORT = 1,   /* a table is below its least size: 0 */
+    GREENBLR_REFUSAL_TABLES_TOO_SHORT = 1,   /* a table is below its least size, of an explanation below what its tests need: 0 */
     GREENBLR_REFUSAL_REQUEST_TOO_LONG = 2,   /* over 65,535 bytes: 0 */
     GREENBLR_REFUSAL_BAD_DICTIONARY = 3,     /* breaks a rule or a greatest size: in the dictionary, the entry's start; 0 if too long */
     GREENBLR_REFUSAL_ENDS_EARLY = 4,         /* the request ends early: its length */
@@ -122,7 +132,7 @@ enum greenblr_refusal {
                                                 outside its label: the statement's code */
     GREENBLR_REFUSAL_BYTES_AFTER_END = 15,   /* bytes after the request's end: the first of them */
     GREENBLR_REFUSAL_OUT_OF_RANGE = 16,      /* a size, scale, stream count or sort count out of range: that field */
-    /* Of evaluation, after those of reading but for 1, which it never gives. */
+    /* Of evaluation and explanation, after those of reading but for 1, which evaluation never gives and explanation gives last. */
     GREENBLR_REFUSAL_NO_BOOLEAN = 20,        /* no condition of this number, or no assignment in this row: 0 */
     GREENBLR_REFUSAL_BAD_MESSAGE_BYTES = 21, /* not as many message bytes as are declared: in the images, the length given */
     GREENBLR_REFUSAL_BAD_RECORDS = 22,       /* records not as due: in the records, the first wrong entry; the length given if one lacks;
@@ -176,9 +186,8 @@ static inline const char *greenblr_refusal_text(uint32_t refusal)
     }
 }
 
-/* What the place of a refusal by greenblr_read, greenblr_evaluate or greenblr_evaluate_value is counted in, and what a text stands in
- * that greenblr_evaluate_value gives. A store's refusal 3 is placed in the dictionary,
- * and every other of a store at 0. */
+/* What the place of a refusal by greenblr_read, greenblr_evaluate, greenblr_evaluate_value or greenblr_explain is counted in, and what a
+ * text stands in that greenblr_evaluate_value gives. A store's refusal 3 is placed in the dictionary, and every other of a store at 0. */
 enum greenblr_input {
     GREENBLR_INPUT_REQUEST = 0,
     GREENBLR_INPUT_DICTIONARY = 1,
@@ -248,7 +257,7 @@ enum greenblr_why {
  * condition true, and leave out those whose number is missing; count counts the records. Total and count of nothing are 0, the others
  * are missing. All records are tested. With one of these codes inside another the time grows with the product of the counts of records.
  *
- * Gives one number, which holds all of the answer; the four functions below take it apart. Nothing is written.
+ * Gives one number, which holds all of the answer; functions below take it apart. Nothing is written.
  */
 uint64_t greenblr_evaluate(const uint8_t *request, size_t request_length,
                            const uint8_t *dictionary, size_t dictionary_length,
@@ -271,7 +280,7 @@ enum greenblr_value {
  * images, records and runs: as for greenblr_evaluate, the records for each context in scope at the assignment, that of its store or
  * its modify among them. The target is not looked at.
  *
- * Gives one number, which the four functions below take apart, and writes three:
+ * Gives one number, which functions below take apart, and writes three:
  * - GREENBLR_VALUE_NUMBER: the number, its scale, 0. A number of 301 and a scale of -1 are 30.1.
  * - GREENBLR_VALUE_TEXT: what the text stands in (GREENBLR_INPUT_REQUEST, IMAGES, RECORDS or RUNS), the place of its first byte there, and
  *   the place after its last; blanks at its end are no part of it. Neither place is after the end of what it stands in, nor the first
@@ -287,13 +296,40 @@ uint64_t greenblr_evaluate_value(const uint8_t *request, size_t request_length,
                                  const uint8_t *runs, size_t runs_length,
                                  int64_t answer[3]);
 
-/* ---- The parts of what both give */
+/* ---- Explanation */
+
+/* What an explanation comes out as: GREENBLR_REFUSED, or this. */
+enum greenblr_explanation {
+    GREENBLR_EXPLAINED = 7
+};
+
+/* Explains a condition of a request, by its number: lists the tests that decide it. Each boolean but or, and and not is one test, any and
+ * unique whole. A false and is decided by the tests of its first false side, a true or by those of its first true side, and every other and
+ * and or by those of both sides; a not by those of the boolean after it. Whatever the tests not listed came out as, true, false or missing,
+ * the condition would come out the same; this is proved.
+ *
+ * tests: the table, of any length; with GREENBLR_TEST_TABLE numbers it is never too short. All else is as for greenblr_evaluate.
+ *
+ * Gives one number, which functions below take apart:
+ * - GREENBLR_EXPLAINED: the table has the rows of the tests in reading order, one at least, then zeros; greenblr_tests says how many rows.
+ * - GREENBLR_REFUSED: the table is zeros. The refusals are those of greenblr_evaluate, by the same numbers at the same places; then 1 at 0,
+ *   where the rows do not fit.
+ */
+uint64_t greenblr_explain(const uint8_t *request, size_t request_length,
+                          const uint8_t *dictionary, size_t dictionary_length,
+                          size_t number,
+                          const uint8_t *images, size_t images_length,
+                          const uint8_t *records, size_t records_length,
+                          const uint8_t *runs, size_t runs_length,
+                          uint32_t *tests, size_t tests_length);
+
+/* ---- The parts of what evaluation and explanation give */
 
 /* The greatest place that an evaluation holds: it stands for every greater one too. */
 #define GREENBLR_MAX_PLACE ((uint64_t)-1 >> 16)
 
 /* GREENBLR_FALSE, GREENBLR_TRUE, GREENBLR_MISSING or GREENBLR_REFUSED; of greenblr_evaluate_value one of the last two, or a
- * GREENBLR_VALUE. */
+ * GREENBLR_VALUE; of greenblr_explain GREENBLR_REFUSED or GREENBLR_EXPLAINED. */
 static inline unsigned greenblr_answer(uint64_t evaluation)
 {
     return (unsigned)(evaluation & 0xff);
@@ -305,7 +341,7 @@ static inline unsigned greenblr_cause(uint64_t evaluation)
     return greenblr_answer(evaluation) == GREENBLR_MISSING ? (unsigned)(evaluation >> 8 & 0xff) : (unsigned)GREENBLR_CAUSE_NONE;
 }
 
-/* The number of a refusal, 2 to 16 or 20 to 26, and of every other answer GREENBLR_REFUSAL_NONE. */
+/* The number of a refusal, 2 to 16 or 20 to 26, of an explanation 1 too, and of every other answer GREENBLR_REFUSAL_NONE. */
 static inline unsigned greenblr_number(uint64_t evaluation)
 {
     return greenblr_answer(evaluation) == GREENBLR_REFUSED ? (unsigned)(evaluation >> 8 & 0xff) : (unsigned)GREENBLR_REFUSAL_NONE;
@@ -314,7 +350,13 @@ static inline unsigned greenblr_number(uint64_t evaluation)
 /* The place of a refusal, counted in what greenblr_refusal_input says; of every other answer 0. */
 static inline uint64_t greenblr_place(uint64_t evaluation)
 {
-    return evaluation >> 16;
+    return greenblr_answer(evaluation) == GREENBLR_REFUSED ? evaluation >> 16 : 0;
+}
+
+/* The count of the tests that greenblr_explain has listed; of every other answer 0. */
+static inline size_t greenblr_tests(uint64_t explanation)
+{
+    return greenblr_answer(explanation) == GREENBLR_EXPLAINED ? (size_t)(explanation >> 16) : 0;
 }
 
 /* A cause in words; of any other number, words that say so. Never NULL. */

@@ -33,10 +33,19 @@ function signed_number(n) {
     return n < 0 ? "(negℤ (pos " substr(n, 2) "))" : "(pos " n ")"
 }
 
+# places and outcomes as one list
+function tested(t,    n, a, i, s) {
+    n = split(t, a, " ")
+    s = ""
+    for (i = 1; i <= n; i += 2) s = s a[i] " ∷ " (a[i + 1] == "false" ? 0 : a[i + 1] == "true" ? 1 : 2) " ∷ "
+    return "(" s "[]" ")"
+}
+
 # what stands right of the sign of equality; a missing answer without its cause stands for any
 function answer(t,    a, p) {
     split(t, a, " ")
     if (a[1] == "refused") return "refusal " a[2] " " a[3]
+    if (t ~ /^[0-9]/) return "tests " tested(t)
     if (a[1] == "true") return "isTrue"
     if (a[1] == "false") return "isFalse"
     if (t == "missing") return "isMissing Cause.Bit"
@@ -61,7 +70,7 @@ function open_file(crate,    proofs, name) {
     print "use lib.IntN.{pos, negℤ}" > file[crate]
     print "use lib.ListN.{replicate}" > file[crate]
     print "use Rattle.records.specs.declared.missing.Cause.the-variants as Cause" > file[crate]
-    print "use Rattle.examples.proofs.Answers.{Answer, rows, isTrue, isFalse, isMissing, isNumber, isText, isDate, anyCause, refusal, readAnswer, evaluateAnswer, valueAnswer}" > file[crate]
+    print "use Rattle.examples.proofs.Answers.{Answer, rows, isTrue, isFalse, isMissing, isNumber, isText, isDate, tests, anyCause, refusal, readAnswer, evaluateAnswer, valueAnswer, explainAnswer}" > file[crate]
 }
 
 {
@@ -72,9 +81,10 @@ function open_file(crate,    proofs, name) {
     runs = $7 == "=" ? "[]" : list($7)
     if ($1 == "read") left = "readAnswer " list($3) " " list($2) " " $4 " " $5 " " $6
     else left = $1 "Answer " list($3) " " list($2) " " $4 " " list($5) " " list($6) " " runs
+    if ($1 == "explain") left = left " 21844"
     if (right == "missing") left = "anyCause (" left ")"
     print "" > file[crate]
     print "case" NR " : " left " ≡ " answer(right) > file[crate]
-    print "unfolding readAnswer evaluateAnswer valueAnswer" > file[crate]
+    print "unfolding readAnswer evaluateAnswer valueAnswer explainAnswer" > file[crate]
     print "case" NR " = refl" > file[crate]
 }

@@ -1,8 +1,9 @@
 //! `compare leaves SEED COUNT` compares the proved leaves with the second program's, `compare dictionaries SEED COUNT` the check of
-//! dictionaries, look-ups and records, `compare requests SEED COUNT` the reader, `compare evaluations SEED COUNT` the evaluator, `compare stores SEED COUNT` calls on stores; `compare times` times both, and `compare stack`
+//! dictionaries, look-ups and records, `compare requests SEED COUNT` the reader, `compare evaluations SEED COUNT` the evaluator, `compare explanations SEED COUNT` explanations, `compare stores SEED COUNT` calls on stores; `compare times` times both, and `compare stack`
 //! measures the stack that the reader uses.
 
 mod evaluations;
+mod explanations;
 mod houses;
 mod leaves;
 mod plain;
@@ -23,6 +24,7 @@ fn main() -> ExitCode {
             ("dictionaries", Ok(seed), Ok(count)) => houses::run(seed, count),
             ("requests", Ok(seed), Ok(count)) => requests::run(seed, count),
             ("evaluations", Ok(seed), Ok(count)) => evaluations::run(seed, count),
+            ("explanations", Ok(seed), Ok(count)) => explanations::run(seed, count),
             ("stores", Ok(seed), Ok(count)) => stores::run(seed, count),
             _ => return usage(),
         },
@@ -41,7 +43,7 @@ fn main() -> ExitCode {
 
 fn usage() -> ExitCode {
     eprintln!(
-        "usage: compare leaves|dictionaries|requests|evaluations|stores SEED COUNT | compare times|stack"
+        "usage: compare leaves|dictionaries|requests|evaluations|explanations|stores SEED COUNT | compare times|stack"
     );
     ExitCode::from(2)
 }

@@ -47,6 +47,21 @@ extern "C" {
         runs_length: usize,
         answer: *mut i64,
     ) -> u64;
+    fn greenblr_explain(
+        request: *const u8,
+        request_length: usize,
+        dictionary: *const u8,
+        dictionary_length: usize,
+        number: usize,
+        images: *const u8,
+        images_length: usize,
+        records: *const u8,
+        records_length: usize,
+        runs: *const u8,
+        runs_length: usize,
+        tests: *mut u32,
+        tests_length: usize,
+    ) -> u64;
     fn greenblr_store_make(
         dictionary: *const u8,
         dictionary_length: usize,
@@ -423,6 +438,68 @@ pub fn evaluate_value(
         true => word,
         false => format!("{word} with {answer:?}"),
     }
+}
+
+/// The number that an explanation gives, with the tests in a table.
+pub fn explanation(
+    request: &[u8],
+    dictionary: &[u8],
+    number: usize,
+    messages: &[u8],
+    records: &[u8],
+    runs: &[u8],
+    tests: &mut [u32],
+) -> u64 {
+    // Each slice passes as a pointer and its length, and is borrowed for the call alone.
+    unsafe {
+        greenblr_explain(
+            request.as_ptr(),
+            request.len(),
+            dictionary.as_ptr(),
+            dictionary.len(),
+            number,
+            messages.as_ptr(),
+            messages.len(),
+            records.as_ptr(),
+            records.len(),
+            runs.as_ptr(),
+            runs.len(),
+            tests.as_mut_ptr(),
+            tests.len(),
+        )
+    }
+}
+
+/// What an explanation comes out as in a table of so many numbers: a line for each test, or the refusal; numbers of the table that are not
+/// as due stand behind it.
+pub fn explain(
+    request: &[u8],
+    dictionary: &[u8],
+    number: usize,
+    messages: &[u8],
+    records: &[u8],
+    runs: &[u8],
+    room: usize,
+) -> String {
+    // What is not written would be seen.
+    let mut tests = vec![u32::MAX; room];
+    let given = explanation(request, dictionary, number, messages, records, runs, &mut tests);
+    let count = if given & 0xffff == 7 { (given >> 16) as usize } else { 0 };
+    let (rows, rest) = tests.split_at(room.min(2 * count));
+    let line = |row: &[u32]| match row {
+        [place, 0] => format!("{place} false\n"),
+        [place, 1] => format!("{place} true\n"),
+        [place, 2] => format!("{place} missing\n"),
+        other => format!("{other:?}\n"),
+    };
+    let mut words: String = rows.chunks(2).map(line).collect();
+    if given & 0xff == 3 {
+        words = format!("refused {} at {}\n", given >> 8 & 0xff, given >> 16);
+    }
+    if rest.iter().any(|number| *number != 0) {
+        words += &format!("with {rest:?}");
+    }
+    words
 }
 
 /// The name of a cause.

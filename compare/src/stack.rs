@@ -1,5 +1,6 @@
 //! The stack that the proved reader and evaluator use: each works on a stack of known bytes, and what is no longer known was used.
 
+use crate::explanations::TEST_TABLE;
 use crate::proved;
 use crate::times::house_record;
 use second::generate::{assemble, data, dictionaries};
@@ -32,15 +33,17 @@ enum Work {
     Nothing,
     Read(Vec<u8>),
     Evaluate(Vec<u8>, Vec<u8>),
+    Explain(Vec<u8>, Vec<u8>),
 }
 
 struct Job {
     work: Work,
     dictionary: Vec<u8>,
     tables: [Vec<u32>; 3],
+    tests: Vec<u32>,
 }
 
-/// Reads the request, or evaluates its first condition with one long as message, no records, and runs.
+/// Reads the request, or evaluates or explains its first condition with one long as message, no records, and runs.
 extern "C" fn work(job: *mut c_void) -> *mut c_void {
     let job = unsafe { &mut *job.cast::<Job>() };
     let [statements, parameters, contexts] = &mut job.tables;
@@ -54,6 +57,11 @@ extern "C" fn work(job: *mut c_void) -> *mut c_void {
             let given = proved::evaluation(request, &job.dictionary, 0, &[0; 4], &[], runs);
             assert!(given & 0xff < 3, "a condition that comes out");
         }
+        Work::Explain(request, runs) => {
+            let (dictionary, tests) = (&job.dictionary, &mut job.tests);
+            let given = proved::explanation(request, dictionary, 0, &[0; 4], &[], runs, tests);
+            assert!(given & 0xff == 7, "a condition that comes out");
+        }
     }
     std::ptr::null_mut()
 }
@@ -61,7 +69,8 @@ extern "C" fn work(job: *mut c_void) -> *mut c_void {
 /// The bytes of a stack that a thread wrote to.
 fn used(work: Work) -> usize {
     let dictionary = dictionaries::encode(&dictionaries::house());
-    let mut job = Job { work, dictionary, tables: TABLE_LENGTHS.map(|length| vec![0; length]) };
+    let tables = TABLE_LENGTHS.map(|length| vec![0; length]);
+    let mut job = Job { work, dictionary, tables, tests: vec![0; TEST_TABLE] };
     let mut stack = vec![UNUSED; STACK + 4096];
     let start = stack.as_ptr().align_offset(4096);
     let mut attributes = Attributes([0; 256]);
@@ -162,7 +171,9 @@ pub fn run() {
         println!("{name:<32} {:>8} bytes of stack", used(Work::Read(request)) - own);
     }
     for (name, request, runs) in deepest_conditions() {
+        let explained = used(Work::Explain(request.clone(), runs.clone())) - own;
         println!("{name:<32} {:>8} bytes of stack", used(Work::Evaluate(request, runs)) - own);
+        println!("{:<32} {explained:>8} bytes of stack", name.replace("evaluation", "explanation"));
     }
 }
 

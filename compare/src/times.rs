@@ -1,5 +1,6 @@
 //! Times of the proved leaves as ratios to the second program's, in one run: below 1 the proved code is faster.
 
+use crate::explanations::TEST_TABLE;
 use crate::plain;
 use crate::proved::{self, Computed, Number};
 use second::decimal::{self, Fault};
@@ -392,6 +393,31 @@ fn evaluations() {
     }
 }
 
+/// Explanations of the same conditions, in a table of 512 numbers and in the greatest, which is cleared first, against the proved evaluation of
+/// them: at most 1.5 is the goal.
+fn explanations() {
+    let record = house_record();
+    let dictionary = dictionaries::encode(&dictionaries::house());
+    let lengths = [10, 100, 500, 2_000];
+    for (about, room) in lengths.iter().flat_map(|about| [(*about, 512), (*about, TEST_TABLE)]) {
+        let (request, bytes) = condition_of_about(about);
+        let mut tests = vec![0; room];
+        line(
+            &format!("explaining {bytes}, table of {room}"),
+            400_000 / bytes,
+            |_| {
+                let given =
+                    proved::explanation(&request, &dictionary, 0, &[], &record, &[], &mut tests);
+                assert!(black_box(given) & 0xff == 7, "a condition that comes out");
+            },
+            |_| {
+                let given = proved::evaluation(&request, &dictionary, 0, &[], &record, &[]);
+                assert!(black_box(given) & 0xff < 3, "a condition that comes out");
+            },
+        );
+    }
+}
+
 /// A request with an if of a boolean.
 fn request_if(boolean: &[u8]) -> Vec<u8> {
     let statement = [&[wire::IF], boolean, &assemble::NOTHING, &[wire::END]].concat();
@@ -519,6 +545,7 @@ pub fn run() {
     dictionary_check();
     readings();
     evaluations();
+    explanations();
     runs();
     averages();
     stores();

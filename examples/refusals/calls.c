@@ -1,5 +1,5 @@
-/* The refusals that no description shows: 1 and 2 of reading, since the programs' tables are long enough and an entry of their input holds
- * no longer request; and those of a store. Prints a line for each.
+/* The refusals that no description shows: 1 and 2 of reading and 1 of an explanation, since the programs' tables are long enough and an entry
+ * of their input holds no longer request; and those of a store. Prints a line for each.
  *
  *     cc -Iinclude examples/refusals/calls.c target/staticlib/libgreenblr.a -o calls && ./calls
  */
@@ -19,6 +19,13 @@ static const uint8_t request[GREENBLR_MAX_REQUEST_BYTES + 1] = {
     GREENBLR_CODE_VERSION4, GREENBLR_CODE_BEGIN, GREENBLR_CODE_END, GREENBLR_CODE_EOC,
 };
 
+/* If 0 is missing, nothing. */
+static const uint8_t asking[] = {
+    GREENBLR_CODE_VERSION4, GREENBLR_CODE_BEGIN,
+    GREENBLR_CODE_IF, GREENBLR_CODE_MISSING, GREENBLR_CODE_LITERAL, GREENBLR_CODE_SHORT, 0, 0, 0, GREENBLR_CODE_BEGIN, GREENBLR_CODE_END, GREENBLR_CODE_END,
+    GREENBLR_CODE_END, GREENBLR_CODE_EOC,
+};
+
 static void print(const char *what, uint32_t number, const size_t answer[3])
 {
     printf("refused %lu at %zu, %s: %s\n", (unsigned long)number, answer[0], what, greenblr_refusal_text(number));
@@ -34,6 +41,14 @@ static void reading(const char *what, size_t length, size_t room)
                               parameters, GREENBLR_PARAMETER_TABLE, contexts, GREENBLR_CONTEXT_TABLE, answer), answer);
 }
 
+static void explanation(const char *what, size_t room)
+{
+    uint32_t tests[GREENBLR_TEST_ROW];
+    uint64_t given = greenblr_explain(asking, sizeof asking, dictionary, sizeof dictionary, 0, NULL, 0, NULL, 0, NULL, 0, tests, room);
+    const size_t place[3] = {(size_t)greenblr_place(given), 0, 0};
+    print(what, greenblr_number(given), place);
+}
+
 int main(void)
 {
     static uint8_t buffer[GREENBLR_MAX_STORE_BYTES + 1];
@@ -42,6 +57,7 @@ int main(void)
 
     reading("a table of statements that is one number short", 4, GREENBLR_STATEMENT_TABLE - 1);
     reading("a request of 65,536 bytes", sizeof request, GREENBLR_STATEMENT_TABLE);
+    explanation("a table of tests of one number", GREENBLR_TEST_ROW - 1);
 
     print("a store beside a dictionary that is cut short", greenblr_store_make(dictionary, words - 1, buffer, 32, 1, answer), answer);
     print("a store of relation 2", greenblr_store_make(dictionary, words, buffer, 32, 2, answer), answer);

@@ -1,6 +1,6 @@
 //! A second, plain reader and evaluator of BLR requests over a house dictionary.
 //!
-//! It is written from document 01 and requests No. 1, No. 3, No. 4 and No. 7 to No. 10 of
+//! It is written from document 01 and requests No. 1, No. 3, No. 4 and No. 6 to No. 10 of
 //! document 02 alone, with vectors and 128-bit numbers where they make a rule short, so that its
 //! results can be compared with those of another implementation. Places count bytes from the start
 //! of the request or of the dictionary.
@@ -17,6 +17,8 @@ pub mod decimal;
 pub mod dictionary;
 /// Evaluation of one condition or from-value over messages, records and runs.
 pub mod evaluator;
+/// The explanation program's output.
+pub mod explanation;
 /// Generation of cases from fixed seeds.
 pub mod generate;
 /// Byte strings as hex digits, long runs abbreviated.

@@ -25,7 +25,7 @@ fn split(input: &[u8]) -> Option<(&[u8], &[u8])> {
 }
 
 /// The body of the first entry, if it is whole and of this kind, and the bytes behind it.
-fn entry(bytes: &[u8], kind: u16) -> Option<(&[u8], &[u8])> {
+pub fn entry(bytes: &[u8], kind: u16) -> Option<(&[u8], &[u8])> {
     let length = usize::from(wire::word(bytes, 0)?);
     if length < 4 || length > bytes.len() || wire::word(bytes, 2) != Some(kind) {
         return None;

@@ -3,7 +3,10 @@
 use second::cases;
 use second::count::Tally;
 use second::evaluator::{evaluate_over, evaluate_value, Lent};
-use second::generate::{self, conditions, from_values, inputs::inputs, readings, Case, Size};
+use second::explanation::explanation;
+use second::generate::{
+    self, conditions, explanations, from_values, inputs::inputs, readings, Case, Size,
+};
 use second::hex;
 use second::listing::listing;
 use std::fs;
@@ -13,18 +16,21 @@ use std::process::ExitCode;
 
 const USAGE: &str = "usage:
   second listing < INPUT
+  second explain < INPUT
   second evaluate DICTIONARYHEX REQUESTHEX CONDITION MESSAGESHEX RECORDSHEX [RUNSHEX]
   second value DICTIONARYHEX REQUESTHEX ROW MESSAGESHEX RECORDSHEX RUNSHEX
   second cases small|mixed|readings|conditions|values SEED COUNT
   second count small|mixed|readings|conditions|values SEED COUNT
   second inputs SEED COUNT FOLDER
+  second explanations SEED COUNT FOLDER
 ";
 
 fn main() -> ExitCode {
     let arguments: Vec<String> = std::env::args().skip(1).collect();
     let words: Vec<&str> = arguments.iter().map(String::as_str).collect();
     let done = match words.as_slice() {
-        ["listing"] => list(),
+        ["listing"] => print_output(listing),
+        ["explain"] => print_output(explanation),
         ["evaluate", dictionary, request, condition, messages, records] => {
             evaluate_hex([dictionary, request, messages, records, "-"], condition)
         }
@@ -36,7 +42,10 @@ fn main() -> ExitCode {
         }
         ["cases", size, seed, count] => print_cases(size, seed, count),
         ["count", size, seed, count] => print_count(size, seed, count),
-        ["inputs", seed, count, folder] => write_inputs(seed, count, Path::new(folder)),
+        ["inputs", seed, count, folder] => write_inputs(inputs, seed, count, Path::new(folder)),
+        ["explanations", seed, count, folder] => {
+            write_inputs(explanations::inputs, seed, count, Path::new(folder))
+        }
         _ => None,
     };
     match done {
@@ -52,11 +61,11 @@ fn main() -> ExitCode {
     }
 }
 
-/// The listing of the standard input.
-fn list() -> Option<io::Result<()>> {
+/// What a program prints for the standard input.
+fn print_output(program: fn(&[u8]) -> String) -> Option<io::Result<()>> {
     let mut input = Vec::new();
     let read = io::stdin().read_to_end(&mut input);
-    Some(read.and_then(|_| io::stdout().write_all(listing(&input).as_bytes())))
+    Some(read.and_then(|_| io::stdout().write_all(program(&input).as_bytes())))
 }
 
 /// The outcome of one evaluation; nothing if an argument cannot be read.
@@ -115,8 +124,13 @@ fn print_count(size: &str, seed: &str, count: &str) -> Option<io::Result<()>> {
     Some(write!(io::stdout(), "{}", tally.table()))
 }
 
-/// Inputs of the listing program as files of a folder, each under its number.
-fn write_inputs(seed: &str, count: &str, folder: &Path) -> Option<io::Result<()>> {
+/// Inputs of a program as files of a folder, each under its number.
+fn write_inputs(
+    inputs: fn(u64, usize) -> Vec<Vec<u8>>,
+    seed: &str,
+    count: &str,
+    folder: &Path,
+) -> Option<io::Result<()>> {
     let inputs = inputs(seed.parse().ok()?, count.parse().ok()?);
     for (number, input) in inputs.iter().enumerate() {
         if let Err(error) = fs::write(folder.join(format!("{number:04}")), input) {

@@ -1,6 +1,7 @@
 //! Cases that independent programs agreed on (`tests/agreed/README.md`): all must agree.
 
 use second::cases;
+use second::explanation::explanation;
 use second::generate::evaluations::outcome;
 use second::generate::Case;
 use second::hex;
@@ -14,9 +15,10 @@ const WITHOUT_CAUSES: [File; 2] =
     [(include_str!("agreed/evaluations.txt"), 165), (include_str!("agreed/no-01.txt"), 28)];
 
 /// The files whose missing answers have causes.
-const WITH_CAUSES: [File; 5] = [
+const WITH_CAUSES: [File; 6] = [
     (include_str!("agreed/no-03.txt"), 42),
     (include_str!("agreed/no-04.txt"), 167),
+    (include_str!("agreed/no-06.txt"), 160),
     (include_str!("agreed/no-07.txt"), 42),
     (include_str!("agreed/no-08.txt"), 308),
     (include_str!("agreed/no-09.txt"), 242),
@@ -55,8 +57,13 @@ fn case(input: &str) -> Option<Case> {
 
 /// The output of a program whose input is the word behind its name, `;` for each line feed.
 fn output(input: &str) -> Option<String> {
-    let bytes = hex::read(input.strip_prefix("listing ")?)?;
-    Some(listing(&bytes).replace('\n', ";"))
+    let (name, bytes) = input.split_once(' ')?;
+    let program = match name {
+        "listing" => listing,
+        "explain" => explanation,
+        _ => return None,
+    };
+    Some(program(&hex::read(bytes)?).replace('\n', ";"))
 }
 
 /// A case with its outcome, that of a missing answer without its cause.

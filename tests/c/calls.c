@@ -1,5 +1,5 @@
 /* What greenblr.h says of every call, tried: what may be NULL, the least sizes, what is filled and what is left, the offsets of rows,
- * the versions, the parts of an evaluation, the words. Every buffer is a block of the heap of exactly its length, so that valgrind sees a
+ * the versions, the parts of an evaluation and an explanation, the words. Every buffer is a block of the heap of exactly its length, so that valgrind sees a
  * byte too far. */
 #include <greenblr.h>
 #include <stdio.h>
@@ -282,6 +282,52 @@ static void values(void)
     free(answer);
 }
 
+/* The tests of a condition, in tables of several lengths: a bed's HEAT is above 30.0, or its NAME does not start with E. */
+static void explanations(void)
+{
+    static const uint8_t either_bytes[] = {
+        GREENBLR_CODE_VERSION4, GREENBLR_CODE_BEGIN, GREENBLR_CODE_FOR, GREENBLR_CODE_RSE, 1, GREENBLR_CODE_RID, 1, 0, 0, GREENBLR_CODE_BOOLEAN,
+        GREENBLR_CODE_OR, GREENBLR_CODE_GTR, GREENBLR_CODE_FID, 0, 0, 0, GREENBLR_CODE_LITERAL, GREENBLR_CODE_SHORT, 255, 44, 1,
+        GREENBLR_CODE_NOT, GREENBLR_CODE_STARTING, GREENBLR_CODE_FID, 0, 1, 0, GREENBLR_CODE_LITERAL, GREENBLR_CODE_TEXT, 1, 0, 'E',
+        GREENBLR_CODE_END, GREENBLR_CODE_BEGIN, GREENBLR_CODE_END, GREENBLR_CODE_END, GREENBLR_CODE_EOC,
+    };
+    enum { EITHER = sizeof either_bytes, TESTS = 2 * GREENBLR_TEST_ROW };
+    uint8_t *either = copy(either_bytes, EITHER), *record = copy(bed_bytes, BED);
+    for (size_t length = 0; length < TESTS + 3; length++) {
+        uint32_t *tests = table(length);
+        uint64_t given = greenblr_explain(either, EITHER, dictionary, DICTIONARY, 0, NULL, 0, record, BED, NULL, 0, tests, length);
+        if (length < GREENBLR_TEST_ROW) {
+            EXPECT(greenblr_number(given) == GREENBLR_REFUSAL_TABLES_TOO_SHORT && greenblr_place(given) == 0);
+            EXPECT(greenblr_tests(given) == 0 && zeros(tests, 0, length));
+        } else {
+            EXPECT(greenblr_answer(given) == GREENBLR_EXPLAINED && greenblr_tests(given) == 1 && zeros(tests, GREENBLR_TEST_ROW, length));
+            EXPECT(greenblr_number(given) == GREENBLR_REFUSAL_NONE && greenblr_place(given) == 0 && greenblr_cause(given) == GREENBLR_CAUSE_NONE);
+            EXPECT(tests[GREENBLR_TEST_PLACE] == 11 && tests[GREENBLR_TEST_OUTCOME] == GREENBLR_TRUE);
+        }
+        free(tests);
+    }
+    record[7] = record[8] = 255;
+    for (size_t length = 0; length < TESTS + 3; length++) {
+        uint32_t *tests = table(length);
+        uint64_t given = greenblr_explain(either, EITHER, dictionary, DICTIONARY, 0, NULL, 0, record, BED, NULL, 0, tests, length);
+        EXPECT(greenblr_tests(given) == (length < TESTS ? 0 : 2) && zeros(tests, length < TESTS ? 0 : TESTS, length));
+        if (length >= TESTS) {
+            const uint32_t *second = tests + GREENBLR_TEST_ROW;
+            EXPECT(tests[GREENBLR_TEST_PLACE] == 11 && tests[GREENBLR_TEST_OUTCOME] == GREENBLR_MISSING);
+            EXPECT(second[GREENBLR_TEST_PLACE] == 22 && second[GREENBLR_TEST_OUTCOME] == GREENBLR_TRUE);
+            given = greenblr_explain(either, EITHER, dictionary, DICTIONARY, 0, NULL, 0, record, BED - 1, NULL, 0, tests, length);
+            EXPECT(greenblr_answer(given) == GREENBLR_REFUSED && greenblr_number(given) == GREENBLR_REFUSAL_BAD_RECORDS);
+            EXPECT(greenblr_tests(given) == 0 && zeros(tests, 0, length));
+            given = greenblr_explain(either, EITHER, dictionary, DICTIONARY, 1, NULL, 0, record, BED, NULL, 0, tests, length);
+            EXPECT(greenblr_number(given) == GREENBLR_REFUSAL_NO_BOOLEAN && greenblr_place(given) == 0);
+        }
+        free(tests);
+    }
+    EXPECT(greenblr_tests(evaluate(bed, BED)) == 0);
+    free(either);
+    free(record);
+}
+
 /* A pointer of length 0 may be NULL, of every slice of every function. */
 static void nulls(void)
 {
@@ -294,6 +340,8 @@ static void nulls(void)
     EXPECT(greenblr_number(greenblr_evaluate(request, REQUEST, NULL, 0, 0, NULL, 0, NULL, 0, NULL, 0)) == GREENBLR_REFUSAL_UNKNOWN);
     EXPECT(greenblr_number(greenblr_evaluate(request, REQUEST, dictionary, DICTIONARY, 0, NULL, 0, NULL, 0, NULL, 0)) == GREENBLR_REFUSAL_BAD_MESSAGE_BYTES);
     EXPECT(greenblr_number(greenblr_evaluate(request, REQUEST, dictionary, DICTIONARY, 0, image, IMAGE, NULL, 0, NULL, 0)) == GREENBLR_REFUSAL_BAD_RECORDS);
+    EXPECT(greenblr_number(greenblr_explain(NULL, 0, NULL, 0, 0, NULL, 0, NULL, 0, NULL, 0, NULL, 0)) == GREENBLR_REFUSAL_ENDS_EARLY);
+    EXPECT(greenblr_number(greenblr_explain(request, REQUEST, dictionary, DICTIONARY, 0, image, IMAGE, bed, BED, NULL, 0, NULL, 0)) == GREENBLR_REFUSAL_TABLES_TOO_SHORT);
     EXPECT(greenblr_store_make(NULL, 0, NULL, 0, 1, answer) == GREENBLR_REFUSAL_UNKNOWN);
     EXPECT(greenblr_store_make(dictionary, DICTIONARY, NULL, 0, 1, answer) == GREENBLR_REFUSAL_NO_ROOM);
     EXPECT(greenblr_store_add(dictionary, DICTIONARY, NULL, 0, NULL, 0, answer) == GREENBLR_REFUSAL_MALFORMED_STORE);
@@ -361,6 +409,7 @@ int main(void)
     evaluations();
     runs();
     values();
+    explanations();
     nulls();
     stores();
     words();

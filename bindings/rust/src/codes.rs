@@ -135,6 +135,38 @@ named! {
 }
 
 named! {
+    /// The code of a test: each boolean but or, and and not is one.
+    TestCode {
+        /// 47: two values are equal.
+        Eql = EQL "eql"
+        /// 48: two values are not equal.
+        Neq = NEQ "neq"
+        /// 49: the first value is the greater.
+        Gtr = GTR "gtr"
+        /// 50: the first value is not the less.
+        Geq = GEQ "geq"
+        /// 51: the first value is the less.
+        Lss = LSS "lss"
+        /// 52: the first value is not the greater.
+        Leq = LEQ "leq"
+        /// 53: a text contains another.
+        Containing = CONTAINING "containing"
+        /// 54: a text matches a pattern.
+        Matching = MATCHING "matching"
+        /// 55: a text starts with another.
+        Starting = STARTING "starting"
+        /// 56: a value lies between two others.
+        Between = BETWEEN "between"
+        /// 60: a record of a run makes a condition true.
+        Any = ANY "any"
+        /// 61: a value is missing.
+        Missing = MISSING "missing"
+        /// 62: exactly one record of a run makes a condition true.
+        Unique = UNIQUE "unique"
+    }
+}
+
+named! {
     /// The type of a parameter.
     Type {
         /// 7: a signed number of 2 bytes.

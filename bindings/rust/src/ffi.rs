@@ -44,6 +44,21 @@ mod c {
             runs_length: usize,
             answer: *mut i64,
         ) -> u64;
+        pub fn greenblr_explain(
+            request: *const u8,
+            request_length: usize,
+            dictionary: *const u8,
+            dictionary_length: usize,
+            number: usize,
+            images: *const u8,
+            images_length: usize,
+            records: *const u8,
+            records_length: usize,
+            runs: *const u8,
+            runs_length: usize,
+            tests: *mut u32,
+            tests_length: usize,
+        ) -> u64;
         pub fn greenblr_store_make(
             dictionary: *const u8,
             dictionary_length: usize,
@@ -197,6 +212,36 @@ pub fn evaluate_value(
         )
     };
     (given, answer)
+}
+
+/// The number that is given; the tests stand in the table.
+pub fn explain(
+    request: &[u8],
+    dictionary: &[u8],
+    number: usize,
+    images: &[u8],
+    records: &[u8],
+    runs: &[u8],
+    tests: &mut [u32],
+) -> u64 {
+    // SAFETY: as above.
+    unsafe {
+        c::greenblr_explain(
+            request.as_ptr(),
+            request.len(),
+            dictionary.as_ptr(),
+            dictionary.len(),
+            number,
+            images.as_ptr(),
+            images.len(),
+            records.as_ptr(),
+            records.len(),
+            runs.as_ptr(),
+            runs.len(),
+            tests.as_mut_ptr(),
+            tests.len(),
+        )
+    }
 }
 
 pub fn store_make(dictionary: &[u8], buffer: &mut [u8], relation: u32) -> Answered {

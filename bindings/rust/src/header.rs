@@ -65,9 +65,13 @@ fn rows_are_the_headers() {
         ("CONTEXT_END", CONTEXT_END),
         ("CONTEXT_RELATION", CONTEXT_RELATION),
         ("CONTEXT_OPENER", CONTEXT_OPENER),
+        ("TEST_ROW", TEST_ROW),
+        ("TEST_PLACE", TEST_PLACE),
+        ("TEST_OUTCOME", TEST_OUTCOME),
         ("MAX_STATEMENTS", MAX_STATEMENTS),
         ("MAX_PARAMETERS", MAX_PARAMETERS),
         ("MAX_CONTEXTS", MAX_CONTEXTS),
+        ("MAX_TESTS", MAX_TESTS),
         ("STORE_HEADER", STORE_HEADER),
     ] {
         assert_eq!(named(name), Some(number), "{name}");
@@ -109,10 +113,14 @@ fn causes_are_the_headers() {
 fn values_are_the_headers() {
     let header = numbers(&repository("include/greenblr.h"));
     for (name, number) in [
+        ("FALSE", 0),
+        ("TRUE", 1),
         ("MISSING", 2),
+        ("REFUSED", 3),
         ("VALUE_NUMBER", 4),
         ("VALUE_TEXT", 5),
         ("VALUE_DATE", 6),
+        ("EXPLAINED", 7),
         ("INPUT_REQUEST", 0),
         ("INPUT_IMAGES", 2),
         ("INPUT_RECORDS", 3),

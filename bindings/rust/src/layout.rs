@@ -1,4 +1,4 @@
-//! The rows of the three tables, as include/greenblr.h lays them out: tests/header.rs holds these numbers against it.
+//! The rows of the tables, as include/greenblr.h lays them out: tests/header.rs holds these numbers against it.
 
 /// Numbers of a statement's row, and the place of each in it.
 pub const STATEMENT_ROW: usize = 5;
@@ -26,13 +26,20 @@ pub const CONTEXT_END: usize = 3;
 pub const CONTEXT_RELATION: usize = 4;
 pub const CONTEXT_OPENER: usize = 5;
 
+/// Numbers of a test's row, and the place of each in it.
+pub const TEST_ROW: usize = 2;
+pub const TEST_PLACE: usize = 0;
+pub const TEST_OUTCOME: usize = 1;
+
 /// The most rows of each table, and with them its least numbers.
 pub const MAX_STATEMENTS: usize = 512;
 pub const MAX_PARAMETERS: usize = 256;
 pub const MAX_CONTEXTS: usize = 32;
+pub const MAX_TESTS: usize = 10922;
 pub const STATEMENT_TABLE: usize = MAX_STATEMENTS * STATEMENT_ROW;
 pub const PARAMETER_TABLE: usize = MAX_PARAMETERS * PARAMETER_ROW;
 pub const CONTEXT_TABLE: usize = MAX_CONTEXTS * CONTEXT_ROW;
+pub const TEST_TABLE: usize = MAX_TESTS * TEST_ROW;
 
 /// The bytes of a store's header; the entries of its records follow.
 pub const STORE_HEADER: usize = 10;

@@ -8,6 +8,7 @@
 //! - [`Request::read`] takes a request's bytes: its statements, parameters and contexts, or a [`Refusal`].
 //! - [`Request::evaluate`] gives what a condition comes out as: [`Truth`], with its [`Cause`] where it is missing.
 //! - [`Request::evaluate_value`] gives what the value of an assignment comes out as, as an average that leaves out 65535: [`Answer`].
+//! - [`Request::explain`] gives the tests that decide a condition, each with its outcome: [`Test`].
 //! - [`Store`] keeps the records of one relation in a buffer.
 //!
 //! ```
@@ -52,6 +53,7 @@
 #![warn(rust_2018_idioms)]
 
 pub mod codes;
+mod explanation;
 #[allow(unsafe_code)]
 mod ffi;
 mod layout;
@@ -61,7 +63,8 @@ mod request;
 mod store;
 mod truth;
 
-pub use codes::{Opener, StatementCode, Type};
+pub use codes::{Opener, StatementCode, TestCode, Type};
+pub use explanation::{Outcome, Test};
 pub use record::{record, run, Field};
 pub use refusal::{Input, Reason, Refusal};
 pub use request::{

@@ -1,6 +1,7 @@
 //! Dictionaries, requests and their rows.
 
 use crate::codes::{Opener, StatementCode, Type};
+use crate::explanation::{self, Test};
 use crate::ffi;
 use crate::layout::*;
 use crate::refusal::Refusal;
@@ -86,7 +87,7 @@ pub struct Request<'a> {
 impl<'a> Request<'a> {
     /// Reads a request beside a dictionary: the rows of its statements, parameters and contexts, or a refusal, 2 or 4 to 16.
     ///
-    /// Any bytes may be given. The library uses up to 68 kilobytes of stack for the requests that were tried; that is measured
+    /// Any bytes may be given. The library uses up to 135 kilobytes of stack for the requests that were tried; that is measured
     /// and not proved.
     pub fn read(dictionary: &Dictionary<'a>, bytes: &'a [u8]) -> Result<Request<'a>, Refusal> {
         let mut statements = vec![0; STATEMENT_TABLE];
@@ -262,6 +263,53 @@ impl<'a> Request<'a> {
         let (given, answer) =
             ffi::evaluate_value(bytes, dictionary.bytes, assignment, messages, records, runs);
         truth::value_taken_apart(given, answer, &Given { request: bytes, messages, records, runs })
+    }
+
+    /// Explains a condition by its number: the tests that decide it, in reading order, one at least.
+    ///
+    /// `messages`, `records` and `runs` are as with [`evaluate_over`](Request::evaluate_over), and so are the refusals. Each boolean but or, and
+    /// and not is one test. A false and is decided by the tests of its first false side, a true or by those of its first true side, and every
+    /// other and and or by those of both; a not by those of the boolean after it. Whatever the tests not listed came out as, the condition
+    /// would come out the same; that is proved.
+    ///
+    /// Why was a bed left out? It is watered where it is warm enough, and dry or not measured:
+    ///
+    /// ```
+    /// use greenblr::{record, Dictionary, Field, Request};
+    ///
+    /// // relation 1 BEDS; its fields WET and HEAT, readings of scale -1
+    /// let dictionary = Dictionary::new(
+    ///     b"\x0b\0\x01\0\x01\0\x04BEDS\x0e\0\x02\0\0\0\xc8\xff\x02\0\x03WET\x0f\0\x02\0\x01\0\xc8\xff\x02\0\x04HEAT",
+    /// )?;
+    /// // for each bed whose heat is above 5.0, and which is below 25.0 wet or whose wet is missing, nothing
+    /// let bytes = [
+    ///     4, 2, 7, 67, 1, 75, 1, 0, 0, 71, 58, 49, 24, 0, 1, 0, 21, 7, 255, 50, 0, 57, 51, 24, 0, 0, 0, 21, 7,
+    ///     255, 250, 0, 61, 24, 0, 0, 0, 255, 2, 255, 255, 76,
+    /// ];
+    /// let request = Request::read(&dictionary, &bytes)?;
+    /// let why = |wet, heat| {
+    ///     let bed = record(1, &[Field::Reading(wet), Field::Reading(heat)]);
+    ///     let tests = request.explain(0, &[], &bed, &[])?;
+    ///     Ok::<_, greenblr::Refusal>(tests.iter().map(ToString::to_string).collect::<Vec<_>>())
+    /// };
+    /// assert_eq!(why(310, 120)?, ["lss at 22 is false", "missing at 32 is false"]); // it is wet
+    /// assert_eq!(why(200, 40)?, ["gtr at 11 is false"]); // it is cold
+    /// assert_eq!(why(200, 65535)?, ["gtr at 11 is missing", "lss at 22 is true"]);
+    /// assert_eq!(why(65535, 120)?, ["gtr at 11 is true", "missing at 32 is true"]); // it is watered
+    /// # Ok::<(), greenblr::Refusal>(())
+    /// ```
+    pub fn explain(
+        &self,
+        condition: usize,
+        messages: &[u8],
+        records: &[u8],
+        runs: &[u8],
+    ) -> Result<Vec<Test>, Refusal> {
+        let Request { bytes, dictionary, .. } = self;
+        let mut tests = vec![0; TEST_TABLE];
+        let given =
+            ffi::explain(bytes, dictionary.bytes, condition, messages, records, runs, &mut tests);
+        explanation::taken_apart(given, &tests, bytes)
     }
 }
 

@@ -1,5 +1,5 @@
-//! The evaluations, readings and calls on stores of second/tests/agreed through this crate: answers, causes, rows, refusals, places,
-//! buffers.
+//! The evaluations, explanations, readings and calls on stores of second/tests/agreed through this crate: answers, causes, tests, rows,
+//! refusals, places, buffers.
 
 use greenblr::{Answer, Cause, Dictionary, Refusal, Request, Store, Truth};
 use std::fs;
@@ -168,6 +168,41 @@ fn runs_agree() {
 #[test]
 fn statistics_agree() {
     assert_eq!(agree("no-09.txt", 242), [102, 71, 52]);
+}
+
+/// The explanation of a program's input in the words of the files, a line ended by `;`; nothing of an input that is not as due.
+fn explained(input: &[u8]) -> Result<String, Refusal> {
+    let mut parts: [Vec<u8>; 12] = Default::default();
+    let mut rest = input;
+    while let [low, high, kind, ..] = *rest {
+        let (entry, behind) = rest.split_at(usize::from(u16::from_le_bytes([low, high])));
+        // Records and runs are whole entries.
+        let head = if matches!(kind, 3 | 7) { 0 } else { 4 };
+        parts[usize::from(kind)].extend(&entry[head..]);
+        rest = behind;
+    }
+    let dictionary = Dictionary::new(&parts[4])?;
+    let request = Request::read(&dictionary, &parts[5])?;
+    let condition = usize::from(u16::from_le_bytes([parts[9][0], parts[9][1]]));
+    let tests = request.explain(condition, &parts[10], &parts[3], &parts[7])?;
+    Ok(tests.iter().map(|test| format!("{} {};", test.place, test.outcome)).collect())
+}
+
+/// Explanations of conditions.
+#[test]
+fn explanations_agree() {
+    let lines = lines("no-06.txt");
+    assert_eq!(lines.len(), 160);
+    let mut run = 0;
+    for line in lines.iter().filter(|line| !line.ends_with(" = bad input;")) {
+        let (input, due) = line.split_once(" = ").expect("an outcome");
+        let input = bytes(input.strip_prefix("explain ").expect("an explanation"));
+        let told =
+            |refusal: Refusal| format!("refused {} at {};", refusal.number(), refusal.place());
+        assert_eq!(explained(&input).unwrap_or_else(told), due, "{line}");
+        run += 1;
+    }
+    assert_eq!(run, 156);
 }
 
 /// What a call on a store leaves in the buffer, or what reading it tells, in the words of the files.

@@ -1,8 +1,8 @@
 //! Requests, evaluations and stores through the crate: document 01's examples, every refusal, and that nothing traps.
 
 use greenblr::{
-    codes, record, run, Answer, Cause, Dictionary, Field, Input, Opener, Reason, Refusal, Request,
-    StatementCode, Store, Truth, Type,
+    codes, record, run, Answer, Cause, Dictionary, Field, Input, Opener, Outcome, Reason, Refusal,
+    Request, StatementCode, Store, Test, TestCode, Truth, Type,
 };
 
 const BEDS: &[u8] = b"\x0b\0\x01\0\x01\0\x04BEDS\
@@ -407,6 +407,53 @@ fn values_of_assignments() {
     assert_eq!(told(value(6)), (Reason::BadRuns, Input::Runs, 0));
 }
 
+/// A bed is watered where its heat is above 5.0, and its name contains an E or does not start with a B.
+#[test]
+fn explanations() {
+    let dictionary = beds();
+    let test =
+        |code: u8, text: u8| [&[code, codes::FID, 0, 1, 0][..], &[21, 14, 1, 0, text]].concat();
+    let condition = [
+        &[codes::AND, codes::GTR, codes::FID, 0, 0, 0, 21, 7, 255, 50, 0, codes::OR][..],
+        &test(codes::CONTAINING, b'E'),
+        &[codes::NOT],
+        &test(codes::STARTING, b'B'),
+    ]
+    .concat();
+    let head = [4, 2, 7, 67, 1, 75, 1, 0, 0, 71];
+    let bytes = [&head[..], &condition, &[255, 2, 255, 255, 76]].concat();
+    let request = Request::read(&dictionary, &bytes).unwrap();
+    let why = |heat, name: &[u8]| {
+        let bed = record(1, &[heat, Field::Bytes(name)]);
+        request.explain(0, &[], &bed, &[]).unwrap()
+    };
+    let words = |tests: &[Test]| tests.iter().map(Test::to_string).collect::<Vec<_>>().join(", ");
+    assert_eq!(
+        words(&why(Field::Reading(51), b"EAST")),
+        "gtr at 11 is true, containing at 22 is true"
+    );
+    assert_eq!(words(&why(Field::Reading(50), b"EAST")), "gtr at 11 is false");
+    assert_eq!(
+        words(&why(Field::Reading(51), b"BAD ")),
+        "containing at 22 is false, starting at 33 is true"
+    );
+    assert_eq!(
+        words(&why(Field::Missing(2), b"WAD ")),
+        "gtr at 11 is missing, starting at 33 is false"
+    );
+    let tests = why(Field::Reading(65535), b"EAST");
+    assert_eq!((tests[0].code, tests[0].outcome), (TestCode::Gtr, Outcome::Missing));
+    assert_eq!(TestCode::from_code(tests[1].code.code()), TestCode::Containing);
+    let told = |refusal: Refusal| (refusal.reason(), refusal.input(), refusal.place());
+    let refused = |number, records: &[u8], runs: &[u8]| {
+        told(request.explain(number, &[], records, runs).unwrap_err())
+    };
+    assert_eq!(refused(1, &[], &[]), (Reason::NoBoolean, Input::Request, 0));
+    assert_eq!(refused(0, &[], &[]), (Reason::BadRecords, Input::Records, 0));
+    let bed = bed(Field::Reading(1));
+    assert_eq!(refused(0, &bed, &run(&[&bed])), (Reason::BadRuns, Input::Runs, 0));
+}
+
 #[test]
 fn any_bytes_are_answered() {
     let dictionary = beds();
@@ -426,6 +473,11 @@ fn any_bytes_are_answered() {
             let bed = bed(Field::Reading(next() as u16));
             let _ = request.evaluate(next() % 2, &[0, 0], &bed);
             let _ = request.evaluate_value(next() % 4, &[0, 0], &bed, &[]);
+            let tests = request.explain(0, &[0, 0], &bed, &[]);
+            assert!(
+                tests.is_ok_and(|tests| !tests.is_empty())
+                    || request.evaluate(0, &[0, 0], &bed).is_err()
+            );
         }
     }
 }

@@ -1,8 +1,8 @@
 -- What the program answers to an input of any bytes.
-use Prim.Native.Nat.{ℕ, _+_, _-_}
+use Prim.Native.Nat.{ℕ, _+_}
 use mathlib.Core.Path.{_≡_}
 use mathlib.Core.List.{List}
-use lib.ListN.{take, drop}
+use lib.ListN.{drop}
 use Rattle.wire.specs.Words.{wordAt}
 use Rattle.wire.specs.Entries.{entryBody, messageEntryKind}
 use mathlib.Core.Bool.{Bool, true, false}
@@ -10,15 +10,11 @@ use Rattle.meaning.specs.declared.Truth.{Truth}
 use Rattle.meaning.specs.Evaluated.{outcomeOf}
 use Rattle.meaning.specs.ValueEvaluated.{valueOutcomeOf}
 use Rattle.meaning.specs.Evaluation.{Outcome, Answer, evaluation, valueEvaluation}
-use Rattle.input.specs.Evaluation.{joined, numberEntryBytes, asksRow, evaluationInput}
+use Rattle.input.specs.Evaluation.{joined, part, numberEntryBytes, asksRow, evaluationInput}
 use Rattle.input.specs.declared.EvaluationInput.{EvaluationInput}
 use Rattle.input.specs.declared.EvaluationInput.the-variants.{Entries, Bad}
 use Rattle.evaluate.specs.declared.ProgramAnswer.{ProgramAnswer}
 use Rattle.evaluate.specs.declared.ProgramAnswer.the-variants.{Is, Value, BadInput}
-
--- the bytes from one place up to another
-abbrev pub part : List ℕ → ℕ → ℕ → List ℕ
-part s from to = take (to - from) (drop from s)
 
 -- what an input comes to: a condition's outcome; a from-value's, with where request, records and runs begin in the input; or that it is not
 -- these entries

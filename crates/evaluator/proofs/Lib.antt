@@ -4,6 +4,7 @@ pub mod BoundLaws
 pub mod Due
 pub mod KindsNoted
 pub mod Outcomes
+pub mod OutsideLaws
 pub mod Parts
 pub mod PreparedLaws
 pub mod Ready

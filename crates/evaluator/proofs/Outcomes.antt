@@ -17,9 +17,10 @@ use Rattle.grammar.specs.Named.{FromValue, fromValue, FromTold}
 use Rattle.meaning.specs.declared.Truth.{Truth}
 use Rattle.meaning.specs.Data.{Result, is, refused, stray, Datum}
 use Rattle.meaning.specs.Runs.{valueRuns, dueRuns}
-use Rattle.meaning.specs.Meaning.{meaning, valueMeaning, size, booleanSize}
+use Rattle.meaning.specs.Meaning.{meaning, valueMeaning, size, booleanSize, around}
 use Rattle.meaning.specs.Evaluation.{refusal, outcome, valueOutcome, onInputs, evaluation, valueEvaluation}
 use Rattle.walking.specs.Walk.{Walked, ended, Sight, valueAt, booleanAt}
+use Rattle.walking.specs.Sees.{Sees}
 use Rattle.walking.proofs.Asked.{site, stands-after, allowed-there, walks, never}
 use Rattle.walking.proofs.Asked.{value-site, value-stands-after, value-allowed-there, value-walks, value-never}
 use Rattle.surroundings.specs.Bindings.{boundSight}
@@ -31,6 +32,7 @@ use Rattle.runs.proofs.Conditions.{condition-found, value-found}
 use Rattle.sights.proofs.Conditions.{tableFor, condition-sees, valueTableFor, value-sees}
 use Rattle.evaluator.specs.AfterReading.{ReadSo, AfterReading, RowsRead, fromPlace, settled}
 use Rattle.evaluator.specs.Answers.{settledValue}
+use Rattle.evaluator.proofs.Due.{InputsDue}
 use Rattle.evaluator.proofs.KindsNoted.{few-rows, kindsThere, kinds-are, kinds-count, kinds-relations, table-noted}
 use Rattle.evaluator.proofs.KindsNoted.{few-value-rows, valueKindsThere, value-kinds-are, value-kinds-count, value-kinds-relations, value-table-noted}
 use Rattle.evaluator.proofs.Parts.{Part, table-cut}
@@ -54,14 +56,14 @@ settled-value (is a) q = refl
 settled-value (refused r p) q = refl
 settled-value stray q = refl
 
-short : {s d pa ct : List ℕ} {m o : ℕ} (w : ReadSo s d pa ct m o) → length s ≤ maxRequestBytes
+pub short : {s d pa ct : List ℕ} {m o : ℕ} (w : ReadSo s d pa ct m o) → length s ≤ maxRequestBytes
 unfolding requestBytes
 short w = omega (arith, ap length (w .accepted .bytes), w .accepted .allowed .sized .bytes)
 
 -- ---- a condition
 
 module _ {s d pa ct nd : List ℕ} {m o : ℕ} (w : AfterReading s d pa ct nd m o) (n : ℕ) where
-  abbrev asked : Option Condition
+  abbrev pub asked : Option Condition
   asked = getElem? (requestConditions (w .so .relations) (w .so .request)) n
 
   -- no condition stands at 0
@@ -87,7 +89,7 @@ module _ {s d pa ct nd : List ℕ} {m o : ℕ} (w : AfterReading s d pa ct nd m 
   unfolding evaluation
   at-condition images rows runs x e = rw (w .so .reads, w .so .accepted .house, e)
 
-  abbrev condition-part : (rows : List ℕ) (x : Condition) → asked ≡ some x → Part (w .so) rows
+  abbrev pub condition-part : (rows : List ℕ) (x : Condition) → asked ≡ some x → Part (w .so) rows
   condition-part rows x e =
       let rs = w .so .relations in
       let t = w .so .request in
@@ -114,16 +116,30 @@ module _ {s d pa ct nd : List ℕ} {m o : ℕ} (w : AfterReading s d pa ct nd m 
         noted = table-noted s d rs t a n x e scales pa after f rows;
       }
 
+  -- what is seen by the table of the condition, with the rows of the parameters
+  abbrev pub sightThere : List ℕ → List ℕ → List ℕ → Sight (List ℕ)
+  sightThere images rows runs = boundSight d (take (m * 6) pa) (parameterCount (w .so .request .messages)) images rows runs
+
+  pub condition-seen : (images rows runs : List ℕ) (x : Condition) (e : asked ≡ some x) →
+      InputsDue (x .scope) (dueRuns (w .so .relations) (x .boolean) (x .place)) (w .so .request .messages) images rows runs →
+      Sees (w .so .request .version) (sightThere images rows runs) (tableFor d x (condition-part rows x e .kinds) rows runs)
+      (around (w .so .relations) (w .so .request) x images rows runs) (x .boolean) (x .place)
+  condition-seen images rows runs x e due =
+      let rs = w .so .relations in
+      let t = w .so .request in
+      let a = w .so .accepted in
+      let scales = w .so .scale-bytes in
+      condition-sees s d rs t a n x e (condition-part rows x e .kinds) rows runs scales (take (m * 6) pa) [] (table-cut (w .so)) images
+      (allowed-there s d rs t a n x e) (due .records-due) (due .runs-due)
+      (kinds-are s d rs t a n x e scales pa (w .so .more-parameters) (w .so .parameter-rows) rows)
+
   abbrev question : (images rows runs : List ℕ) (x : Condition) → asked ≡ some x →
       Question (w .so) images rows runs (conditionWalk s) settled (evaluation s d n images rows runs)
   question images rows runs x e =
       let rs = w .so .relations in
       let t = w .so .request in
       let a = w .so .accepted in
-      let scales = w .so .scale-bytes in
       let part = condition-part rows x e in
-      let pt = take (m * 6) pa in
-      let sight : Sight (List ℕ) = boundSight d pt (parameterCount (t .messages)) images rows runs in
       let result = meaning s d n images rows runs in
       let after = x .place + booleanSize (x .boolean) in
       record {
@@ -132,26 +148,27 @@ module _ {s d pa ct nd : List ℕ} {m o : ℕ} (w : AfterReading s d pa ct nd m 
         after = after;
         not-stray = never s d rs t a n x e images rows runs;
         walks-so =
-            λ due. walks s d rs t a n x e images rows runs sight (tableFor d x (part .kinds) rows runs)
-            (condition-sees s d rs t a n x e (part .kinds) rows runs scales pt [] (table-cut (w .so)) images
-            (allowed-there s d rs t a n x e) (due .records-due) (due .runs-due)
-            (kinds-are s d rs t a n x e scales pa (w .so .more-parameters) (w .so .parameter-rows) rows));
+            λ due. walks s d rs t a n x e images rows runs (sightThere images rows runs) (tableFor d x (part .kinds) rows runs)
+            (condition-seen images rows runs x e due);
         evaluated-so =
             at-condition images rows runs x e
             ∙ ap (onInputs (part .scope) (part .due) (t .messages) images rows runs) (sym (settled-ended result after));
       }
 
   -- what stands at the place that was noted
+  pub place-asked : (getD nd n 0 ≡ 0 → ⊥) → (x : Condition) × (asked ≡ some x) × (getD nd n 0 ≡ x .place)
+  place-asked z = by asked refl
+    where
+      by : (o : Option Condition) → asked ≡ o → (x : Condition) × (asked ≡ some x) × (getD nd n 0 ≡ x .place)
+      by none e = absurd (z (w .noted n ∙ ap conditionPlace e))
+      by (some x) e = (x, e, w .noted n ∙ ap conditionPlace e)
+
   pub condition-asked : (images rows runs : List ℕ) → (getD nd n 0 ≡ 0 → ⊥) →
       (q : Question (w .so) images rows runs (conditionWalk s) settled (evaluation s d n images rows runs)) ×
       (getD nd n 0 ≡ q .part .place)
-  condition-asked images rows runs z = by asked refl
-    where
-      by : (x : Option Condition) → asked ≡ x →
-          (q : Question (w .so) images rows runs (conditionWalk s) settled (evaluation s d n images rows runs)) ×
-          (getD nd n 0 ≡ q .part .place)
-      by none e = absurd (z (w .noted n ∙ ap conditionPlace e))
-      by (some x) e = (question images rows runs x e, w .noted n ∙ ap conditionPlace e)
+  condition-asked images rows runs z =
+      let k = place-asked z in
+      (question images rows runs (k .0) (k .1), k .2)
 
 -- ---- a from-value
 

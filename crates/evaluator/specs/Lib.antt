@@ -6,3 +6,4 @@ pub mod Answers
 pub mod AfterReading
 pub mod Bound
 pub mod Prepared
+pub mod Outside

@@ -16,7 +16,7 @@ use values::Valued;
 use values::spans::span;
 
 // Document 01's 23, 24 and 25 among the refusals.
-pub(crate) fn refusal_of(fault: Fault) -> Refusal
+pub fn refusal_of(fault: Fault) -> Refusal
     ensures { λ r. ⌜ r ≡ refusalOf fault ⌝ }
 {
     match fault {

@@ -11,15 +11,16 @@ use wire::limits::MAX_STATEMENTS;
 use wire::limits::PARAMETER_TABLE;
 use wire::limits::STATEMENT_TABLE;
 
-mod answers;
+pub mod answers;
 mod conditions;
 mod forms;
 mod gathering;
 mod numbers;
 mod places;
-mod prepared;
+pub mod prepared;
 mod quantifiers;
 mod rows;
+pub mod tested;
 mod walk;
 
 // The condition of a number, from 0 in reading order: what it comes out as with these message images, records and runs, or the refusal and its place.

@@ -1,21 +1,24 @@
 // What a walk needs, once the request is read and the place of a condition or a from-value is known: 21, 22 and 26, and the table of bindings.
 ghost use mathlib.Core.Path.{_≡_};
-ghost use lib.ListN.{replicate};
+ghost use lib.ListN.{length, replicate};
 ghost use Rattle.evaluator.specs.Slices.{bindingNumbers};
 ghost use Rattle.evaluator.specs.Bound.{bound, RowsLaid};
 ghost use Rattle.evaluator.specs.Prepared.{given, Prepares};
+ghost use Rattle.evaluator.specs.Outside.{PreparesIn};
 use grammar::Refusal;
 use kinds::note::note_kinds;
 use records::proper::RunAnswer;
 use runs::check::check_runs;
 use runs::scan::find_runs;
+use surroundings::bindings::BINDING_TABLE;
 use surroundings::bindings::lay_contexts;
 use surroundings::images::image_bytes;
 use surroundings::scope::in_scope;
 use wire::limits::MAX_CONTEXTS;
+use wire::table::clear;
 
 // How many rows the table of bindings has, where messages, records and runs are as due; or the refusal and its place.
-pub(crate) enum Prepared {
+pub enum Prepared {
     Rows(usize),
     Refused(Refusal, usize),
 }
@@ -96,4 +99,41 @@ pub(crate) fn prepare(
         ),
         RunAnswer::WrongAt(p) => Prepared::Refused(Refusal::BadRecords, p),
     }
+}
+
+// The same for another crate, over any table: it is cleared first; one of another length than BINDING_TABLE is refused by 1 at 0.
+pub fn prepare_in(
+    request: &[u8],
+    dictionary: &[u8],
+    parameters: &[u32],
+    contexts: &[u32],
+    rows: usize,
+    declared: usize,
+    images: &[u8],
+    records: &[u8],
+    runs: &[u8],
+    at: usize,
+    bindings: &mut [u32],
+) -> Prepared
+    ensures { λ r. ⌜ PreparesIn (length (now (bindings .entry))) (given (now (request .entry)) (now (dictionary .entry))
+        (now (parameters .entry)) (now (contexts .entry)) rows declared (now (images .entry)) (now (records .entry)) (now (runs .entry)) at)
+        (now (bindings .exit)) r ⌝ }
+{
+    clear(bindings);
+    if bindings.len() != BINDING_TABLE {
+        return Prepared::Refused(Refusal::TablesTooShort, 0);
+    }
+    prepare(
+        request,
+        dictionary,
+        parameters,
+        contexts,
+        rows,
+        declared,
+        images,
+        records,
+        runs,
+        at,
+        bindings,
+    )
 }

@@ -37,6 +37,7 @@ use Rattle.meaning.specs.House
 use Rattle.meaning.specs.Inputs
 use Rattle.meaning.specs.Meaning
 use Rattle.meaning.specs.Runs
+use Rattle.explanation.specs.Explanation
 use Rattle.text.specs.Tests
 use Rattle.text.specs.Value
 use Rattle.wire.specs.Classes
@@ -52,6 +53,8 @@ pub data Answer : Type 0 where
   isNumber : ℤ → ℤ → Answer
   isText : List ℕ → Answer
   isDate : ℤ → ℕ → Answer
+  -- two numbers a test, as a table has them
+  tests : List ℕ → Answer
   refusal : ℕ → ℕ → Answer
 
 abbrev pub readingAnswer : List ℕ → Read Request → Answer
@@ -75,6 +78,11 @@ fromAnswer (answered (Evaluation.missing w)) = isMissing w
 fromAnswer (Evaluation.refusal x p) = refusal (number x) p
 fromAnswer strayed = isStray
 
+abbrev pub testsAnswer : Outcome (List Explanation.Test) → Answer
+testsAnswer (answered ts) = tests (Explanation.testNumbers ts)
+testsAnswer (Evaluation.refusal x p) = refusal (number x) p
+testsAnswer strayed = isStray
+
 -- an answer of which no cause is told
 abbrev pub anyCause : Answer → Answer
 anyCause (rows s p c) = rows s p c
@@ -85,6 +93,7 @@ anyCause (isMissing w) = isMissing Cause.Bit
 anyCause (isNumber a scale) = isNumber a scale
 anyCause (isText t) = isText t
 anyCause (isDate day fraction) = isDate day fraction
+anyCause (tests ts) = tests ts
 anyCause (refusal n p) = refusal n p
 
 -- every definition of a file: to unfold one of these is to unfold them all, so that an answer computes
@@ -364,6 +373,14 @@ unfoldable pub openVersions : Unit {0}
 unfolding Versions.isVersion Versions.versionOf
 openVersions = tt
 
+unfoldable pub openExplanation : Unit {0}
+unfolding Explanation.joined Explanation.explainedOf Explanation.explained Explanation.explainedEvaluation Explanation.explanation
+openExplanation = tt
+
+unfoldable pub openExplanation2 : Unit {0}
+unfolding Explanation.testNumbers
+openExplanation2 = tt
+
 unfoldable pub everything1 : Unit {0}
 unfolding openNumber openNumber2 openDictionary openDictionary2 openFormat openDictionaryNames openRecord openRecord2 openRunEntries openBytes
 everything1 = tt
@@ -403,3 +420,7 @@ evaluateAnswer s d n images records runs = truthAnswer (Evaluation.evaluation s 
 unfoldable pub valueAnswer : List ℕ → List ℕ → ℕ → List ℕ → List ℕ → List ℕ → Answer
 unfolding everything1 everything2 everything3 everything4 everything5 everything6 everything7
 valueAnswer s d k images records runs = fromAnswer (Evaluation.valueEvaluation s d k images records runs)
+
+unfoldable pub explainAnswer : List ℕ → List ℕ → ℕ → List ℕ → List ℕ → List ℕ → ℕ → Answer
+unfolding everything1 everything2 everything3 everything4 everything5 everything6 everything7 openExplanation openExplanation2
+explainAnswer s d n images records runs room = testsAnswer (Explanation.explanation s d n images records runs room)

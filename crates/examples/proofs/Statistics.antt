@@ -18,7 +18,7 @@ assigned version bytes =
     (0x19 ∷ 0x00 ∷ 0x00 ∷ 0x00 ∷ 0xFF ∷ 0x4C ∷ [])
 
 -- HEAT of context 0, and minus that
-pub heat : List ℕ
+unfoldable pub heat : List ℕ
 heat = 0x18 ∷ 0x00 ∷ 0x00 ∷ 0x00 ∷ []
 
 pub opposite : List ℕ
@@ -34,7 +34,7 @@ pub letter : List ℕ
 letter = 0x15 ∷ 0x0E ∷ 0x01 ∷ 0x00 ∷ 0x41 ∷ []
 
 -- the average of HEAT is above 30.0
-pub warmOnAverage : List ℕ
+unfoldable pub warmOnAverage : List ℕ
 warmOnAverage = 0x31 ∷ over 27 0 [] ++ heat ++ (0x15 ∷ 0x07 ∷ 0xFF ∷ 0x2C ∷ 0x01 ∷ [])
 
 -- HEAT 1.1 and 0.9

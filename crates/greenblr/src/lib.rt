@@ -3,11 +3,14 @@ ghost use mathlib.Core.Path.{_≡_};
 ghost use Prim.Native.Nat.{min};
 ghost use Rattle.meaning.specs.Evaluation.{evaluation};
 ghost use Rattle.greenblr.specs.Exports.{Exported, causeGiven, truthGiven, greatestPlace, refusalGiven, outcomeGiven, sourceGiven, valueGiven, valueNumbers, ValueExported};
+ghost use Rattle.explanation.specs.Promise.{countOf};
+ghost use Rattle.greenblr.specs.Explained.{countGiven, ExplanationExported};
 ghost use Rattle.greenblr.specs.Version.{versionGiven};
 
 pub mod stores;
 mod texts;
 
+use explanation::Explanation;
 use grammar::ReadAnswer;
 use grammar::Refusal;
 use grammar::number_of;
@@ -84,7 +87,11 @@ const TEXT: u64 = 5;
 
 const DATE: u64 = 6;
 
-// One in the byte above it, where a cause or the number of a refusal stands; and one in the bits above that, where its place stands.
+// Of the answer of an explanation.
+const EXPLAINED: u64 = 7;
+
+// One in the byte above it, where a cause or the number of a refusal stands; and one in the bits above that, where its place stands, or how
+// many tests are listed.
 const SECOND_BYTE: u64 = 256;
 
 const PLACE_BITS: u64 = 65536;
@@ -200,4 +207,33 @@ pub extern "C" fn greenblr_evaluate_value<'a>(
 {
     let value = evaluator::evaluate_value(request, dictionary, row, images, records, runs);
     value_number(texts::inside(request, images, records, runs, value), answer)
+}
+
+// How many tests are listed, or a refusal and its place, as a number.
+fn explanation_number(explanation: Explanation) -> u64
+    ensures { λ r. ⌜ r ≡ countGiven (countOf explanation) ⌝ }
+{
+    match explanation {
+        Explanation::Tests(n) => EXPLAINED + PLACE_BITS * held_place(n),
+        Explanation::Refused(r, p) => refusal_number(r, p),
+    }
+}
+
+// Explains a condition by its number: the tests that decide it, in a lent table, and how many they are, or the refusal and its place, in one
+// number (include/greenblr.h).
+#[no_mangle]
+pub extern "C" fn greenblr_explain<'a>(
+    request: &'a [u8],
+    dictionary: &[u8],
+    number: usize,
+    images: &'a [u8],
+    records: &'a [u8],
+    runs: &'a [u8],
+    tests: &mut [u32],
+) -> u64
+    ensures { λ r. ⌜ ExplanationExported (now (request .entry)) (now (dictionary .entry)) number (now (images .entry)) (now (records .entry))
+        (now (runs .entry)) (now (tests .entry)) (now (tests .exit)) r ⌝ }
+{
+    let answer = explanation::explain(request, dictionary, number, images, records, runs, tests);
+    explanation_number(answer)
 }

@@ -1,6 +1,6 @@
--- The input of the program `evaluate`. 02, No. 6: "It reads entries of kinds 4, 5, 9 (the boolean's number, a word), then any of kind 10
--- (message bytes, joined), then of 3, then of 7, in all at most 3,000,000 bytes, else `bad input`." In place of the entry of kind 9 one of
--- kind 11 may stand: the row of an assignment, a word, whose from-value is asked for (02, No. 9).
+-- The input of the programs `evaluate` and `explain`. 02, No. 6: "It reads entries of kinds 4, 5, 9 (the boolean's number, a word), then
+-- any of kind 10 (message bytes, joined), then of 3, then of 7, in all at most 3,000,000 bytes, else `bad input`." For `evaluate` one of
+-- kind 11 may stand in place of the entry of kind 9: the row of an assignment, a word, whose from-value is asked for (02, No. 9).
 use Prim.Native.Nat.{ℕ, zero, suc, _+_, _-_}
 use mathlib.Core.Bool.{Bool, true, false, cond, _&&_, _||_}
 use mathlib.Core.Path.{_≡_}
@@ -67,6 +67,10 @@ pub record Joined (s : List ℕ) (p kind : ℕ) (lent lent′ : List ℕ) (r : �
 -- the longest input
 abbrev pub maxInputBytes : ℕ
 maxInputBytes = 3000000
+
+-- the bytes of an input from one place up to another
+abbrev pub part : List ℕ → ℕ → ℕ → List ℕ
+part s from to = take (to - from) (drop from s)
 
 -- the bytes of an entry with one word
 abbrev pub numberEntryBytes : ℕ

@@ -16,7 +16,7 @@ use wire::entries::RECORD_ENTRY;
 use wire::entries::REQUEST_ENTRY;
 use wire::entries::RUN_ENTRY;
 
-// The longest input of the program `evaluate`, in bytes.
+// The longest input of the programs `evaluate` and `explain`, in bytes.
 pub const MAX_INPUT_BYTES: usize = 3000000;
 
 // The bytes of the entry of a boolean's number or an assignment's row: length, kind, and the number, a word each.
@@ -111,8 +111,8 @@ fn after_entries(s: &[u8], at: usize, kind: u32) -> usize
     p
 }
 
-// The entries of the program `evaluate`: of kinds 4, 5, and 9 or 11, then those of kind 10, then those of kind 3, then those of kind 7, and
-// nothing more.
+// The entries of the programs `evaluate` and `explain`: of kinds 4, 5, and 9 or 11, then those of kind 10, then those of kind 3, then those
+// of kind 7, and nothing more. Of kind 11 `explain` takes none, by `asks_row`.
 pub fn evaluation_entries(s: &[u8]) -> EvaluationInput
     ensures { λ r. ⌜ r ≡ evaluationInput (now (s .entry)) ⌝ }
 {

@@ -56,7 +56,7 @@ refusalOf Fault.Overflow = Refusal.Overflow
 refusalOf Fault.ZeroDivisor = Refusal.ZeroDivisor
 
 -- what the meaning of a condition gives, and that of a from-value, as an outcome
-abbrev pub outcome : Result Truth → Outcome Truth
+abbrev pub outcome : {A : Type 0} → Result A → Outcome A
 outcome (is t) = answered t
 outcome (refused f p) = refusal (refusalOf f) p
 outcome stray = strayed
@@ -98,11 +98,11 @@ onInputs sc due ms images rows runs rest =
     (afterRecords (records (dueRelations (sc .contexts)) rows 0) (afterRuns (Runs.runs (runRelations due) runs 0) rest))
 
 -- 20: "no such boolean"
-abbrev pub onCondition : Option Condition → List Relation → List Message → List ℕ → List ℕ → List ℕ → Outcome Truth → Outcome Truth
+abbrev pub onCondition : {A : Type 0} → Option Condition → List Relation → List Message → List ℕ → List ℕ → List ℕ → Outcome A → Outcome A
 onCondition none d ms images rows runs rest = refusal Refusal.NoBoolean 0
 onCondition (some x) d ms images rows runs rest = onInputs (x .scope) (dueRuns d (x .boolean) (x .place)) ms images rows runs rest
 
-abbrev pub onReading : Reader.Read Request → List Relation → ℕ → List ℕ → List ℕ → List ℕ → Outcome Truth → Outcome Truth
+abbrev pub onReading : {A : Type 0} → Reader.Read Request → List Relation → ℕ → List ℕ → List ℕ → List ℕ → Outcome A → Outcome A
 onReading (Reader.refused r p) d n images rows runs rest = refusal r p
 onReading (Reader.read t c) d n images rows runs rest =
     onCondition (getElem? (requestConditions d t) n) d (t .messages) images rows runs rest

@@ -31,7 +31,7 @@ pub some-of : {A : Type 0} (o : Option A) → isSome o ≡ true → (x : A) × (
 some-of none e = absurd-eq (cc)
 some-of (some x) e = (x, refl)
 
-find-all : {A : Type 0} (P : A → Type 0) (t : A → Bool) (l : List A) (y : A) → All P l → find t l ≡ some y → P y
+pub find-all : {A : Type 0} (P : A → Type 0) (t : A → Bool) (l : List A) (y : A) → All P l → find t l ≡ some y → P y
 unfolding find
 find-all P t [] y a e = absurd-eq (cc)
 find-all P t (x ∷ l) y a e = by (t x) e (find-all P t l y (a .1))

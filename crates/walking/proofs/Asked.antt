@@ -96,7 +96,7 @@ module _ (s d : List ℕ) (rs : List Relation) (t : Request) (a : Accepted s d r
       omega (arith, e, h, ap length (a .bytes), short, length-append ms ss, length-drop place s, length-append bytes (w .rest))
 
   -- the first byte of the request says its version
-  first-version : versionAt s ≡ t .version
+  pub first-version : versionAt s ≡ t .version
   unfolding requestBytes
   first-version = ap versionAt (a .bytes) ∙ version-back (t .version) .1
 

@@ -113,10 +113,10 @@ module _ (s : List ℕ) where
   pub past : (p : ℕ) (a t : List ℕ) → drop p s ≡ a ++ t → drop (p + length a) s ≡ t
   past p a t e = sym (drop-drop (length a) p s) ∙ ap (drop (length a)) e ∙ drop-append-seam a t
 
-  byte-is : (p x : ℕ) (t : List ℕ) → drop p s ≡ x ∷ t → byteAt s p ≡ x
+  pub byte-is : (p x : ℕ) (t : List ℕ) → drop p s ≡ x ∷ t → byteAt s p ≡ x
   byte-is p x t e = let z : p + 0 ≡ p = omega arith in rw z at (byte-on s p 0 (x ∷ t) e)
 
-  next : (p x : ℕ) (t : List ℕ) → drop p s ≡ x ∷ t → drop (p + 1) s ≡ t
+  pub next : (p x : ℕ) (t : List ℕ) → drop p s ≡ x ∷ t → drop (p + 1) s ≡ t
   next p x t e = past p (x ∷ []) t e
 
   word-is : (p n : ℕ) (t : List ℕ) → drop p s ≡ wordBytes n ++ t → wordAt s p ≡ n

@@ -400,7 +400,7 @@ reference-size (field c (numbered i)) = omega arith
 reference-size (parameter m i) = omega arith
 reference-size (parameter2 m i flag) = omega arith
 
-boolean-size : (b : Boolean) → 1 ≤ length (booleanBytes b)
+pub boolean-size : (b : Boolean) → 1 ≤ length (booleanBytes b)
 unfolding booleanBytes
 boolean-size (Boolean.compare c v w) = omega arith
 boolean-size (Boolean.search t v w) = omega arith

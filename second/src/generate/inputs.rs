@@ -36,7 +36,7 @@ fn beds() -> Vec<u8> {
 }
 
 /// One entry: length word, kind word, body.
-fn entry(kind: u16, body: &[u8]) -> Vec<u8> {
+pub fn entry(kind: u16, body: &[u8]) -> Vec<u8> {
     let length = (body.len() + 4) as u16;
     [&length.to_le_bytes()[..], &kind.to_le_bytes(), body].concat()
 }

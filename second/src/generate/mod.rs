@@ -22,6 +22,8 @@ pub mod dictionaries;
 pub mod draft;
 /// Evaluations.
 pub mod evaluations;
+/// Inputs of the explanation program.
+pub mod explanations;
 /// From-values of assignments.
 pub mod from_values;
 /// Inputs of the listing program.

@@ -1,0 +1,3 @@
+-- What the functions promise each other: nobody outside has to believe it.
+pub mod Walk
+pub mod Noting
