@@ -1,5 +1,5 @@
--- What the program `explain` answers to an input of any bytes. 02, No. 6: "It reads entries of kinds 4, 5, 9 (the boolean's number, a word),
--- then any of kind 10 (message bytes, joined), then of 3, then of 7, in all at most 3,000,000 bytes, else `bad input`."
+-- What the program `explain` answers to an input of any bytes. 02, No. 6: "It reads entries of kinds 4, 5, 9 (the boolean's number, a
+-- word), then any of kind 10 (message bytes, joined), then of 3, then of 7, in all at most 3,000,000 bytes, else `bad input`."
 use Prim.Native.Nat.{ℕ, _+_}
 use mathlib.Core.Path.{_≡_}
 use mathlib.Core.Bool.{Bool, true, false}

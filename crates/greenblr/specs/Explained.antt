@@ -12,8 +12,8 @@ use Rattle.greenblr.specs.Exports.{placeBits, greatestPlace, refusalGive
 abbrev pub explainedByte : ℕ
 explainedByte = 7
 
--- how many tests are listed stands in the 48 bits where the place of a refusal does; no explanation strays: the last case is a number that is
--- never given
+-- how many tests are listed stands in the 48 bits where the place of a refusal does; no explanation strays: the last case is a number
+-- that is never given
 unfoldable pub countGiven : Outcome ℕ → ℕ
 countGiven (answered n) = explainedByte + placeBits * min n greatestPlace
 countGiven (refusal x p) = refusalGiven x p

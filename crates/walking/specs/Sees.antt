@@ -32,8 +32,8 @@ Fetches w x a = (r : Reference) → w .fetch x r ≡ fetchAround a r
 
 -- the run of the code at p, which ends at a place, with the kind of its number, which an any, a unique and a count have not; `inside` says
 -- what is seen with one record
-pub record SeesRun {E : Type 0} (w : Sight E) (x : E) (r : Rse) (found : Option ℕ) (kind : Option Grammar.Kind) (each : Option (List Around))
-    (inside : E → Around → Type 0) (p end : ℕ) : Type 0 where
+pub record SeesRun {E : Type 0} (w : Sight E) (x : E) (r : Rse) (found : Option ℕ) (kind : Option Grammar.Kind)
+    (each : Option (List Around)) (inside : E → Around → Type 0) (p end : ℕ) : Type 0 where
   pub run : Over E
   pub records : List Around
   pub run-is : w .over x p ≡ some run

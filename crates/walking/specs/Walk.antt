@@ -126,8 +126,8 @@ countAt (some o) test = ended (countOver (some (o .each)) (λ x. suchAt (o .such
 -- ---- values and booleans
 
 -- what stands under a value's code at p; `inner` gives the values one level down, `numbers` a statistic and `counted` a count
-unfoldable pub valueUnder : (Reference → Fetched) → (ℕ → Walked Datum) → (Statistic → Walked Datum) → Walked Datum → List ℕ → ℕ → ValueCode →
-    Walked Datum
+unfoldable pub valueUnder : (Reference → Fetched) → (ℕ → Walked Datum) → (Statistic → Walked Datum) → Walked Datum → List ℕ → ℕ →
+    ValueCode → Walked Datum
 valueUnder g inner numbers counted s p Code.Literal = literalAt s (p + 1)
 valueUnder g inner numbers counted s p (Code.Reference c) = referenceAt g s p c
 valueUnder g inner numbers counted s p (Code.Arithmetic o) =
