@@ -7,10 +7,10 @@ ghost use Rattle.evaluator.specs.AfterReading.{AfterReading, RowsRead, f
 ghost use Rattle.meaning.specs.ValueEvaluated.{ValueEvaluates};
 use crate::answers::answer_of;
 use crate::answers::value_answer;
+use crate::noted::boolean_noted;
+use crate::noted::value_noted;
 use crate::prepared::Prepared;
 use crate::prepared::prepare;
-use crate::walk::boolean_at;
-use crate::walk::value_at;
 use grammar::Refusal;
 use meaning::Evaluation;
 use meaning::ValueEvaluation;
@@ -61,7 +61,7 @@ pub(crate) fn evaluate_read<'a>(
         &mut bindings,
     );
     match prepared {
-        Prepared::Rows(n) => answer_of(boolean_at(
+        Prepared::Rows(n) => answer_of(boolean_noted(
             request,
             dictionary,
             &bindings[..n * BINDING_ROW],
@@ -130,7 +130,7 @@ pub(crate) fn evaluate_row<'a>(
     );
     match prepared {
         Prepared::Rows(n) => {
-            let walk = value_at(
+            let walk = value_noted(
                 request,
                 dictionary,
                 &bindings[..n * BINDING_ROW],

@@ -15,6 +15,7 @@ pub mod answers;
 mod conditions;
 mod forms;
 mod gathering;
+mod noted;
 mod numbers;
 mod places;
 pub mod prepared;

@@ -1,7 +1,7 @@
 // A boolean by its place, for another crate.
 ghost use Rattle.evaluator.specs.Slices.{slices};
 ghost use Rattle.evaluator.specs.Outside.{TestedAt};
-use crate::walk::boolean_at;
+use crate::noted::boolean_noted;
 use surroundings::bindings::BINDING_TABLE;
 use values::Tested;
 
@@ -31,7 +31,7 @@ pub fn tested_at<'a>(
     if RUN_BYTES < runs.len() {
         return Tested::Stray;
     }
-    boolean_at(
+    boolean_noted(
         request,
         dictionary,
         bindings,

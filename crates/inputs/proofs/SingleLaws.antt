@@ -1,6 +1,6 @@
 -- A number that is found without a walk is what a reference, a literal and the walk give. Assumes nothing.
 use Prim.Native.Nat.{ℕ, suc, _+_}
-use mathlib.Core.Path.{_≡_, refl, sym, ap, _∙_}
+use mathlib.Core.Path.{_≡_, refl, sym, ap, ap₂, _∙_}
 use mathlib.Core.Bool.{Bool, true, false}
 use mathlib.Core.List.{List}
 use mathlib.Core.Option.{some}
@@ -9,7 +9,8 @@ use lib.IntN.{ℤ, pos}
 use borrow.Author.Tests.{ne-eqb}
 use Rattle.wire.specs.Words.{byteAt, wordAt, signed}
 use Rattle.wire.specs.Lists.{among, anyOf}
-use Rattle.wire.specs.Classes.{due, classify, valueClass, literalClass}
+use Rattle.wire.specs.Classes.{due, classify, valueClass, literalClass, fieldClass}
+use Rattle.wire.specs.Entries.{fieldType, fieldScale}
 use Rattle.wire.specs.declared.codes.Width.{Width}
 use Rattle.wire.specs.declared.codes.LiteralType.the-variants.{NumberLiteral}
 use Rattle.wire.specs.declared.codes.DataType.the-variants as Data
@@ -19,7 +20,7 @@ use Rattle.wire.specs.declared.codes.ReferenceCode.the-variants.{Fid}
 use Rattle.wire.specs.declared.codes.ValueCode.the-variants as Code
 use Rattle.dictionary.specs.Format.{Format, widthBytes}
 use Rattle.dictionary.specs.Naming.{numbered}
-use Rattle.dictionary.specs.Internal.Walk.{entryField, relationAt}
+use Rattle.dictionary.specs.Internal.Walk.{typeOf, entryField, relationAt}
 use Rattle.records.specs.declared.lengths.Located.{Located}
 use Rattle.records.specs.Record.{bitAt, fieldPresence}
 use Rattle.records.specs.Internal.Locations.{locatedIn, locatedOf}
@@ -80,6 +81,18 @@ pub field-held : (d : List ℕ) (r : ℕ) (s : List ℕ) (p i : ℕ) (x : Locate
 unfolding fieldIn fieldPresence
 field-held d r s p i x e t f g b a after k h =
     (rw (located-format d r i x e t, b, ← located-offset d r i x e t, ← g) (k h .0), k h .1)
+
+-- a field by the type and the scale of its entry
+pub described-held : (d : List ℕ) (q : ℕ) (s : List ℕ) (p : ℕ) (t : FieldType) (scale : ℕ) →
+    t ≡ typeOf (fieldClass (byteAt d (q + fieldType))) → scale ≡ byteAt d (q + fieldScale) → (a : Single) (after : ℕ) →
+    ((n : ℕ) → Fetches a after (heldIn (record { type = t; scale = scale; size = n }) s p)) →
+    Fetches a after (heldIn (entryField d q .format) s p)
+unfolding entryField
+described-held d q s p t scale e f a after g =
+    let n = entryField d q .format .size in
+    same-fetched a after
+    (ap₂ (λ (u : FieldType) (v : ℕ). heldIn (record { type = u; scale = v; size = n }) s p) e f)
+    (g n)
 
 -- ---- the value at a place
 

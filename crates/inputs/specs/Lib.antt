@@ -1,3 +1,4 @@
 -- What messages, records and literals hold, as the code has it.
 pub mod Answers
+pub mod Noted
 pub mod Singles

@@ -1,6 +1,7 @@
 // What messages, records and literals hold: the value of each field, parameter and literal.
 mod fields;
 pub mod literals;
+pub mod noted;
 mod numbers;
 mod parameters;
 pub mod references;

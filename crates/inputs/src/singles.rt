@@ -8,19 +8,18 @@ ghost use Rattle.wire.specs.Words.{byteAt, wordAt};
 ghost use Rattle.wire.specs.declared.codes.FieldType.the-variants.{Reading};
 ghost use Rattle.dictionary.specs.Naming.{numbered};
 ghost use Rattle.dictionary.specs.Internal.Walk.{relationAt};
-ghost use Rattle.dictionary.specs.Internal.FieldAnswers.{formatIs};
 ghost use Rattle.meaning.specs.Inputs.{fieldIn};
 ghost use Rattle.walking.specs.Walk.{literalAt};
 ghost use Rattle.surroundings.specs.Bindings.{rowsIn, boundValue};
 ghost use Rattle.inputs.specs.Answers.{rowField};
+ghost use Rattle.inputs.specs.Noted.{Noted};
 ghost use Rattle.inputs.specs.Singles.{singleOf, Fetches, Walks, heldIn, SingleAt, TwoAt};
+use crate::noted::located;
 use crate::numbers::integer_at;
 use classes::LiteralClass;
 use classes::literal_class;
-use dictionary::field::Description;
-use dictionary::field::described;
+use dictionary::entries::type_at;
 use dictionary::format::width_bytes;
-use records::lengths::locate;
 use records::missing::missing_bit;
 use surroundings::Bound;
 use surroundings::bindings::BINDING_CODE;
@@ -30,12 +29,14 @@ use surroundings::bindings::BINDING_ROW;
 use surroundings::bindings::binding_of;
 use wire::blr;
 use wire::bytes::byte_at;
+use wire::bytes::byte_on;
 use wire::bytes::signed_byte;
 use wire::bytes::word_at;
 use wire::codes::DataType;
 use wire::codes::FieldType;
 use wire::codes::LiteralType;
 use wire::codes::Width;
+use wire::entries::FIELD_SCALE;
 use wire::limits::MISSING_READING;
 use wire::numbers::ContextNumber;
 use wire::table::number_at;
@@ -113,31 +114,40 @@ fn reading(scale: u8, s: &[u8], at: usize, after: usize) -> Single
 }
 
 // The number of a format whose bytes stand at a place, in a field whose bit is clear.
-fn held(x: Description, s: &[u8], at: usize, after: usize) -> Single
-    ensures { λ r. ⌜ Fetches r after (heldIn (formatIs x) (now (s .entry)) at) ⌝ }
+fn held(t: FieldType, scale: u8, s: &[u8], at: usize, after: usize) -> Single
+    ensures { λ r. ⌜ ((n : ℕ) → Fetches r after (heldIn (record { type = t; scale = scale; size = n }) (now (s .entry)) at)) ⌝ }
 {
-    let t = x.data_type;
     match t {
         FieldType::Plain(y) => match y {
-            DataType::Number(w) => single_of(integer_at(w, s, at), x.scale, after),
+            DataType::Number(w) => single_of(integer_at(w, s, at), scale, after),
             DataType::Date => no_single(),
             DataType::Chars(_) => no_single(),
         },
-        FieldType::Reading => reading(x.scale, s, at, after),
+        FieldType::Reading => reading(scale, s, at, after),
     }
 }
 
 // Field i of a relation, in the record at p.
-fn field_in(d: &[u8], relation: usize, s: &[u8], p: usize, i: usize, after: usize) -> Single
+fn field_in(
+    d: &[u8],
+    fields: &[u32],
+    relation: usize,
+    s: &[u8],
+    p: usize,
+    i: usize,
+    after: usize,
+) -> Single
     requires { ⌜ p < 4294967296 ⌝ }
-    ensures { λ r. ⌜ Fetches r after (fieldIn (relationAt (now (d .entry)) relation) (now (s .entry)) p i) ⌝ }
+    ensures { λ r. ⌜ (Noted (now (d .entry)) (now (fields .entry)) →
+        Fetches r after (fieldIn (relationAt (now (d .entry)) relation) (now (s .entry)) p i)) ⌝ }
 {
     if missing_bit(s, p, i) {
         return no_single();
     }
-    let l = locate(d, relation, i);
+    let l = located(d, fields, relation, i);
     if l.is {
-        return held(described(d, l.entry), s, p + l.offset, after);
+        let scale = byte_on(d, l.entry, FIELD_SCALE);
+        return held(type_at(d, l.entry), scale, s, p + l.offset, after);
     }
     no_single()
 }
@@ -147,23 +157,25 @@ fn field_at(
     request: &[u8],
     d: &[u8],
     bindings: &[u32],
+    fields: &[u32],
     row: usize,
     records: &[u8],
     runs: &[u8],
     at: usize,
 ) -> Single
     requires { ⌜ (at < length (now request)) × (row < rowsIn (now bindings)) ⌝ }
-    ensures { λ r. ⌜ Fetches r (at + 4) (rowField (now (d .entry)) (now (bindings .entry)) (now (records .entry)) (now (runs .entry)) row
-        (wordAt (now (request .entry)) (at + 2))) ⌝ }
+    ensures { λ r. ⌜ (Noted (now (d .entry)) (now (fields .entry)) →
+        Fetches r (at + 4) (rowField (now (d .entry)) (now (bindings .entry)) (now (records .entry)) (now (runs .entry)) row
+        (wordAt (now (request .entry)) (at + 2)))) ⌝ }
 {
     let b = row * BINDING_ROW;
     let relation = number_at(bindings, b + BINDING_RELATION) as usize;
     let p = number_at(bindings, b + BINDING_RECORD) as usize;
     let i = word_at(request, at + 2) as usize;
     if number_at(bindings, b + BINDING_CODE) == 0 {
-        return field_in(d, relation, records, p, i, at + 4);
+        return field_in(d, fields, relation, records, p, i, at + 4);
     }
-    field_in(d, relation, runs, p, i, at + 4)
+    field_in(d, fields, relation, runs, p, i, at + 4)
 }
 
 // The field whose code stands at a place.
@@ -171,17 +183,19 @@ fn field_single(
     request: &[u8],
     d: &[u8],
     bindings: &[u32],
+    fields: &[u32],
     records: &[u8],
     runs: &[u8],
     at: usize,
 ) -> Single
     requires { ⌜ at < length (now request) ⌝ }
-    ensures { λ r. ⌜ Fetches r (at + 4) (boundValue (now (d .entry)) (now (bindings .entry)) (now (records .entry)) (now (runs .entry))
-        (byteAt (now (request .entry)) (at + 1)) (numbered (wordAt (now (request .entry)) (at + 2)))) ⌝ }
+    ensures { λ r. ⌜ (Noted (now (d .entry)) (now (fields .entry)) →
+        Fetches r (at + 4) (boundValue (now (d .entry)) (now (bindings .entry)) (now (records .entry)) (now (runs .entry))
+        (byteAt (now (request .entry)) (at + 1)) (numbered (wordAt (now (request .entry)) (at + 2))))) ⌝ }
 {
     let bound = binding_of(bindings, ContextNumber(byte_at(request, at + 1)));
     match bound {
-        Bound::At(row) => field_at(request, d, bindings, row, records, runs, at),
+        Bound::At(row) => field_at(request, d, bindings, fields, row, records, runs, at),
         Bound::Nothing => no_single(),
     }
 }
@@ -191,17 +205,19 @@ pub fn single_at(
     request: &[u8],
     d: &[u8],
     bindings: &[u32],
+    fields: &[u32],
     records: &[u8],
     runs: &[u8],
     at: usize,
 ) -> Single
-    ensures { λ r. ⌜ SingleAt (now (request .entry)) (now (d .entry)) (now (bindings .entry)) (now (records .entry)) (now (runs .entry)) at r ⌝ }
+    ensures { λ r. ⌜ (Noted (now (d .entry)) (now (fields .entry)) →
+        SingleAt (now (request .entry)) (now (d .entry)) (now (bindings .entry)) (now (records .entry)) (now (runs .entry)) at r) ⌝ }
 {
     if request.len() <= at {
         return no_single();
     }
     match request[at] {
-        blr::FID => field_single(request, d, bindings, records, runs, at),
+        blr::FID => field_single(request, d, bindings, fields, records, runs, at),
         blr::LITERAL => literal_single(request, at),
         _ => no_single(),
     }
@@ -226,17 +242,19 @@ pub fn two_at(
     request: &[u8],
     d: &[u8],
     bindings: &[u32],
+    fields: &[u32],
     records: &[u8],
     runs: &[u8],
     at: usize,
 ) -> Two
-    ensures { λ r. ⌜ TwoAt (now (request .entry)) (now (d .entry)) (now (bindings .entry)) (now (records .entry)) (now (runs .entry)) at r ⌝ }
+    ensures { λ r. ⌜ (Noted (now (d .entry)) (now (fields .entry)) →
+        TwoAt (now (request .entry)) (now (d .entry)) (now (bindings .entry)) (now (records .entry)) (now (runs .entry)) at r) ⌝ }
 {
-    let x = single_at(request, d, bindings, records, runs, at);
+    let x = single_at(request, d, bindings, fields, records, runs, at);
     if !x.is {
         return no_two();
     }
-    let y = single_at(request, d, bindings, records, runs, x.after);
+    let y = single_at(request, d, bindings, fields, records, runs, x.after);
     Two {
         is: y.is,
         first: x.value,

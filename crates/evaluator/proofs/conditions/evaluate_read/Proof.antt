@@ -14,7 +14,7 @@ use Rattle.evaluator.proofs.conditions.evaluate_read.Reads as reads
 use Rattle.evaluator.proofs.conditions.evaluate_read.Lts as lts
 use Rattle.evaluator.proofs.answers.answer_of.Reads as answer-of-reads
 use Rattle.evaluator.proofs.prepared.prepare.Reads as prepare-reads
-use Rattle.evaluator.proofs.walk.boolean_at.Reads as boolean-at-reads
+use Rattle.evaluator.proofs.walk.boolean_at.Reads as boolean-noted-reads
 use Rattle.wire.proofs.table.number_at.Reads as number-at-reads
 
 -- src/conditions.rt:44:14
@@ -81,23 +81,23 @@ array-share-prefix-bindings c =
     omega (arith, few)
 
 -- src/conditions.rt:66:13
-slice-aggregate-boolean-at : tie.Need-slice-aggregate-boolean-at
-slice-aggregate-boolean-at c =
+slice-aggregate-boolean-noted : tie.Need-slice-aggregate-boolean-noted
+slice-aggregate-boolean-noted c =
     let few = few-there (ready (c .before .before .before .before .before)) _ (c .before .before .prepared .given .1) in
     sym (length-take-le _ _ (omega (arith, few)))
 
 -- src/conditions.rt:67:27
-mul-boolean-at : tie.Need-mul-boolean-at
-mul-boolean-at c = search needs
+mul-boolean-noted : tie.Need-mul-boolean-noted
+mul-boolean-noted c = search needs
 
 -- src/conditions.rt:67:13
-slice-aggregate-boolean-at-2 : tie.Need-slice-aggregate-boolean-at-2
-slice-aggregate-boolean-at-2 c =
+slice-aggregate-boolean-noted-2 : tie.Need-slice-aggregate-boolean-noted-2
+slice-aggregate-boolean-noted-2 c =
     sym (length-take-le _ _ (rows-fit (c .before .before .before .before .before .before .before .before .before .before .before .before .before .before .before .before .before .before .pre .so)))
 
 -- src/conditions.rt:63:40
-boolean-at-requires : tie.Need-boolean-at-requires
-boolean-at-requires c κs =
+boolean-noted-requires : tie.Need-boolean-noted-requires
+boolean-noted-requires c κs =
     let start′ = c .before .before .before .before .before .before .before .before .before .before .before .before .before .before .before .before .before .before in
     let shared-slice-known8′ = c .before .before .before .before .before .before .before .before .before .before .shared-slice-known8 in
     fits-there (ready (c .before .before .before .before .before .before)) _ (c .before .before .before .prepared .given .1) (octets (start′ .args .runs .now) (shared-slice-known8′ .given))
@@ -105,7 +105,7 @@ boolean-at-requires c κs =
 -- src/conditions.rt:63:30
 answer-of-requires : tie.Need-answer-of-requires
 answer-of-requires c κs =
-    λ e. never-there (ready (c .before .before .before .before .before .before .before)) _ (c .before .before .before .before .prepared .given .1) (sym (c .boolean-at .ensures) ∙ e)
+    λ e. never-there (ready (c .before .before .before .before .before .before .before)) _ (c .before .before .before .before .prepared .given .1) (sym (c .boolean-noted .ensures) ∙ e)
 
 -- src/conditions.rt:74:27
 enum-known-prepared-2 : tie.Need-enum-known-prepared-2
@@ -114,7 +114,7 @@ enum-known-prepared-2 c = search needs
 -- src/conditions.rt:27:1
 returns-2 : tie.Need-returns-2
 returns-2 c =
-    c .answer-of .ensures ∙ ap settled (c .before .boolean-at .ensures) ∙ walked-there (ready (c .before .before .before .before .before .before .before .before)) _ (c .before .before .before .before .before .prepared .given .1)
+    c .answer-of .ensures ∙ ap settled (c .before .boolean-noted .ensures) ∙ walked-there (ready (c .before .before .before .before .before .before .before .before)) _ (c .before .before .before .before .before .prepared .given .1)
 
 -- src/conditions.rt:27:1
 returns-3 : tie.Need-returns-3
@@ -133,10 +133,10 @@ evaluate-read-spec =
     enum-known-prepared
     mul-bindings
     array-share-prefix-bindings
-    slice-aggregate-boolean-at
-    mul-boolean-at
-    slice-aggregate-boolean-at-2
-    boolean-at-requires
+    slice-aggregate-boolean-noted
+    mul-boolean-noted
+    slice-aggregate-boolean-noted-2
+    boolean-noted-requires
     answer-of-requires
     enum-known-prepared-2
     returns-2

@@ -15,7 +15,7 @@ use Rattle.evaluator.proofs.conditions.evaluate_row.Lts as lts
 use Rattle.evaluator.proofs.answers.value_answer.Reads as value-answer-reads
 use Rattle.evaluator.proofs.conditions.from_value.Reads as from-value-reads
 use Rattle.evaluator.proofs.prepared.prepare.Reads as prepare-reads
-use Rattle.evaluator.proofs.walk.value_at.Reads as value-at-reads
+use Rattle.evaluator.proofs.walk.value_at.Reads as value-noted-reads
 
 -- src/conditions.rt:110:9
 returns : tie.Need-returns
@@ -85,23 +85,23 @@ array-share-prefix-bindings c =
     omega (arith, few)
 
 -- src/conditions.rt:135:17
-slice-aggregate-value-at : tie.Need-slice-aggregate-value-at
-slice-aggregate-value-at c =
+slice-aggregate-value-noted : tie.Need-slice-aggregate-value-noted
+slice-aggregate-value-noted c =
     let few = few-there (ready (c .before .before .before .before .before)) _ (c .before .before .prepared .given .1) in
     sym (length-take-le _ _ (omega (arith, few)))
 
 -- src/conditions.rt:136:31
-mul-value-at : tie.Need-mul-value-at
-mul-value-at c = search needs
+mul-value-noted : tie.Need-mul-value-noted
+mul-value-noted c = search needs
 
 -- src/conditions.rt:136:17
-slice-aggregate-value-at-2 : tie.Need-slice-aggregate-value-at-2
-slice-aggregate-value-at-2 c =
+slice-aggregate-value-noted-2 : tie.Need-slice-aggregate-value-noted-2
+slice-aggregate-value-noted-2 c =
     sym (length-take-le _ _ (rows-fit (c .before .before .before .before .before .before .before .before .before .before .before .before .before .before .before .before .before .before .before .pre .so)))
 
 -- src/conditions.rt:132:17
-value-at-requires : tie.Need-value-at-requires
-value-at-requires c κs =
+value-noted-requires : tie.Need-value-noted-requires
+value-noted-requires c κs =
     let start′ = c .before .before .before .before .before .before .before .before .before .before .before .before .before .before .before .before .before .before .before in
     let shared-slice-known8′ = c .before .before .before .before .before .before .before .before .before .before .before .shared-slice-known8 in
     fits-there (ready (c .before .before .before .before .before .before)) _ (c .before .before .before .prepared .given .1) (octets (start′ .args .runs .now) (shared-slice-known8′ .given))
@@ -109,7 +109,7 @@ value-at-requires c κs =
 -- src/conditions.rt:143:13
 value-answer-requires : tie.Need-value-answer-requires
 value-answer-requires c κs =
-    λ e. never-there (ready (c .before .before .before .before .before .before .before)) _ (c .before .before .before .before .prepared .given .1) (sym (c .value-at .ensures) ∙ e)
+    λ e. never-there (ready (c .before .before .before .before .before .before .before)) _ (c .before .before .before .before .prepared .given .1) (sym (c .value-noted .ensures) ∙ e)
 
 -- src/conditions.rt:145:27
 enum-known-prepared-2 : tie.Need-enum-known-prepared-2
@@ -118,7 +118,7 @@ enum-known-prepared-2 c = search needs
 -- src/conditions.rt:91:1
 returns-3 : tie.Need-returns-3
 returns-3 c =
-    c .value-answer .ensures ∙ ap settledValue (c .before .value-at .ensures) ∙ walked-there (ready (c .before .before .before .before .before .before .before .before)) _ (c .before .before .before .before .before .prepared .given .1)
+    c .value-answer .ensures ∙ ap settledValue (c .before .value-noted .ensures) ∙ walked-there (ready (c .before .before .before .before .before .before .before .before)) _ (c .before .before .before .before .before .prepared .given .1)
 
 -- src/conditions.rt:91:1
 returns-4 : tie.Need-returns-4
@@ -137,10 +137,10 @@ evaluate-row-spec =
     enum-known-prepared
     mul-bindings
     array-share-prefix-bindings
-    slice-aggregate-value-at
-    mul-value-at
-    slice-aggregate-value-at-2
-    value-at-requires
+    slice-aggregate-value-noted
+    mul-value-noted
+    slice-aggregate-value-noted-2
+    value-noted-requires
     value-answer-requires
     enum-known-prepared-2
     returns-3

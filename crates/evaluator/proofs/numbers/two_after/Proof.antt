@@ -17,7 +17,7 @@ no-two-requires c κs = search needs
 
 -- src/numbers.rt:22:9
 returns : tie.Need-returns
-returns c =
+returns c n =
     let no-two′ = c .no-two in
     λ is. absurd (false≢true (sym (no-two′ .ensures) ∙ is))
 
@@ -31,14 +31,14 @@ two-at-requires c κs = search needs
 
 -- src/numbers.rt:9:1
 returns-2 : tie.Need-returns-2
-returns-2 c =
-    let args′ = c .before .before .before .before .before .before .before .before .args in
+returns-2 c n =
+    let args′ = c .before .before .before .before .before .before .before .before .before .args in
     let if1′ = c .before .before .if1 in
     let place-after′ = c .before .place-after in
     let two-at′ = c .two-at in
     λ is parameters images.
     found-after (slices (args′ .request .now) (args′ .dictionary .now) (args′ .bindings .now) parameters images (args′ .records .now)
-    (args′ .runs .now)) (args′ .levels) (args′ .at) (if1′ .left) (place-after′ .ensures) (two-at′ .ensures) is
+    (args′ .runs .now)) (args′ .levels) (args′ .at) (if1′ .left) (place-after′ .ensures) (two-at′ .ensures n) is
 
 pub two-after-spec : {M : Type 1} → statement M
 two-after-spec =

@@ -6,7 +6,7 @@ use Rattle.evaluator.proofs.tested.tested_at.Statement.{statement}
 use Rattle.evaluator.proofs.tested.tested_at.Tie as tie
 use Rattle.evaluator.proofs.tested.tested_at.Reads as reads
 use Rattle.evaluator.proofs.tested.tested_at.Lts as lts
-use Rattle.evaluator.proofs.walk.boolean_at.Reads as boolean-at-reads
+use Rattle.evaluator.proofs.walk.boolean_at.Reads as boolean-noted-reads
 
 -- src/tested.rt:29:9
 returns : tie.Need-returns
@@ -26,8 +26,8 @@ returns-2 c =
     long-runs g (args′ .levels) (args′ .at) (omega (arith, if1′ .left)) (if2′ .taken)
 
 -- src/tested.rt:34:5
-boolean-at-requires : tie.Need-boolean-at-requires
-boolean-at-requires c κs = search needs
+boolean-noted-requires : tie.Need-boolean-noted-requires
+boolean-noted-requires c κs = search needs
 
 -- src/tested.rt:12:1
 returns-3 : tie.Need-returns-3
@@ -35,9 +35,9 @@ returns-3 c =
     let args′ = c .before .before .before .before .before .before .before .before .before .before .args in
     let if1′ = c .before .before .if1 in
     let if2′ = c .before .if2 in
-    let boolean-at′ = c .boolean-at in
+    let boolean-noted′ = c .boolean-noted in
     let g = slices (args′ .request .now) (args′ .dictionary .now) (args′ .bindings .now) (args′ .parameters .now) (args′ .images .now) (args′ .records .now) (args′ .runs .now) in
-    within-both g (args′ .levels) (args′ .at) (omega (arith, if1′ .left), omega (arith, if2′ .left)) (boolean-at′ .ensures)
+    within-both g (args′ .levels) (args′ .at) (omega (arith, if1′ .left), omega (arith, if2′ .left)) (boolean-noted′ .ensures)
 
 pub tested-at-spec : {M : Type 1} → statement M
-tested-at-spec = tie.close (tie.spec returns returns-2 boolean-at-requires returns-3)
+tested-at-spec = tie.close (tie.spec returns returns-2 boolean-noted-requires returns-3)

@@ -51,9 +51,9 @@ field-in-requires : tie.Need-field-in-requires
 field-in-requires c κs = search needs
 
 returns : tie.Need-returns
-returns c =
+returns c n =
     let field-in′ = c .field-in in
-    let args′ = c .before .before .before .before .before .before .before .before .before .before .before .args in
+    let args′ = c .before .before .before .before .before .before .before .before .before .before .before .before .args in
     let word-at′ = c .before .before .before .word-at in
     let number-at′ = c .before .before .before .before .before .number-at in
     let number-at2′ = c .before .before .before .before .number-at2 in
@@ -65,7 +65,7 @@ returns c =
     (if1′ .taken) ∙
     ap (λ (i : ℕ). rowField (args′ .d .now) (args′ .bindings .now) (args′ .records .now) (args′ .runs .now) (args′ .row) i)
     (word-at′ .ensures .0))
-    (field-in′ .ensures)
+    (field-in′ .ensures n)
 
 add-field-in-2 : tie.Need-add-field-in-2
 add-field-in-2 c = search needs
@@ -74,9 +74,9 @@ field-in-requires-2 : tie.Need-field-in-requires-2
 field-in-requires-2 c κs = search needs
 
 returns-2 : tie.Need-returns-2
-returns-2 c =
+returns-2 c n =
     let field-in2′ = c .field-in2 in
-    let args′ = c .before .before .before .before .before .before .before .before .before .before .before .args in
+    let args′ = c .before .before .before .before .before .before .before .before .before .before .before .before .args in
     let word-at′ = c .before .before .before .word-at in
     let number-at′ = c .before .before .before .before .before .number-at in
     let number-at2′ = c .before .before .before .before .number-at2 in
@@ -88,7 +88,7 @@ returns-2 c =
     (if1′ .left) ∙
     ap (λ (i : ℕ). rowField (args′ .d .now) (args′ .bindings .now) (args′ .records .now) (args′ .runs .now) (args′ .row) i)
     (word-at′ .ensures .0))
-    (field-in2′ .ensures)
+    (field-in2′ .ensures n)
 
 pub field-at-spec : {M : Type 1} → statement M
 field-at-spec =

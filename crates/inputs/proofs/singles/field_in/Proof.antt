@@ -1,9 +1,8 @@
 -- `inputs::singles::field_in` meets its contract. Assumes nothing.
-use mathlib.Core.Path.{sym, _∙_}
+use mathlib.Core.Path.{refl, sym, _∙_}
+use Prim.Native.Nat.{_+_}
 use native.Mathlib.Omega.{arith}
-use Rattle.dictionary.specs.Internal.FieldAnswers.{formatIs}
-use Rattle.records.proofs.Locations.{located-small}
-use Rattle.inputs.proofs.SingleLaws.{not-one, field-held}
+use Rattle.inputs.proofs.SingleLaws.{not-one, field-held, described-held}
 use borrow.Author.Needs.{needs}
 use Rattle.inputs.proofs.singles.field_in.Statement.{statement}
 use Rattle.inputs.proofs.singles.field_in.Tie as tie
@@ -15,45 +14,49 @@ no-single-requires : tie.Need-no-single-requires
 no-single-requires c κs = search needs
 
 returns : tie.Need-returns
-returns c =
+returns c n =
     let no-single′ = c .no-single in
     not-one (no-single′ .ensures)
 
-locate-requires : tie.Need-locate-requires
-locate-requires c κs = search needs
+located-requires : tie.Need-located-requires
+located-requires c κs = search needs
 
-described-requires : tie.Need-described-requires
-described-requires c κs = search needs
+byte-on-requires : tie.Need-byte-on-requires
+byte-on-requires c κs = search needs
+
+type-at-requires : tie.Need-type-at-requires
+type-at-requires c κs = search needs
 
 add-held : tie.Need-add-held
 add-held c =
-    let args′ = c .before .before .before .before .before .before .before .before .args in
-    let locate′ = c .before .before .before .locate in
-    let if2′ = c .before .before .if2 in
-    let pre′ = c .before .before .before .before .before .before .before .before .pre in
-    omega (arith, located-small (args′ .d .now) (args′ .relation) (args′ .i) (locate′ .result) (locate′ .ensures) (if2′ .taken), pre′)
+    let located′ = c .before .before .before .before .located in
+    let if2′ = c .before .before .before .if2 in
+    let pre′ = c .before .before .before .before .before .before .before .before .before .before .pre in
+    omega (arith, located′ .ensures .narrow (if2′ .taken), pre′)
 
 held-requires : tie.Need-held-requires
 held-requires c κs = search needs
 
 returns-2 : tie.Need-returns-2
-returns-2 c =
-    let args′ = c .before .before .before .before .before .before .before .before .before .args in
-    let locate′ = c .before .before .before .before .locate in
-    let if2′ = c .before .before .before .if2 in
-    let described′ = c .before .before .described in
-    let missing-bit′ = c .before .before .before .before .before .before .missing-bit in
-    let if1′ = c .before .before .before .before .before .if1 in
+returns-2 c n =
+    let args′ = c .before .before .before .before .before .before .before .before .before .before .before .args in
+    let located′ = c .before .before .before .before .before .located in
+    let if2′ = c .before .before .before .before .if2 in
+    let missing-bit′ = c .before .before .before .before .before .before .before .missing-bit in
+    let if1′ = c .before .before .before .before .before .before .if1 in
     let held′ = c .held in
-    field-held (args′ .d .now) (args′ .relation) (args′ .s .now) (args′ .p) (args′ .i) (locate′ .result) (locate′ .ensures) (if2′ .taken)
-    (formatIs (described′ .result)) (described′ .ensures) (sym (missing-bit′ .ensures) ∙ if1′ .left) (held′ .result) (args′ .after)
-    (held′ .ensures)
+    let type-at′ = c .before .before .type-at in
+    let byte-on′ = c .before .before .before .byte-on in
+    field-held (args′ .d .now) (args′ .relation) (args′ .s .now) (args′ .p) (args′ .i) (located′ .result) (located′ .ensures .so n) (if2′ .taken)
+    _ refl (sym (missing-bit′ .ensures) ∙ if1′ .left) (held′ .result) (args′ .after)
+    (described-held (args′ .d .now) (located′ .result .entry) (args′ .s .now) (args′ .p + located′ .result .offset) (type-at′ .result)
+    (byte-on′ .result) (type-at′ .ensures) (byte-on′ .ensures) (held′ .result) (args′ .after) (held′ .ensures))
 
 no-single-requires-2 : tie.Need-no-single-requires-2
 no-single-requires-2 c κs = search needs
 
 returns-3 : tie.Need-returns-3
-returns-3 c =
+returns-3 c n =
     let no-single2′ = c .no-single2 in
     not-one (no-single2′ .ensures)
 
@@ -64,8 +67,9 @@ field-in-spec =
     missing-bit-requires
     no-single-requires
     returns
-    locate-requires
-    described-requires
+    located-requires
+    byte-on-requires
+    type-at-requires
     add-held
     held-requires
     returns-2

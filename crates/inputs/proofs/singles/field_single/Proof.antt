@@ -24,7 +24,7 @@ enum-known-bound c = search needs
 
 field-at-requires : tie.Need-field-at-requires
 field-at-requires c κs =
-    let args′ = c .before .before .before .before .before .before .before .before .before .before .args in
+    let args′ = c .before .before .before .before .before .before .before .before .before .before .before .args in
     let byte-at′ = c .before .before .before .before .byte-at in
     let bound′ = c .before .bound in
     let binding-of′ = c .before .before .before .binding-of in
@@ -37,8 +37,8 @@ no-single-requires : tie.Need-no-single-requires
 no-single-requires c κs = search needs
 
 returns : tie.Need-returns
-returns c =
-    let args′ = c .before .before .before .before .before .before .before .before .before .before .before .args in
+returns c n =
+    let args′ = c .before .before .before .before .before .before .before .before .before .before .before .before .args in
     let bound′ = c .before .before .bound in
     let field-at′ = c .field-at in
     let byte-at′ = c .before .before .before .before .before .byte-at in
@@ -52,11 +52,11 @@ returns c =
     same-fetched (field-at′ .result) (args′ .at + 4)
     (field-numbered d (cell t row 2) (bytesBound t row records runs) (cell t row 3) i ∙
     by-row d t records runs (byte-at′ .result) (numbered i) row (sym (bound′ .given .1) ∙ binding-of′ .ensures) ∙
-    ap (λ (n : ℕ). boundValue d t records runs n (numbered i)) (byte-at′ .ensures))
-    (field-at′ .ensures)
+    ap (λ (k : ℕ). boundValue d t records runs k (numbered i)) (byte-at′ .ensures))
+    (field-at′ .ensures n)
 
 returns-2 : tie.Need-returns-2
-returns-2 c =
+returns-2 c n =
     let no-single′ = c .no-single in
     not-one (no-single′ .ensures)
 

@@ -8,7 +8,7 @@ no-single-requires : tie.Need-no-single-requires
 no-single-requires c κs = search needs
 
 returns : tie.Need-returns
-returns c =
+returns c n =
     let no-single′ = c .no-single in
     record { walked = not-one (no-single′ .ensures) }
 
@@ -25,18 +25,18 @@ no-single-requires-2 : tie.Need-no-single-requires-2
 no-single-requires-2 c κs = search needs
 
 returns-2 : tie.Need-returns-2
-returns-2 c =
-    let args′ = c .before .before .before .before .before .before .before .before .before .args in
+returns-2 c n =
+    let args′ = c .before .before .before .before .before .before .before .before .before .before .args in
     let field-single′ = c .field-single in
     let match′ = c .before .match in
     record {
       walked = λ h. field-walked (args′ .request .now) (args′ .d .now) (args′ .bindings .now) (args′ .records .now) (args′ .runs .now) (args′ .at)
-          (field-single′ .result) h (match′ .keys1) (field-single′ .ensures);
+          (field-single′ .result) h (match′ .keys1) (field-single′ .ensures n);
     }
 
 returns-3 : tie.Need-returns-3
-returns-3 c =
-    let args′ = c .before .before .before .before .before .before .before .before .before .args in
+returns-3 c n =
+    let args′ = c .before .before .before .before .before .before .before .before .before .before .args in
     let literal-single′ = c .literal-single in
     let match′ = c .before .match in
     record {
@@ -45,7 +45,7 @@ returns-3 c =
     }
 
 returns-4 : tie.Need-returns-4
-returns-4 c =
+returns-4 c n =
     let no-single2′ = c .no-single2 in
     record { walked = not-one (no-single2′ .ensures) }
 

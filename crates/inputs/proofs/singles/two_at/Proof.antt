@@ -13,7 +13,7 @@ no-two-requires : tie.Need-no-two-requires
 no-two-requires c κs = search needs
 
 returns : tie.Need-returns
-returns c =
+returns c n =
     let no-two′ = c .no-two in
     record { middle = 0; first = not-one (no-two′ .ensures); second = not-one (no-two′ .ensures) }
 
@@ -21,10 +21,10 @@ single-at-requires-2 : tie.Need-single-at-requires-2
 single-at-requires-2 c κs = search needs
 
 returns-2 : tie.Need-returns-2
-returns-2 c =
-    let args′ = c .before .before .before .before .before .before .before .before .before .before .before .args in
+returns-2 c n =
     let single-at′ = c .before .before .before .before .before .single-at in
     let if1′ = c .before .before .before .if1 in
+    let args′ = c .before .before .before .before .before .before .before .before .before .before .before .before .args in
     let struct-told′ = c .before .struct-told in
     let single-at2′ = c .before .before .single-at2 in
     let struct-told2′ = c .struct-told2 in
@@ -34,11 +34,11 @@ returns-2 c =
       first =
           λ h. same-number (args′ .request .now) (args′ .d .now) (args′ .bindings .now) (args′ .records .now) (args′ .runs .now)
           (args′ .at) (single-at′ .result .after) (toZ-ofZ (record { sfits = struct-told′ .given .1 .0 .1 }))
-          (toZ-ofZ (record { sfits = struct-told′ .given .1 .1 .0 .1 })) (single-at′ .ensures .walked is);
+          (toZ-ofZ (record { sfits = struct-told′ .given .1 .1 .0 .1 })) (single-at′ .ensures n .walked is);
       second =
           λ h. same-number (args′ .request .now) (args′ .d .now) (args′ .bindings .now) (args′ .records .now) (args′ .runs .now)
           (single-at′ .result .after) (single-at2′ .result .after) (toZ-ofZ (record { sfits = struct-told2′ .given .1 .0 .1 }))
-          (toZ-ofZ (record { sfits = struct-told2′ .given .1 .1 .0 .1 })) (single-at2′ .ensures .walked h);
+          (toZ-ofZ (record { sfits = struct-told2′ .given .1 .1 .0 .1 })) (single-at2′ .ensures n .walked h);
     }
 
 pub two-at-spec : {M : Type 1} → statement M
