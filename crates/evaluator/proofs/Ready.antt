@@ -84,7 +84,7 @@ module _ {s d pa ct : List ℕ} {m o : ℕ} {w : ReadSo s d pa ct m o} {images r
     abbrev walkThere : Walked A
     walkThere = walk (sightOf (slices s d cut (take (m * 6) pa) images rows runs)) cut (z .place)
 
-    walk-is : walkThere ≡ ended (q .result) (q .after)
+    pub walk-is : walkThere ≡ ended (q .result) (q .after)
     walk-is = (λ i. walk (sight-same w cut images rows runs i) (stands .table-is i) (z .here i)) ∙ q .walks-so (stands .inputs)
 
     pub never-there : walkThere ≡ astray → ⊥

@@ -37,7 +37,8 @@ use Rattle.walking.proofs.Proper.{is-due}
 use Rattle.walking.proofs.ProperRuns.{all-due}
 use Rattle.walking.proofs.Demand.{exact}
 use Rattle.explanation.specs.Explanation.{Test, Explained, explainedOf, conditionExplained, requestExplained, explained, explainedEvaluation, inRoom, inTable, explanation}
-use Rattle.explanation.specs.Reason.{mostTests, Explains}
+use Rattle.explanation.specs.Reason.{Explains}
+use Rattle.explanation.specs.Internal.Noting.{RowsEnough}
 use Rattle.explanation.specs.Internal.Walk.{explainAt}
 use Rattle.explanation.proofs.Reason.{true-reason, as-evaluated}
 use Rattle.explanation.proofs.Link.{explained-walk}
@@ -170,13 +171,14 @@ module _ (s d : List ℕ) (rs : List Relation) (t : Request) (a : Accepted s d r
   long-tests : FiveBytes (x .boolean)
   long-tests = five-bytes (environment rs t) (x .scope) (no-empty s d rs t a n x c) (x .boolean) (allowed-there s d rs t a n x c)
 
-  short : booleanSize (x .boolean) + 2 ≤ 65535
-  short =
-      let long : length s ≤ 65535 = omega (arith, ap length (a .bytes), a .allowed .sized .bytes) in
-      omega (arith, long, stands-within s d rs t a n x c, stands-after s d rs t a n x c)
+  inside : booleanSize (x .boolean) + 2 ≤ length s
+  inside = omega (arith, stands-within s d rs t a n x c, stands-after s d rs t a n x c)
 
-  -- the walk over the bytes from the condition's place on explains it, wherever it is seen from, by a table of mostTests rows
-  pub explained-walks : {E : Type 0} (w : Sight E) (y : E) (room : ℕ) → mostTests ≤ room →
+  short : booleanSize (x .boolean) + 2 ≤ 65535
+  short = omega (arith, inside, ap length (a .bytes), a .allowed .sized .bytes)
+
+  -- the walk over the bytes from the condition's place on explains it, wherever it is seen from, by a table of rows enough for its request
+  pub explained-walks : {E : Type 0} (w : Sight E) (y : E) (room : ℕ) → RowsEnough s room →
       Sees (t .version) w y (around rs t x images rows runs) (x .boolean) (x .place) →
       explainAt w y room 32 s 0 (x .place) ≡ ended (explained s d n images rows runs) (x .place + booleanSize (x .boolean))
   explained-walks w y room r h =
@@ -185,7 +187,7 @@ module _ (s d : List ℕ) (rs : List Relation) (t : Request) (a : Accepted s d r
       let v = first-version s d rs t a in
       let k = site s d rs t a n x c in
       explained-walk s w y b room (x .boolean) 32 0 (x .place) (k .rest) (k .shallow) (k .stands)
-      (subst (λ z. Sees z w y b (x .boolean) (x .place)) (sym v) h) long-tests (omega (arith, r, short))
+      (subst (λ z. Sees z w y b (x .boolean) (x .place)) (sym v) h) long-tests (omega (arith, r, inside))
       ∙ ap (λ z. ended (explainedOf z b (x .place) (x .boolean)) end) v
       ∙ ap (λ z. ended z end) (sym (explained-is))
 

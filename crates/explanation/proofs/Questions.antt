@@ -31,7 +31,7 @@ use Rattle.values.specs.Values.{tested}
 use Rattle.sights.proofs.Conditions.{tableFor}
 use Rattle.evaluator.specs.AfterReading.{AfterReading}
 use Rattle.evaluator.specs.declared.prepared.Prepared.{Prepared}
-use Rattle.evaluator.specs.Slices.{bindingNumbers}
+use Rattle.evaluator.specs.Slices.{Slices, bindingNumbers}
 use Rattle.evaluator.specs.Prepared.{Given, Prepares}
 use Rattle.evaluator.specs.Outside.{PreparesIn}
 use Rattle.evaluator.proofs.OutsideLaws.{table-due}
@@ -44,7 +44,7 @@ use Rattle.explanation.specs.Explanation.{Test, Explained, explained, ex
 use Rattle.explanation.specs.Reason.{mostTests}
 use Rattle.explanation.specs.Promise.{countOf, counted, Listed}
 use Rattle.explanation.specs.Internal.Walk.{explainAt}
-use Rattle.explanation.specs.Internal.Noting.{rowsOf, packed, unpacked, truthAt, Notes, RowsListed, settledIn, Lists}
+use Rattle.explanation.specs.Internal.Noting.{rowsOf, packed, unpacked, truthAt, Notes, RowsListed, settledIn, Lists, RowsEnough, walkIn, Walkable, WalkableIn}
 use Rattle.explanation.proofs.Asked.{truthTold, evaluation-told, explained-walks, explained-never}
 use Rattle.explanation.proofs.Refused.{refused-too}
 use Rattle.explanation.proofs.RowLaws.{unpacked-rows}
@@ -52,10 +52,10 @@ use Rattle.explanation.proofs.Tables.{numbers-count}
 
 -- ---- the walk, and what it comes out as
 
-abbrev pub explainWalk : List ℕ → Sight (List ℕ) → List ℕ → ℕ → Walked Explained
-explainWalk s y t p = explainAt y t mostTests maxDepth s 0 p
+abbrev pub explainWalk : List ℕ → ℕ → Sight (List ℕ) → List ℕ → ℕ → Walked Explained
+explainWalk s room y t p = explainAt y t room maxDepth s 0 p
 
-settled-ended : (x : Result Explained) (q : ℕ) → settledIn (ended x q) ≡ outcome x
+pub settled-ended : (x : Result Explained) (q : ℕ) → settledIn (ended x q) ≡ outcome x
 settled-ended (is a) q = refl
 settled-ended (refused r p) q = refl
 settled-ended stray q = refl
@@ -131,16 +131,16 @@ pub table-whole : {room : ℕ} {g : Given} {t : List ℕ} {r : Prepared} → Pre
 table-whole {room} {g} {t} {r} k h = table-due g room t r h k
 
 module _ {s d pa ct nd : List ℕ} {m o : ℕ} (w : AfterReading s d pa ct nd m o) (n : ℕ) where
-  at-condition : (images rows runs : List ℕ) (x : Condition) → asked w n ≡ some x →
+  pub at-condition : (images rows runs : List ℕ) (x : Condition) → asked w n ≡ some x →
       explainedEvaluation s d n images rows runs ≡
       onInputs (x .scope) (dueRuns (w .so .relations) (x .boolean) (x .place)) (w .so .request .messages) images rows runs
       (outcome (explained s d n images rows runs))
   unfolding explainedEvaluation
   at-condition images rows runs x e = rw (w .so .reads, w .so .accepted .house, e)
 
-  abbrev question : (images rows runs : List ℕ) (x : Condition) → asked w n ≡ some x →
-      Question (w .so) images rows runs (explainWalk s) settledIn (explainedEvaluation s d n images rows runs)
-  question images rows runs x e =
+  abbrev question : (room : ℕ) → RowsEnough s room → (images rows runs : List ℕ) (x : Condition) → asked w n ≡ some x →
+      Question (w .so) images rows runs (explainWalk s room) settledIn (explainedEvaluation s d n images rows runs)
+  question room enough images rows runs x e =
       let rs = w .so .relations in
       let t = w .so .request in
       let a = w .so .accepted in
@@ -154,19 +154,19 @@ module _ {s d pa ct nd : List ℕ} {m o : ℕ} (w : AfterReading s d pa ct nd m 
         not-stray = explained-never s d rs t a n x e images rows runs;
         walks-so =
             λ due. explained-walks s d rs t a n x e images rows runs (sightThere w n images rows runs) (tableFor d x (part .kinds) rows runs)
-            mostTests (omega arith) (condition-seen w n images rows runs x e due);
+            room enough (condition-seen w n images rows runs x e due);
         evaluated-so =
             at-condition images rows runs x e
             ∙ ap (onInputs (part .scope) (part .due) (t .messages) images rows runs) (sym (settled-ended result after));
       }
 
   -- what stands at the place that was noted
-  pub explanation-asked : (images rows runs : List ℕ) → (getD nd n 0 ≡ 0 → ⊥) →
-      (q : Question (w .so) images rows runs (explainWalk s) settledIn (explainedEvaluation s d n images rows runs)) ×
+  abbrev pub explanation-asked : (room : ℕ) → RowsEnough s room → (images rows runs : List ℕ) → (getD nd n 0 ≡ 0 → ⊥) →
+      (q : Question (w .so) images rows runs (explainWalk s room) settledIn (explainedEvaluation s d n images rows runs)) ×
       (getD nd n 0 ≡ q .part .place)
-  explanation-asked images rows runs z =
+  explanation-asked room enough images rows runs z =
       let k = place-asked w n z in
-      (question images rows runs (k .0) (k .1), k .2)
+      (question room enough images rows runs (k .0) (k .1), k .2)
 
 -- ---- the walk in a table of its own
 
@@ -210,3 +210,17 @@ module _ (t : List ℕ) {t₁ : List ℕ} (cleared : t₁ ≡ replicate (length 
         filled = l .filled ∙ ap (λ k. testTable (inTable k e) k) cleared-long;
         request-octets = o;
       }
+
+-- ---- a table of rows that are enough
+
+pub walkable-in : {g : Slices} {p : ℕ} {t : List ℕ} → Walkable g p t → (room : ℕ) → room ≤ mostTests → RowsEnough (g .request) room →
+    WalkableIn g p (replicate room 0) t
+walkable-in {g} {p} {t} w room few enough =
+    let long : length {A = ℕ} (replicate room 0) ≡ room = length-replicate {A = ℕ} room 0 in
+    record {
+      fits = w .fits;
+      short = w .short;
+      few = omega (arith, long, few);
+      never = λ e. w .never (sym (w .same room enough) ∙ ap (λ k. walkIn g k p) (sym long) ∙ e);
+      zeros = w .zeros;
+    }

@@ -15,6 +15,11 @@ use wire::table::put;
 // How many rows there are: a condition of an accepted request has no more tests.
 pub(crate) const MAX_TESTS: usize = 10922;
 
+// A request of at most so many bytes has no condition with more tests than that.
+pub(crate) const FEW_TESTS: usize = 512;
+
+pub(crate) const SHORT_REQUEST: usize = 3072;
+
 // A row is the place times this, and the number of the outcome.
 pub(crate) const OUTCOMES: u32 = 4;
 

@@ -127,13 +127,29 @@ pub record Lists (o : Outcome Explained) (t t′ : List ℕ) (r : Explanation) :
   pub counts : countOf r ≡ counted (inTable (length t) o)
   pub filled : t′ ≡ testTable (inTable (length t) o) (length t)
 
--- the walk over a condition
+-- the walk over a condition, in a table of so many rows, and of the most
+abbrev pub walkIn : Slices → ℕ → ℕ → Walked Explained
+walkIn g rows p = explains g rows maxDepth 0 p
+
 abbrev pub walkOver : Slices → ℕ → Walked Explained
-walkOver g p = explains g mostTests maxDepth 0 p
+walkOver g p = walkIn g mostTests p
+
+-- so many rows are enough for the tests of a condition of a request: a test has five bytes or more, a connective one
+abbrev pub RowsEnough : List ℕ → ℕ → Type 0
+RowsEnough s rows = length s ≤ rows * 6 + 6
 
 -- what such a walk is given, beside a lent table of zeros
 pub record Walkable (g : Slices) (p : ℕ) (t : List ℕ) : Type 0 where
   pub fits : Fits (g .bindings) (g .runs)
   pub short : length (g .request) ≤ maxRequestBytes
   pub never : walkOver g p ≡ astray → ⊥
+  pub same : (rows : ℕ) → RowsEnough (g .request) rows → walkIn g rows p ≡ walkOver g p
+  pub zeros : t ≡ replicate (length t) 0
+
+-- the same in a table of rows
+pub record WalkableIn (g : Slices) (p : ℕ) (rows t : List ℕ) : Type 0 where
+  pub fits : Fits (g .bindings) (g .runs)
+  pub short : length (g .request) ≤ maxRequestBytes
+  pub few : length rows ≤ mostTests
+  pub never : walkIn g (length rows) p ≡ astray → ⊥
   pub zeros : t ≡ replicate (length t) 0

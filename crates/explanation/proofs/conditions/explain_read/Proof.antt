@@ -1,3 +1,4 @@
+use Prim.Native.Nat.{ℕ}
 use mathlib.Core.Path.{sym, _∙_}
 use native.Mathlib.Omega.{arith}
 use lib.Seq.{length-take-le}
@@ -5,9 +6,10 @@ use Rattle.grammar.specs.declared.Refusal.the-variants.{NoBoolean}
 use Rattle.evaluator.proofs.BoundLaws.{octets}
 use Rattle.evaluator.proofs.Parts.{rows-fit}
 use Rattle.evaluator.proofs.Outcomes.{short, no-condition}
-use Rattle.evaluator.proofs.Ready.{Ready, refused-there, few-there, fits-there, never-there, walked-there}
+use Rattle.evaluator.proofs.Ready.{Ready, refused-there, few-there, fits-there, never-there, walk-is, walked-there}
 use Rattle.explanation.specs.Explanation.{explainedEvaluation}
-use Rattle.explanation.specs.Internal.Noting.{settledIn}
+use Rattle.explanation.specs.Reason.{mostTests}
+use Rattle.explanation.specs.Internal.Noting.{settledIn, RowsEnough}
 use Rattle.explanation.proofs.Questions.{explainWalk, table-whole, explanation-asked, same-outcome, outcome-refused, evaluation-refused}
 use borrow.Author.Needs.{needs}
 use Rattle.explanation.proofs.conditions.explain_read.Statement.{statement}
@@ -49,18 +51,19 @@ enum-known-prepared : tie.Need-enum-known-prepared
 enum-known-prepared c = search needs
 
 -- what holds once all is prepared
-abbrev ready : (c : tie.After-prepare-in) →
+abbrev ready-in : (c : tie.After-prepare-in) (room : ℕ) →
     let start′ = c .before .before .before .before .before .before .before .before .before .before .before .before .before in
+    RowsEnough (start′ .args .request .now) room →
     Ready (start′ .pre .0 .so) (start′ .args .images .now) (start′ .args .records .now) (start′ .args .runs .now)
-    (explainWalk (start′ .args .request .now)) settledIn
+    (explainWalk (start′ .args .request .now) room) settledIn
     (explainedEvaluation (start′ .args .request .now) (start′ .args .dictionary .now) (start′ .args .number) (start′ .args .images .now)
     (start′ .args .records .now) (start′ .args .runs .now))
-ready c =
+ready-in c room enough =
     let start′ = c .before .before .before .before .before .before .before .before .before .before .before .before .before in
     let number-at′ = c .before .before .before .number-at in
     let if1′ = c .before .before .if1 in
     let asked′ =
-    explanation-asked (start′ .pre .0) (start′ .args .number) (start′ .args .images .now) (start′ .args .records .now) (start′ .args .runs .now)
+    explanation-asked (start′ .pre .0) (start′ .args .number) room enough (start′ .args .images .now) (start′ .args .records .now) (start′ .args .runs .now)
     (λ z. if1′ .left (number-at′ .ensures ∙ z)) in
     record {
       asked = asked′ .0;
@@ -70,6 +73,17 @@ ready c =
       answer = c .prepare-in .result;
       prepared = table-whole (c .prepare-in .ensures) (omega arith);
     }
+
+-- in a table of the most rows
+abbrev ready : (c : tie.After-prepare-in) →
+    let start′ = c .before .before .before .before .before .before .before .before .before .before .before .before .before in
+    Ready (start′ .pre .0 .so) (start′ .args .images .now) (start′ .args .records .now) (start′ .args .runs .now)
+    (explainWalk (start′ .args .request .now) mostTests) settledIn
+    (explainedEvaluation (start′ .args .request .now) (start′ .args .dictionary .now) (start′ .args .number) (start′ .args .images .now)
+    (start′ .args .records .now) (start′ .args .runs .now))
+ready c =
+    let start′ = c .before .before .before .before .before .before .before .before .before .before .before .before .before in
+    ready-in c mostTests (omega (arith, short (start′ .pre .0 .so)))
 
 -- src/conditions.rt:109:25
 mul-bindings : tie.Need-mul-bindings
@@ -114,6 +128,9 @@ explain-there-requires c κs =
       fits = fits-there ready′ _ (prepared′ .given .1) (octets (args′ .runs .now) (shared-slice-known8′ .given));
       short = short (pre′ .0 .so);
       never = never-there ready′ _ (prepared′ .given .1);
+      same =
+          λ room enough. walk-is (ready-in (c .before .before .before .before .before .before .before) room enough) _ (prepared′ .given .1) ∙
+          sym (walk-is ready′ _ (prepared′ .given .1));
       zeros = pre′ .1;
     }
 
