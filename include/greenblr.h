@@ -18,7 +18,7 @@
  * - What a call writes (tables, answer, the buffer of a store) may not overlap anything else that it is given.
  *
  * Machines: the archive is for x86-64 Linux with 64-bit pointers, and needs memcpy and memset of the C library, nothing else.
- * C99 and later, and C++, can include this header. Stack: the requests that were tried use up to 135 kilobytes, which is measured
+ * C99 and later, and C++, can include this header. Stack: the requests that were tried use up to 140 kilobytes, which is measured
  * and not proved.
  *
  * Names: all start with greenblr_ or GREENBLR_, so this header can stand in one file with InterBase's ibase.h and blr.h, in
