@@ -1,5 +1,5 @@
--- The table of fields: rows of four numbers, the entry of a relation, the index of a field, the field's entry and its offset in a record, which
--- is 0 in an empty row.
+-- The table of fields: rows of four numbers, the entry of a relation, the index of a field, the field's entry and its offset in a
+-- record, which is 0 in an empty row.
 use Prim.Native.Nat.{ℕ, _+_, _*_, _%_, _<_}
 use mathlib.Core.Path.{_≡_}
 use mathlib.Core.Bool.{true}
