@@ -1,4 +1,6 @@
 // The class of a code at each kind of place: due, left out by document 01 by name, or foreign.
+#![tactic(auto)]
+
 ghost use Rattle.std.specs.Prelude.{◌≡◌};
 ghost use Rattle.wire.specs.Classes.{statement_class, value_class, target_class, boolean_class, stream_class, clause_class, direction_class, descriptor_class, literal_class, field_class};
 ghost use Rattle.wire.specs.Versions.{version_of, width_due, type_due, literal_due, field_due};
@@ -11,68 +13,68 @@ use wire::codes::{
     TextType, ValueCode, Version, Width,
 };
 
-#[derive(Drop)]
+#[derive(Clone, Copy)]
 pub enum StatementClass {
     Due(StatementCode),
     LeftOut,
     Foreign,
 }
 
-#[derive(Drop)]
+#[derive(Clone, Copy)]
 pub enum ValueClass {
     Due(ValueCode),
     LeftOut,
     Foreign,
 }
 
-#[derive(Drop)]
+#[derive(Clone, Copy)]
 pub enum TargetClass {
     Due(ReferenceCode),
     Foreign,
 }
 
-#[derive(Drop)]
+#[derive(Clone, Copy)]
 pub enum BooleanClass {
     Due(BooleanCode),
     LeftOut,
     Foreign,
 }
 
-#[derive(Drop)]
+#[derive(Clone, Copy)]
 pub enum StreamClass {
     Due(StreamCode),
     LeftOut,
     Foreign,
 }
 
-#[derive(Drop)]
+#[derive(Clone, Copy)]
 pub enum ClauseClass {
     Due(ClauseCode),
     LeftOut,
     Foreign,
 }
 
-#[derive(Drop)]
+#[derive(Clone, Copy)]
 pub enum DirectionClass {
     Due(Direction),
     Foreign,
 }
 
-#[derive(Drop)]
+#[derive(Clone, Copy)]
 pub enum DescriptorClass {
     Due(DataType),
     LeftOut,
     Foreign,
 }
 
-#[derive(Drop)]
+#[derive(Clone, Copy)]
 pub enum LiteralClass {
     Due(LiteralType),
     LeftOut,
     Foreign,
 }
 
-#[derive(Drop)]
+#[derive(Clone, Copy)]
 pub enum FieldClass {
     Due(FieldType),
     Foreign,

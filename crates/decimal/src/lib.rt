@@ -1,4 +1,6 @@
 // Scaled numbers: a signed 64-bit value with a scale, a signed byte from -18 to 0. The number is the value times ten to the scale.
+#![tactic(auto)]
+
 ghost use Rattle.std.specs.Prelude.{◌≡◌};
 ghost use Rattle.decimal.specs.Number.{places, rescaled, added, subtracted, multiplied, quotient, quotient5, negated, computed};
 ghost use Rattle.decimal.specs.Number.{compared, scaled};
@@ -16,14 +18,14 @@ mod sign;
 mod sums;
 mod values;
 
-#[derive(Drop)]
+#[derive(Clone, Copy)]
 pub struct Number {
     pub value: i64,
     pub scale: i8,
 }
 
 // What an operation gives.
-#[derive(Drop)]
+#[derive(Clone, Copy)]
 pub enum Computed {
     Value(Number),
     Overflow,

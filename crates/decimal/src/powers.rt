@@ -36,7 +36,7 @@ pub(crate) fn power(k: usize) -> u64
 }
 
 // Ten to the places of two numbers, and to the places that each lacks of the larger count.
-#[derive(Drop)]
+#[derive(Clone, Copy)]
 pub(crate) struct PlacePowers {
     pub first: u64,
     pub first_lacks: u64,

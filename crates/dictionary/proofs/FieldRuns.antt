@@ -44,8 +44,8 @@ unfolding field_places is_field
 entered n d q h w k = rw (lt-ltb q (length d) h, lt-ltb 0 (word_at d q) w, eq-eqb (kind_at d q) 2 k)
 
 -- a run up to a stop is all there is
-pub run-fields : (n : ℕ) (d : List ℕ) (q p : ℕ) (fs : List Field) → Run d q fs p → Stop d p → length d ≤ q + n → map (entry_field d) (field_places n d q) ≡ fs
-run-fields n d q p [] empty s e = ap (map (entry_field d)) (stopped n d q s)
-run-fields zero d q p _ (more h w k r) s e = absurd (omega arith)
-run-fields (suc n) d q p _ (more h w k r) s e =
-    ap (map (entry_field d)) (entered n d q h w k) ∙ ap (λ l. entry_field d q ∷ l) (run-fields n d (q + word_at d q) p _ r s (omega arith))
+pub run-fields : (d : List ℕ) (n : ℕ) (q p : ℕ) (fs : List Field) → Run d q fs p → Stop d p → length d ≤ q + n → map (entry_field d) (field_places n d q) ≡ fs
+run-fields d n q p [] empty s e = ap (map (entry_field d)) (stopped n d q s)
+run-fields d zero q p _ (more h w k r) s e = absurd (omega arith)
+run-fields d (suc n) q p _ (more h w k r) s e =
+    ap (map (entry_field d)) (entered n d q h w k) ∙ ap (λ l. entry_field d q ∷ l) (run-fields d n (q + word_at d q) p _ r s (omega arith))

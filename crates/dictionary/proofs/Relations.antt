@@ -59,7 +59,7 @@ close-one : (d : List ℕ) (p : ℕ) (r : Relation) → Open d p r → Stop d p 
 unfolding relation_at fields_of fields_from
 close-one d p r o s =
     let q = r.place + word_at d r.place in
-    let f : map (entry_field d) (fields_of d r.place) ≡ r.fields = run-fields (length d) d q p r.fields o.run s (omega arith) in
+    let f : map (entry_field d) (fields_of d r.place) ≡ r.fields = run-fields d (length d) q p r.fields o.run s (omega arith) in
     λ i. record { place = r.place; id = o.id-is i; name = o.name-is i; fields = f i }
 
 close : (d : List ℕ) (p : ℕ) (rs : List Relation) → Placed d p rs → Stop d p → Closed d rs

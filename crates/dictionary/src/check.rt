@@ -26,21 +26,21 @@ use wire::entries::{
 use wire::limits::{DATE_SIZE, MAX_DICTIONARY_BYTES, MAX_FIELDS, MAX_RELATIONS, READING_SIZE};
 
 // A dictionary is proper, or has a fault at the start of an entry.
-#[derive(Drop)]
+#[derive(Clone, Copy)]
 pub enum DictionaryCheck {
     Proper,
     Fault(usize),
 }
 
 // How far a check has come: relations met, fields of the last, and the place of the last.
-#[derive(Drop)]
+#[derive(Clone, Copy)]
 pub(crate) struct Met {
     pub relations: usize,
     pub fields: usize,
     pub last: usize,
 }
 
-#[derive(Drop)]
+#[derive(Clone, Copy)]
 pub(crate) enum Meeting {
     Good(Met),
     Bad,
@@ -126,7 +126,7 @@ fn same_field(d: &[u8], p: usize, q: usize) -> bool
 }
 
 // What must not repeat: a relation's id and name, or a field's name.
-#[derive(Drop)]
+#[derive(Clone, Copy)]
 pub(crate) enum Unique {
     OfRelation,
     OfField,

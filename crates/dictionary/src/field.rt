@@ -15,14 +15,14 @@ use wire::codes::FieldType;
 use wire::entries::{FIELD_NAME, FIELD_SCALE, FIELD_SIZE};
 
 // The id of a field, or that there is none.
-#[derive(Drop)]
+#[derive(Clone, Copy)]
 pub enum Index {
     Is(usize),
     Unknown,
 }
 
 // What a field's entry says of its bytes: the type, the scale byte as it stands, and the size word.
-#[derive(Drop)]
+#[derive(Clone, Copy)]
 pub struct Description {
     pub data_type: FieldType,
     pub scale: u8,

@@ -1,4 +1,6 @@
 // The house dictionary.
+#![tactic(auto)]
+
 pub mod check;
 pub mod entries;
 pub mod field;

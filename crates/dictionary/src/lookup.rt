@@ -12,14 +12,14 @@ use wire::entries::{ENTRY_ID, ENTRY_KIND, RELATION_ENTRY, RELATION_NAME};
 use wire::limits::MAX_DICTIONARY_BYTES;
 
 // The place of an entry, or that there is none.
-#[derive(Drop)]
+#[derive(Clone, Copy)]
 pub enum Place {
     At(usize),
     Unknown,
 }
 
 // How a relation is looked for.
-#[derive(Drop)]
+#[derive(Clone, Copy)]
 pub(crate) enum Wanted {
     ByName,
     ById,

@@ -26,7 +26,7 @@ pub record Lent : Type 0 where
   pub records : List ℕ
   pub runs : List ℕ
   pub request_at : ℕ
-  pub records-at : ℕ
+  pub records_at : ℕ
   pub runs_at : ℕ
 
 -- the bytes of the request, the messages (the bodies of the entries of kind 10, joined), the records (the entries of kind 3, whole) and the
@@ -39,14 +39,14 @@ lent_in s request number records runs =
       records = part s records runs;
       runs = drop runs s;
       request_at = request + entry_body;
-      records-at = records;
+      records_at = records;
       runs_at = runs;
     }
 
 -- the from-value of the assignment in that row, or the condition of that number, with what is lent
 abbrev pub asked : Bool → Lent → List ℕ → ℕ → Told
 asked true m d n =
-    value (value_evaluation m.request d n m.images m.records m.runs) m.request_at m.records-at m.runs_at
+    value (value_evaluation m.request d n m.images m.records m.runs) m.request_at m.records_at m.runs_at
 asked false m d n = condition (evaluation m.request d n m.images m.records m.runs)
 
 abbrev pub outcome : List ℕ → EvaluationInput → Told

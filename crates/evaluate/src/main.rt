@@ -2,6 +2,8 @@
 // (11), any number of message bytes (10), any number of records (3) and any number of runs (7) from standard input. Prints `true`, `false` or
 // `missing`, or of an assignment the number, the text or the date that it puts into its target, or `missing`; a refusal; or that the input is
 // not these entries.
+#![tactic(auto)]
+
 mod show;
 
 ghost use Rattle.std.specs.Prelude.{◌≤◌, length};
@@ -15,7 +17,7 @@ use wire::bytes::word_at;
 use wire::entries::{ENTRY_BODY, MESSAGE_ENTRY};
 
 // Of a value also where request, records and runs begin in the input, for a text in one of them; messages stand in a space of their own.
-#[derive(Drop)]
+#[derive(Clone, Copy)]
 enum ProgramAnswer {
     Is(Evaluation),
     Value(ValueEvaluation, usize, usize, usize),

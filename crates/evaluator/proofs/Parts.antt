@@ -16,7 +16,7 @@ use Rattle.grammar.specs.Demands.{Octets}
 use Rattle.grammar.specs.Environment.{Scope}
 use Rattle.grammar.specs.Sizes.{message_size, parameter_count, contexts_count}
 use Rattle.grammar.specs.Rows.{parameter_rows}
-use Rattle.grammar.proofs.RowCounts.{parameter_rows}
+use Rattle.grammar.proofs.RowCounts.{parameter_rows_lem}
 use Rattle.meaning.specs.Runs.{DueRun, run_relations}
 use Rattle.meaning.specs.Evaluation.{Outcome, answered, refusal, due_relations, after_records, after_runs, after_messages, on_inputs}
 use Rattle.surroundings.specs.Slots.{Slot, slots_from, relations_in}
@@ -90,7 +90,7 @@ module _ {s d pa ct : List ℕ} {m o : ℕ} (w : ReadSo s d pa ct m o) where
 
   -- the rows that are handed on
   rows_long : length (parameter_rows w.request.messages) ≡ m * 6
-  rows_long = omega (arith, parameter_rows w.request.messages, w.parameters_are)
+  rows_long = omega (arith, parameter_rows_lem w.request.messages, w.parameters_are)
 
   pub rows_fit : m * 6 ≤ length pa
   rows_fit =

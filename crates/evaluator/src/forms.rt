@@ -8,21 +8,21 @@ use wire::codes::{
 };
 
 // An operator on values.
-#[derive(Drop)]
+#[derive(Clone, Copy)]
 pub(crate) enum OperationCode {
     Arithmetic(Operator),
     Negate,
 }
 
 // A value over the records of a run.
-#[derive(Drop)]
+#[derive(Clone, Copy)]
 pub(crate) enum StatisticCode {
     Of(Statistic),
     Count,
 }
 
 // What a value is, by its code.
-#[derive(Drop)]
+#[derive(Clone, Copy)]
 pub(crate) enum ValueForm {
     Literal,
     Reference(ReferenceCode),
@@ -31,7 +31,7 @@ pub(crate) enum ValueForm {
 }
 
 // A test on two values, and between on three.
-#[derive(Drop)]
+#[derive(Clone, Copy)]
 pub(crate) enum PairCode {
     Compare(Comparison),
     Search(TextSearch),
@@ -39,21 +39,21 @@ pub(crate) enum PairCode {
 }
 
 // A test on values.
-#[derive(Drop)]
+#[derive(Clone, Copy)]
 pub(crate) enum TestCode {
     Pair(PairCode),
     Missing,
 }
 
 // An operator on booleans.
-#[derive(Drop)]
+#[derive(Clone, Copy)]
 pub(crate) enum LogicCode {
     Connect(Connective),
     Not,
 }
 
 // What a boolean is, by its code.
-#[derive(Drop)]
+#[derive(Clone, Copy)]
 pub(crate) enum BooleanForm {
     Test(TestCode),
     Logic(LogicCode),

@@ -1,4 +1,6 @@
 // Evaluation: a condition of a request, by its number, and the from-value of an assignment, by its row, with messages, records and runs.
+#![tactic(auto)]
+
 ghost use Rattle.meaning.specs.Evaluated.{Evaluated};
 ghost use Rattle.meaning.specs.ValueEvaluated.{ValueEvaluated};
 

@@ -17,7 +17,7 @@ use wire::limits::MAX_CONTEXTS;
 use wire::table::clear;
 
 // How many rows the table of bindings has, where messages, records and runs are as due; or the refusal and its place.
-#[derive(Drop)]
+#[derive(Clone, Copy)]
 pub enum Prepared {
     Rows(usize),
     Refused(Refusal, usize),

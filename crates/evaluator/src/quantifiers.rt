@@ -15,7 +15,7 @@ use wire::codes::Quantifier;
 
 // How many records of a run are kept, and the place after what asked for it; or a refusal and its place; or that something is not there or
 // does not fit.
-#[derive(Drop)]
+#[derive(Clone, Copy)]
 pub(crate) enum Kept {
     Is(u32, Position),
     Refused(Fault, usize),

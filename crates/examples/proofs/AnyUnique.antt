@@ -11,19 +11,19 @@ use Rattle.examples.proofs.Examples.{S, dictionary, bed}
 
 -- an if whose condition, at 3, is a boolean of these bytes
 unfoldable pub condition : List ℕ → List ℕ
-condition bytes = 0x04 ∷ 0x02 ∷ 0x08 ∷ bytes ++ (0x02 ∷ 0x_fF ∷ 0x_fF ∷ 0x_fF ∷ 0x4_c ∷ [])
+condition bytes = 0x04 ∷ 0x02 ∷ 0x08 ∷ bytes ++ (0x02 ∷ 0xFF ∷ 0xFF ∷ 0xFF ∷ 0x4C ∷ [])
 
 -- an any (60) or a unique (62) of relation 1, BEDS, with a context of that number and these clauses
 unfoldable pub over : ℕ → ℕ → List ℕ → List ℕ
-over code context clauses = code ∷ 0x43 ∷ 0x01 ∷ 0x4_b ∷ 0x01 ∷ 0x00 ∷ context ∷ clauses ++ (0x_fF ∷ [])
+over code context clauses = code ∷ 0x43 ∷ 0x01 ∷ 0x4B ∷ 0x01 ∷ 0x00 ∷ context ∷ clauses ++ (0xFF ∷ [])
 
 -- HEAT of a context is above 30.0
 unfoldable pub above : ℕ → List ℕ
-above context = 0x31 ∷ 0x18 ∷ context ∷ 0x00 ∷ 0x00 ∷ 0x15 ∷ 0x07 ∷ 0x_fF ∷ 0x2_c ∷ 0x01 ∷ []
+above context = 0x31 ∷ 0x18 ∷ context ∷ 0x00 ∷ 0x00 ∷ 0x15 ∷ 0x07 ∷ 0xFF ∷ 0x2C ∷ 0x01 ∷ []
 
 -- 30.0 by HEAT of context 0 is above 0
 pub shared : List ℕ
-shared = 0x31 ∷ 0x25 ∷ 0x15 ∷ 0x07 ∷ 0x_fF ∷ 0x2_c ∷ 0x01 ∷ 0x18 ∷ 0x00 ∷ 0x00 ∷ 0x00 ∷ 0x15 ∷ 0x07 ∷ 0x00 ∷ 0x00 ∷ 0x00 ∷ []
+shared = 0x31 ∷ 0x25 ∷ 0x15 ∷ 0x07 ∷ 0xFF ∷ 0x2C ∷ 0x01 ∷ 0x18 ∷ 0x00 ∷ 0x00 ∷ 0x00 ∷ 0x15 ∷ 0x07 ∷ 0x00 ∷ 0x00 ∷ 0x00 ∷ []
 
 -- HEAT of context 1 is above that of context 0
 pub warmer : List ℕ
@@ -31,19 +31,19 @@ warmer = 0x31 ∷ 0x18 ∷ 0x01 ∷ 0x00 ∷ 0x00 ∷ 0x18 ∷ 0x00 ∷ 0x00 ∷
 
 -- a bed that has a warmer one in an inner run, and is above 30.0 itself
 pub nested : List ℕ
-nested = 0x3_a ∷ over 60 1 (0x47 ∷ warmer) ++ above 0
+nested = 0x3A ∷ over 60 1 (0x47 ∷ warmer) ++ above 0
 
 -- ---- runs
 
 -- HEAT 29.9, 30.1, 30.2, 10.0, 0.0 and 65535
 unfoldable pub cool : List ℕ
-cool = bed 0 0x2_b 0x01
+cool = bed 0 0x2B 0x01
 
 unfoldable pub warm : List ℕ
-warm = bed 0 0x2_d 0x01
+warm = bed 0 0x2D 0x01
 
 unfoldable pub hot : List ℕ
-hot = bed 0 0x2_e 0x01
+hot = bed 0 0x2E 0x01
 
 pub ten : List ℕ
 ten = bed 0 100 0
@@ -52,7 +52,7 @@ pub zeroed : List ℕ
 zeroed = bed 0 0 0
 
 unfoldable pub unread : List ℕ
-unread = bed 0 0x_fF 0x_fF
+unread = bed 0 0xFF 0xFF
 
 -- an entry of kind 7 of fewer than 252 bytes
 unfoldable pub run : List ℕ → List ℕ
@@ -86,7 +86,7 @@ computed =
     altered 3 60 ∷ altered 3 62 ∷ altered 3 63 ∷ altered 5 0 ∷ altered 5 2 ∷ altered 5 8 ∷ altered 5 9 ∷ altered 13 1 ∷
     -- a missing condition keeps no record, and neither answer is missing
     quantified 60 (run (unread ++ warm)) ∷ quantified 60 (run (unread ++ cool)) ∷ quantified 62 (run (unread ++ warm)) ∷
-    asked (0x3_b ∷ over 60 0 (0x47 ∷ above 0)) (run unread) ∷
+    asked (0x3B ∷ over 60 0 (0x47 ∷ above 0)) (run unread) ∷
     -- exactly one
     quantified 62 (run (warm ++ hot)) ∷ quantified 60 (run (warm ++ hot)) ∷ quantified 62 (run (warm ++ cool ++ hot)) ∷
     -- the empty run
@@ -108,7 +108,7 @@ computed =
     -- runs not as due: cut, cut inside a record, of another kind, none, too few, too many, and where none is due
     quantified 60 (take 16 (run warm)) ∷ quantified 60 (run (warm ++ take 12 warm)) ∷ quantified 60 warm ∷ quantified 60 [] ∷
     asked (over 60 0 (0x47 ∷ nested)) (run warm) ∷ asked (over 60 0 (0x47 ∷ nested)) (run warm ++ take 3 (run hot)) ∷
-    quantified 60 (run warm ++ (1 ∷ [])) ∷ quantified 60 (run (bed 4 0x2_d 0x01)) ∷
+    quantified 60 (run warm ++ (1 ∷ [])) ∷ quantified 60 (run (bed 4 0x2D 0x01)) ∷
     evaluate_answer S dictionary 0 (0 ∷ 0 ∷ []) warm (run []) ∷ evaluate_answer S dictionary 0 (0 ∷ 0 ∷ []) [] (run []) ∷ []
 
 pub expected : List Answer

@@ -1,6 +1,8 @@
 // The program `explain`: reads the entries of a dictionary (kind 4), a request (5), the number of a boolean (9), any number of message bytes
 // (10), any number of records (3) and any number of runs (7) from standard input. Prints the tests that decide the boolean, a line each with
 // place and outcome; a refusal; or that the input is not these entries.
+#![tactic(auto)]
+
 mod show;
 
 ghost use Rattle.std.specs.Prelude.{◌≤◌, length};
@@ -13,7 +15,7 @@ use show::{bad_input, explanation_lines};
 use wire::bytes::word_at;
 use wire::entries::{ENTRY_BODY, MESSAGE_ENTRY};
 
-#[derive(Drop)]
+#[derive(Clone, Copy)]
 enum ProgramAnswer {
     Is(Explanation),
     BadInput,

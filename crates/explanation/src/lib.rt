@@ -1,4 +1,6 @@
 // Why a condition came out as it did: the tests that decide it, in a lent table.
+#![tactic(auto)]
+
 ghost use Rattle.explanation.specs.Promise.{Listed};
 
 use grammar::{ReadAnswer, Refusal};
@@ -16,7 +18,7 @@ mod walk;
 pub const TEST_TABLE: usize = 21844;
 
 // The answer of explanation: how many tests the table lists; or the refusal and its place.
-#[derive(Drop)]
+#[derive(Clone, Copy)]
 pub enum Explanation {
     Tests(usize),
     Refused(Refusal, usize),

@@ -9,7 +9,7 @@ use values::Tested;
 use wire::codes::{BooleanCode, Connective};
 
 // Two booleans, one, or a test.
-#[derive(Drop)]
+#[derive(Clone, Copy)]
 pub(crate) enum Node {
     Connect(Connective),
     Not,

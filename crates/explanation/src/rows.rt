@@ -21,7 +21,7 @@ pub(crate) const SHORT_REQUEST: usize = 3072;
 pub(crate) const OUTCOMES: u32 = 4;
 
 // What a boolean comes out as, and how many rows are laid up to its end.
-#[derive(Drop)]
+#[derive(Clone, Copy)]
 pub(crate) struct Noted {
     pub tested: Tested,
     pub rows: usize,

@@ -16,7 +16,7 @@ use wire::bytes::byte_at;
 use wire::codes::Connective;
 
 // The boolean whose code stands at a place, with so many levels left, and n rows laid before.
-#[cycle(both_sides_explain_after_explain_at_explain_under)]
+#[cycle(walk)]
 pub(crate) fn explain_at<'a>(
     request: &'a [u8],
     dictionary: &[u8],
@@ -70,7 +70,7 @@ pub(crate) fn explain_at<'a>(
 }
 
 // What stands under a code at a place before the end, with so many levels left for the boolean itself.
-#[cycle(both_sides_explain_after_explain_at_explain_under)]
+#[cycle(walk)]
 fn explain_under<'a>(
     request: &'a [u8],
     dictionary: &[u8],
@@ -137,7 +137,7 @@ fn explain_under<'a>(
 }
 
 // Both sides of an and or an or, the first of which stands at a place: each is worked out, and the rows of those needed stay.
-#[cycle(both_sides_explain_after_explain_at_explain_under)]
+#[cycle(walk)]
 fn both_sides<'a>(
     request: &'a [u8],
     dictionary: &[u8],
@@ -181,7 +181,7 @@ fn both_sides<'a>(
 }
 
 // The boolean that follows another; a refusal passes through.
-#[cycle(both_sides_explain_after_explain_at_explain_under)]
+#[cycle(walk)]
 fn explain_after<'a>(
     request: &'a [u8],
     dictionary: &[u8],

@@ -17,7 +17,7 @@ use wire::blr::{ANY, UNIQUE};
 use wire::codes::{BooleanCode, Quantifier};
 
 // The values of a boolean that tests values, whose code stands at a place: one, two or three, each with so many levels left.
-#[cycle(read_boolean_read_test_read_clauses_read_keys_read_more_read_sort_read_rse_read_statistic_read_value)]
+#[cycle(reading)]
 fn read_test(
     request: &[u8],
     dictionary: &[u8],
@@ -69,7 +69,7 @@ fn quantifier_code(q: Quantifier) -> u8
 }
 
 // A boolean, with so many levels left for it.
-#[cycle(read_boolean_read_test_read_clauses_read_keys_read_more_read_sort_read_rse_read_statistic_read_value)]
+#[cycle(reading)]
 pub fn read_boolean(
     request: &[u8],
     dictionary: &[u8],

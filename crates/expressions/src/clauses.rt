@@ -19,14 +19,14 @@ use wire::codes::ClauseCode;
 const MOST_CLAUSES: usize = 3;
 
 // How reading the clauses of an rse went, and the place of their boolean, or 0.
-#[derive(Drop)]
+#[derive(Clone, Copy)]
 pub struct Clauses {
     pub step: Step,
     pub such: usize,
 }
 
 // What has stood before a clause: how many may follow, the place of the boolean, or 0, and whether a sort.
-#[derive(Drop)]
+#[derive(Clone, Copy)]
 pub(crate) struct Stood {
     pub most: usize,
     pub such: usize,
@@ -34,7 +34,7 @@ pub(crate) struct Stood {
 }
 
 // The values of a sort, so many.
-#[cycle(read_boolean_read_test_read_clauses_read_keys_read_more_read_sort_read_rse_read_statistic_read_value)]
+#[cycle(reading)]
 fn read_keys(
     request: &[u8],
     dictionary: &[u8],
@@ -74,7 +74,7 @@ fn read_keys(
 }
 
 // A sort after its code.
-#[cycle(read_boolean_read_test_read_clauses_read_keys_read_more_read_sort_read_rse_read_statistic_read_value)]
+#[cycle(reading)]
 fn read_sort(
     request: &[u8],
     dictionary: &[u8],
@@ -118,7 +118,7 @@ fn ended(c: Cursor, such: usize) -> Clauses
 }
 
 // The clauses of an rse and its end, beside what has stood before.
-#[cycle(read_boolean_read_test_read_clauses_read_keys_read_more_read_sort_read_rse_read_statistic_read_value)]
+#[cycle(reading)]
 fn read_more(
     request: &[u8],
     dictionary: &[u8],
@@ -167,7 +167,7 @@ fn read_more(
 }
 
 // The clauses of an rse and its end: at most a boolean and a sort, with so many levels left for what stands in them.
-#[cycle(read_boolean_read_test_read_clauses_read_keys_read_more_read_sort_read_rse_read_statistic_read_value)]
+#[cycle(reading)]
 pub fn read_clauses(
     request: &[u8],
     dictionary: &[u8],

@@ -14,19 +14,19 @@ use steps::next_byte;
 use wire::codes::{BooleanCode, ClauseCode, ValueCode};
 
 // The code of a value, and the cursor after it.
-#[derive(Drop)]
+#[derive(Clone, Copy)]
 pub(crate) enum ValueHead {
     Is(ValueCode, Cursor),
     Refused(Refusal, usize),
 }
 
-#[derive(Drop)]
+#[derive(Clone, Copy)]
 pub(crate) enum BooleanHead {
     Is(BooleanCode, Cursor),
     Refused(Refusal, usize),
 }
 
-#[derive(Drop)]
+#[derive(Clone, Copy)]
 pub(crate) enum ClauseHead {
     Is(ClauseCode, Cursor),
     Refused(Refusal, usize),

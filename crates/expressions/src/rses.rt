@@ -12,7 +12,7 @@ use scopes::scope::SCOPE;
 use tables::contexts::close;
 
 // An rse of one stream after the code that opens it, with so many levels left for what stands in it: its context is in scope up to its end.
-#[cycle(read_boolean_read_test_read_clauses_read_keys_read_more_read_sort_read_rse_read_statistic_read_value)]
+#[cycle(reading)]
 pub(crate) fn read_rse(
     request: &[u8],
     dictionary: &[u8],

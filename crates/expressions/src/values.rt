@@ -31,7 +31,7 @@ fn statistic_code(k: Statistic) -> u8
 }
 
 // A statistic after its code at a place: an rse of one stream and a number, and its context is in scope in both.
-#[cycle(read_boolean_read_test_read_clauses_read_keys_read_more_read_sort_read_rse_read_statistic_read_value)]
+#[cycle(reading)]
 fn read_statistic(
     request: &[u8],
     dictionary: &[u8],
@@ -81,7 +81,7 @@ fn read_statistic(
 }
 
 // A value, with so many levels left for it.
-#[cycle(read_boolean_read_test_read_clauses_read_keys_read_more_read_sort_read_rse_read_statistic_read_value)]
+#[cycle(reading)]
 pub fn read_value(
     request: &[u8],
     dictionary: &[u8],

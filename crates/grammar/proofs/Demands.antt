@@ -22,7 +22,7 @@ use Rattle.grammar.specs.Answered.{reading_of, Answered}
 use Rattle.grammar.proofs.StepLaws.{absurd-eq}
 use Rattle.grammar.proofs.Went.{passed, both}
 use Rattle.grammar.proofs.BoundedReading.{answer-refusal-within}
-use Rattle.grammar.proofs.RowCounts.{request-rows, parameter_rows, request-contexts}
+use Rattle.grammar.proofs.RowCounts.{request-rows, parameter_rows_lem, request-contexts}
 use Rattle.grammar.proofs.Sound.{reading-sound}
 use Rattle.grammar.proofs.Complete.{reading-complete, one-tree}
 
@@ -65,7 +65,7 @@ module _ {s d st pa ct st' pa' ct' : List ℕ} where
       let l : k ≡ contexts_count t.statements = cc in
       record {
         statement_count = omega (arith, request-rows t, i);
-        parameter_count = omega (arith, parameter_rows t.messages, j);
+        parameter_count = omega (arith, parameter_rows_lem t.messages, j);
         context-count = omega (arith, request-contexts rs t, l);
         statements = rw w at h.statements_filled;
         parameters = rw w at h.parameters_filled;

@@ -12,7 +12,7 @@ use Rattle.grammar.specs.Tree.{Request}
 use Rattle.grammar.specs.Rules.{Allowed}
 use Rattle.grammar.specs.Rows.{request_statement_rows, parameter_rows, request_context_rows}
 use Rattle.grammar.specs.Reading.{padded}
-use Rattle.grammar.proofs.RowCounts.{request-rows, parameter_rows, request-contexts}
+use Rattle.grammar.proofs.RowCounts.{request-rows, parameter_rows_lem, request-contexts}
 
 drop-replicate : (k m : ℕ) → drop {A = ℕ} k (replicate m 0) ≡ replicate (m - k) 0
 drop-replicate zero m = rw (sub-zero m)
@@ -27,7 +27,7 @@ module _ (d : List Relation) (r : Request) (a : Allowed d r) where
   statements-laid n h = over_zeros (request_statement_rows r) n (omega (arith, request-rows r, a.sized.statements))
 
   pub parameters-laid : (n : ℕ) → parameter_table_numbers ≤ n → sets (replicate n 0) 0 (parameter_rows r.messages) ≡ padded (parameter_rows r.messages) n
-  parameters-laid n h = over_zeros (parameter_rows r.messages) n (omega (arith, parameter_rows r.messages, a.sized.parameters))
+  parameters-laid n h = over_zeros (parameter_rows r.messages) n (omega (arith, parameter_rows_lem r.messages, a.sized.parameters))
 
   pub contexts-laid : (n : ℕ) → context_table_numbers ≤ n → sets (replicate n 0) 0 (request_context_rows d r) ≡ padded (request_context_rows d r) n
   contexts-laid n h = over_zeros (request_context_rows d r) n (omega (arith, request-contexts d r, a.sized.contexts))

@@ -1,11 +1,13 @@
 // What the reader and the evaluator share: refusals, and how far a reading has come.
+#![tactic(auto)]
+
 ghost use Rattle.std.specs.Prelude.{◌≡◌};
 ghost use Rattle.grammar.specs.Refusals.{number};
 
 use wire::numbers::{ContextNumber, LabelNumber, MessageNumber};
 
 // The refusals of document 01, named by what went wrong. The definition `number` has 01's number for each.
-#[derive(Drop)]
+#[derive(Clone, Copy)]
 pub enum Refusal {
     TablesTooShort,
     RequestTooLong,
@@ -64,7 +66,7 @@ pub fn number_of(refusal: Refusal) -> u32
 }
 
 // How far a reading has come: the place of the next byte, and the statements, contexts and conditions met, of which there are 512 at most.
-#[derive(Drop)]
+#[derive(Clone, Copy)]
 pub struct Cursor {
     pub at: usize,
     pub statements: u16,
@@ -73,14 +75,14 @@ pub struct Cursor {
 }
 
 // What a reference is read as: a value, or the target of the assignment at a place.
-#[derive(Drop)]
+#[derive(Clone, Copy)]
 pub enum Role {
     AsValue,
     AsTarget(usize),
 }
 
 // The kind of a value that was read, or that it has none.
-#[derive(Drop)]
+#[derive(Clone, Copy)]
 pub enum Fit {
     Number(i8),
     Text,
@@ -89,47 +91,47 @@ pub enum Fit {
 }
 
 // What a reader answers: the kind of what was read, if it is a value, and the cursor after it; or the refusal and its place.
-#[derive(Drop)]
+#[derive(Clone, Copy)]
 pub enum Step {
     Next(Fit, Cursor),
     Refused(Refusal, usize),
 }
 
 // A byte that was read.
-#[derive(Drop)]
+#[derive(Clone, Copy)]
 pub enum ByteStep {
     Is(u8, Cursor),
     Refused(Refusal, usize),
 }
 
 // The number of a context, a message or a label that was read.
-#[derive(Drop)]
+#[derive(Clone, Copy)]
 pub enum ContextStep {
     Is(ContextNumber, Cursor),
     Refused(Refusal, usize),
 }
 
-#[derive(Drop)]
+#[derive(Clone, Copy)]
 pub enum MessageStep {
     Is(MessageNumber, Cursor),
     Refused(Refusal, usize),
 }
 
-#[derive(Drop)]
+#[derive(Clone, Copy)]
 pub enum LabelStep {
     Is(LabelNumber, Cursor),
     Refused(Refusal, usize),
 }
 
 // A word that was read.
-#[derive(Drop)]
+#[derive(Clone, Copy)]
 pub enum WordStep {
     Is(u32, Cursor),
     Refused(Refusal, usize),
 }
 
 // The answer of reading: the rows of statements, parameters and contexts; or the refusal and its place.
-#[derive(Drop)]
+#[derive(Clone, Copy)]
 pub enum ReadAnswer {
     Accepted(usize, usize, usize),
     Refused(Refusal, usize),

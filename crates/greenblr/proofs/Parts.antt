@@ -69,3 +69,6 @@ text-inside s images rows runs slice v r source start end e q t =
       same = rw (e, t.is, q, t.same);
       inside = rw (t.is, q) (t.ordered, t.within);
     }
+
+-- the four ways of a text's places
+pub ruleset places = (text-past, text-empty, text-cut, text-whole)

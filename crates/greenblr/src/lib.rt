@@ -1,4 +1,6 @@
 // The product's functions for C (include/greenblr.h): numbers and slices only.
+#![tactic(auto)]
+
 ghost use Rattle.std.specs.Prelude.{◌≡◌, min};
 ghost use Rattle.meaning.specs.Evaluation.{evaluation};
 ghost use Rattle.greenblr.specs.Exports.{Exported, cause_given, truth_given, greatest_place, refusal_given, outcome_given, source_given, value_given, value_numbers, ValueExported};

@@ -4,6 +4,7 @@ ghost use Rattle.greenblr.specs.Inside.{TextIn, PutInside};
 use meaning::{Source, ValueEvaluation};
 
 // The bytes of a slice from a start up to an end, as a text; what would stand after the slice is left out.
+#[tactic(auto, using(crate::proofs::Parts::places))]
 fn text_in(s: &[u8], source: Source, start: usize, end: usize) -> ValueEvaluation
     ensures { TextIn s.now source start end result }
 {

@@ -1,4 +1,6 @@
 // What the programs read from standard input: whole entries, one after another.
+#![tactic(auto)]
+
 ghost use Rattle.std.specs.Prelude.{◌≡◌, ◌+◌, ◌^◌, ◌<◌, length, set};
 ghost use Rattle.std.proofs.lemmas.List.Edits.{sets};
 ghost use Rattle.input.specs.Input.{whole, input_answer, request_entry};
@@ -20,7 +22,7 @@ pub const NUMBER_ENTRY_BYTES: usize = 6;
 const ROW_ENTRY: u32 = 11;
 
 // The place of the request's entry after the dictionary's, or that the input is not these two entries.
-#[derive(Drop)]
+#[derive(Clone, Copy)]
 pub enum Input {
     Request(usize),
     Bad,
@@ -28,7 +30,7 @@ pub enum Input {
 
 // The places of the request's entry, of the number's entry, of the first record and of the first run, or that the input is not an
 // evaluation's.
-#[derive(Drop)]
+#[derive(Clone, Copy)]
 pub enum EvaluationInput {
     Entries(usize, usize, usize, usize),
     Bad,

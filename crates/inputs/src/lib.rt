@@ -1,4 +1,6 @@
 // What messages, records and literals hold: the value of each field, parameter and literal.
+#![tactic(auto)]
+
 mod fields;
 pub mod literals;
 pub mod noted;
@@ -11,7 +13,7 @@ mod stored;
 use values::Value;
 
 // What a reference gives: a value, a malformed text, or that there is no such thing.
-#[derive(Drop)]
+#[derive(Clone, Copy)]
 pub(crate) enum Fetched {
     Value(Value),
     Malformed,

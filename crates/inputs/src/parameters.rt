@@ -19,7 +19,7 @@ use values::Value;
 use wire::numbers::MessageNumber;
 
 // What a flag says: whether its value is zero, or that it is no number.
-#[derive(Drop)]
+#[derive(Clone, Copy)]
 enum Flag {
     Zero,
     Set,

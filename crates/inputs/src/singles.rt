@@ -31,7 +31,7 @@ use wire::numbers::ContextNumber;
 use wire::table::number_at;
 
 // A number and the place after it, or that no such number stands there. A struct of numbers and no enum: an enum would be copied through memory.
-#[derive(Drop)]
+#[derive(Clone, Copy)]
 pub struct Single {
     pub is: bool,
     pub value: i64,
@@ -40,7 +40,7 @@ pub struct Single {
 }
 
 // Two of them, and the place after the second.
-#[derive(Drop)]
+#[derive(Clone, Copy)]
 pub struct Two {
     pub is: bool,
     pub first: i64,

@@ -75,7 +75,7 @@ fn count_kind(bindings: &[u32], at: usize) -> KindStep
 }
 
 // The value at a place, with so many levels left.
-#[cycle(kind_at_kind_under)]
+#[cycle(walk)]
 pub(crate) fn kind_at(
     request: &[u8],
     dictionary: &[u8],
@@ -111,7 +111,7 @@ pub(crate) fn kind_at(
 }
 
 // What stands under a value's code at a place, with so many levels left for its operands.
-#[cycle(kind_at_kind_under)]
+#[cycle(walk)]
 fn kind_under(
     request: &[u8],
     dictionary: &[u8],

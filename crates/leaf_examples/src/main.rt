@@ -1,4 +1,6 @@
 // Document 01's examples of numbers and texts, and the ends of the ranges, as the leaves answer them: a line each.
+#![tactic(auto)]
+
 mod show;
 
 use decimal::Number;

@@ -5,7 +5,7 @@ ghost use Rattle.dictionary.specs.Naming.{named, numbered};
 ghost use Rattle.dictionary.specs.Internal.Walk.{relation_place, relation_at};
 ghost use Rattle.dictionary.specs.Internal.Answers.{answer_of, place_answer};
 ghost use Rattle.records.specs.Record.{offset_of, record_length};
-ghost use Rattle.records.specs.Record.{records as recordRun};
+ghost use Rattle.records.specs.Record.{records as record_run};
 ghost use Rattle.records.specs.Internal.Answers.{length_answer, presence_in, run_answer};
 ghost use Rattle.leaf_exports.specs.Exports.{is_proper, fault_of, place_or, is_due, wrong_of, presence_given, length_of};
 
@@ -64,7 +64,7 @@ pub extern "C" fn house_numbered(d: &[u8], id: u32) -> usize
 
 #[unsafe(no_mangle)]
 pub extern "C" fn house_records_due(d: &[u8], relations: &[u32], s: &[u8]) -> bool
-    ensures { result ≡ is_due (run_answer (recordRun (map (relation_at d.now) relations.now) s.now 0)) }
+    ensures { result ≡ is_due (run_answer (record_run (map (relation_at d.now) relations.now) s.now 0)) }
 {
     let a = records::proper::records(d, relations, s);
     match a {
@@ -76,7 +76,7 @@ pub extern "C" fn house_records_due(d: &[u8], relations: &[u32], s: &[u8]) -> bo
 // The place of the first fault; 0 of records as due.
 #[unsafe(no_mangle)]
 pub extern "C" fn house_records_wrong(d: &[u8], relations: &[u32], s: &[u8]) -> usize
-    ensures { result ≡ wrong_of (run_answer (recordRun (map (relation_at d.now) relations.now) s.now 0)) }
+    ensures { result ≡ wrong_of (run_answer (record_run (map (relation_at d.now) relations.now) s.now 0)) }
 {
     let a = records::proper::records(d, relations, s);
     match a {

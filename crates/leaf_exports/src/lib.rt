@@ -1,4 +1,6 @@
 // Test exports of the leaves, for the comparison with the second program. They are no part of the product's interface.
+#![tactic(auto)]
+
 ghost use Rattle.std.specs.Prelude.{◌≡◌, length};
 ghost use Rattle.wire.specs.Words.{word_at, long_at, signed};
 ghost use Rattle.leaf_exports.specs.Exports.{operator_of, text_type_of, search_of, operation_version, operation, ComputedInto, sign_of, is_malformed, start_of, end_of};

@@ -6,7 +6,7 @@ use native.Mathlib.Omega.{arith}
 use Rattle.grammar.specs.declared.ReadAnswer.{ReadAnswer}
 use Rattle.grammar.specs.declared.ReadAnswer.TheVariants.{Accepted}
 use Rattle.grammar.specs.Answered.{Answered}
-use Rattle.grammar.proofs.RowCounts.{request-rows, parameter_rows, request-contexts}
+use Rattle.grammar.proofs.RowCounts.{request-rows, parameter_rows_lem, request-contexts}
 use Rattle.grammar.proofs.Demands.{read-sound}
 
 pub record Few (n m k : ℕ) : Type 0 where
@@ -22,6 +22,6 @@ accepted-few {s} {d} {st} {pa} {ct} {st'} {pa'} {ct'} h n m k e =
     let z = w.acceptable.allowed.sized in
     record {
       statements = omega (arith, w.filled.statement_count, request-rows w.tree, z.statements);
-      parameters = omega (arith, w.filled.parameter_count, parameter_rows w.tree.messages, z.parameters);
+      parameters = omega (arith, w.filled.parameter_count, parameter_rows_lem w.tree.messages, z.parameters);
       contexts = omega (arith, w.filled.context-count, request-contexts w.relations w.tree, z.contexts);
     }

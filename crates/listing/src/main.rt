@@ -1,5 +1,7 @@
 // The listing program: reads an entry of kind 4 (the dictionary) and one of kind 5 (the request) from standard input, and prints the rows of
 // the request, its refusal, or that the input is not these two entries.
+#![tactic(auto)]
+
 mod show;
 mod table;
 

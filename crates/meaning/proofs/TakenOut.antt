@@ -109,6 +109,7 @@ lost_as p e l m l' m' h k w = subst (λ z. Lost p e z m) (sym h) (subst (λ z. L
 
 lost : (p : ℕ) (r : Relation) (e : List ℕ) (due : List DueRun) (runs runs' : List ℕ) → TakenOut p r e due runs runs' →
     Lost p e (lent_runs due runs) (lent_runs due runs')
+lost p r e [] runs _ x' = elim x' [ ]
 lost p r e (x ∷ xs) _ _ (here before after f f' rest place k w w') =
     let one : LentRun = record { place = x.place; records = before ++ (e ∷ after) } in
     let two : LentRun = record { place = x.place; records = before ++ after } in

@@ -9,7 +9,7 @@ use lib.Seq.{sets}
 use Rattle.wire.specs.Lists.{sum_of}
 use Rattle.grammar.specs.Tree as Tree
 use Rattle.grammar.specs.Sizes.{parameter_count}
-use Rattle.grammar.proofs.RowCounts.{parameter_rows}
+use Rattle.grammar.proofs.RowCounts.{parameter_rows_lem}
 use Rattle.grammar.specs.Rows.{descriptor_rows, parameter_rows}
 
 pub sets-append : (xs ys l : List ℕ) (i : ℕ) → sets l i (xs ++ ys) ≡ sets (sets l i xs) (i + length xs) ys
@@ -38,5 +38,5 @@ pub table_more : (ms : List Tree.Message) (m : Tree.Message) (l : List ℕ) →
     sets (sets l 0 (parameter_rows ms)) (parameter_count ms * 6) (descriptor_rows m.number 0 0 m.descriptors) ≡
     sets l 0 (parameter_rows (ms ++ (m ∷ [])))
 table_more ms m l =
-    let e : parameter_count ms * 6 ≡ 0 + length (parameter_rows ms) = omega (arith, parameter_rows ms) in
+    let e : parameter_count ms * 6 ≡ 0 + length (parameter_rows ms) = omega (arith, parameter_rows_lem ms) in
     rw (e, rows_more ms m) (sym (sets-append (parameter_rows ms) (descriptor_rows m.number 0 0 m.descriptors) l 0))

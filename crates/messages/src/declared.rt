@@ -35,7 +35,7 @@ const VERSION: usize = 306;
 pub const AROUND: usize = 307;
 
 // The index of the message of a number, or that none is declared.
-#[derive(Drop)]
+#[derive(Clone, Copy)]
 pub enum FoundMessage {
     At(usize),
     Nothing,

@@ -12,14 +12,14 @@ use wire::codes::{DataType, Version};
 use wire::limits::{DATE_SIZE, MAX_MESSAGE_BYTES};
 
 // The fields of a descriptor: its scale byte and the bytes that it holds, and the cursor after it.
-#[derive(Drop)]
+#[derive(Clone, Copy)]
 pub(crate) enum FormatStep {
     Is(u8, usize, Cursor),
     Refused(Refusal, usize),
 }
 
 // A descriptor: its type's code, its scale byte and the bytes that it holds, and the cursor after it.
-#[derive(Drop)]
+#[derive(Clone, Copy)]
 pub(crate) enum DescriptorStep {
     Is(u8, u8, usize, Cursor),
     Refused(Refusal, usize),

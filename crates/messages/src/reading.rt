@@ -26,7 +26,7 @@ use wire::rows::{
 use wire::table::{clear, put};
 
 // The next parameter: its message, its index there, its row of the table, and the bytes of the message before it.
-#[derive(Drop)]
+#[derive(Clone, Copy)]
 pub(crate) struct Parameter {
     pub message: MessageNumber,
     pub index: usize,

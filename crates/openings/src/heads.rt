@@ -12,21 +12,21 @@ use wire::codes::StatementCode;
 use wire::limits::MAX_STATEMENTS;
 
 // A statement's code, its place, and the cursor after it, where the statement is counted.
-#[derive(Drop)]
+#[derive(Clone, Copy)]
 pub struct Coded {
     pub code: StatementCode,
     pub at: usize,
     pub after: Cursor,
 }
 
-#[derive(Drop)]
+#[derive(Clone, Copy)]
 pub enum StatementHead {
     Is(Coded),
     Refused(Refusal, usize),
 }
 
 // An end, with the cursor after it, or another code, which stays.
-#[derive(Drop)]
+#[derive(Clone, Copy)]
 pub enum Ending {
     Done(Cursor),
     Goes,

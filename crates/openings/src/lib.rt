@@ -1,4 +1,6 @@
 // The codes of statements, what opens a scope, and what holds no other statement.
+#![tactic(auto)]
+
 pub mod heads;
 pub mod opening;
 pub mod parts;

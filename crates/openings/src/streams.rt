@@ -19,21 +19,21 @@ use wire::codes::StreamCode;
 use wire::limits::MAX_CONTEXTS;
 
 // The code of a stream that was read.
-#[derive(Drop)]
+#[derive(Clone, Copy)]
 pub(crate) enum CodeStep {
     Is(StreamCode, Cursor),
     Refused(Refusal, usize),
 }
 
 // The place of the entry of a relation, in a dictionary of at most 65,535 bytes.
-#[derive(Drop)]
+#[derive(Clone, Copy)]
 pub(crate) enum RelationStep {
     Is(u16, Cursor),
     Refused(Refusal, usize),
 }
 
 // A context that was declared.
-#[derive(Drop)]
+#[derive(Clone, Copy)]
 pub(crate) enum StreamStep {
     Is(Context, Cursor),
     Refused(Refusal, usize),

@@ -35,7 +35,7 @@ use Rattle.grammar.specs.Statements.{many_receives, receive_under, read_statemen
 use Rattle.grammar.specs.Internal.Steps.{message_step}
 use Rattle.grammar.specs.Demands.{Octets}
 use Rattle.grammar.proofs.StepLaws.{message-read, message-refused}
-use Rattle.grammar.proofs.RowCounts.{statement-rows, context_rows}
+use Rattle.grammar.proofs.RowCounts.{statement-rows, context_rows_lem}
 use Rattle.grammar.proofs.FewConditions.{conditions-count}
 use Rattle.grammar.proofs.Went.{Went, inside, taken-read, onward, undo, needed, tested-read, byte-went, code-went, counted-went}
 use Rattle.grammar.proofs.SoundStatements.{statement-sound}
@@ -292,7 +292,7 @@ module _ (s : List ℕ) (e : Environment) (sc : Scope) (level : Level) (ms : Lis
                 statement-rows v.part (c.at + 2) (c.statements + 1)
                     (c.statements + 1) c.conditions,
               );
-              contexts = omega (arith, w.declared, o.declared, context_rows e.relations sc v.part (c.at + 2));
+              contexts = omega (arith, w.declared, o.declared, context_rows_lem e.relations sc v.part (c.at + 2));
               conditions = omega (
                 arith,
                 w.noted,

@@ -35,7 +35,7 @@ use Rattle.grammar.specs.Statements.{many, assignment_under, erase_under, leave_
 use Rattle.grammar.specs.Internal.Steps.{step_of, no_kind}
 use Rattle.grammar.specs.Demands.{Octets}
 use Rattle.grammar.proofs.Went.{inside, undo, same, needed, peek-read}
-use Rattle.grammar.proofs.RowCounts.{statement-rows, context_rows}
+use Rattle.grammar.proofs.RowCounts.{statement-rows, context_rows_lem}
 use Rattle.grammar.proofs.FewConditions.{conditions-count}
 use Rattle.grammar.proofs.SoundStatements.{statement-under-sound, inner-sound, statement-sound}
 use Rattle.tables.specs.Tables.{Tables, tables, contexts_alone, nothing, laid}
@@ -69,7 +69,7 @@ module _ (s : List ℕ) (e : Environment) (sc : Scope) (level : Level) (c : Curs
       let w = (statement-sound s octets e level.left sc c t q i).went in
       record {
         statements = omega (arith, w.counted, statement-rows t c.at c.statements level.parent c.conditions);
-        contexts = omega (arith, w.declared, context_rows e.relations sc t c.at);
+        contexts = omega (arith, w.declared, context_rows_lem e.relations sc t c.at);
         conditions = omega (arith, w.noted, length-map (conditions e.relations sc t c.at) (λ x. x.place));
       })
 

@@ -7,7 +7,7 @@ use grammar::Refusal;
 use wire::limits::{CONTEXT_TABLE, MAX_REQUEST_BYTES, PARAMETER_TABLE, STATEMENT_TABLE};
 
 // Reading goes on, or stops with a refusal at a place.
-#[derive(Drop)]
+#[derive(Clone, Copy)]
 pub(crate) enum Before {
     Go,
     Stop(Refusal, usize),

@@ -1,5 +1,7 @@
 // The reader of requests: the answer to a request beside a dictionary, and its rows in three lent tables. Other crates have `read` and
 // `read_noting`, which ask for nothing; the modules are private, and their functions may ask for something of each other.
+#![tactic(auto)]
+
 mod before;
 mod request;
 mod statements;

@@ -21,7 +21,7 @@ use wire::codes::Version;
 use wire::limits::{MAX_DEPTH, MAX_STATEMENTS};
 
 // How reading went, and the rows of parameters.
-#[derive(Drop)]
+#[derive(Clone, Copy)]
 pub(crate) struct Whole {
     pub step: Step,
     pub parameters: usize,

@@ -27,7 +27,7 @@ use wire::codes::StatementCode;
 use wire::limits::MAX_STATEMENTS;
 
 // A statement's level: how many levels are left for it, and the row of the statement around it plus one.
-#[derive(Drop)]
+#[derive(Clone, Copy)]
 pub(crate) struct Level {
     pub left: usize,
     pub parent: usize,
@@ -45,7 +45,7 @@ fn below(c: Cursor, level: Level) -> Level
 }
 
 // Statements up to an end, so many at most.
-#[cycle(read_branches_read_coded_read_headed_read_if_read_opening_read_select_read_statement_read_statements)]
+#[cycle(statements)]
 pub(crate) fn read_statements(
     request: &[u8],
     dictionary: &[u8],
@@ -90,7 +90,7 @@ pub(crate) fn read_statements(
 }
 
 // A statement: its code, a level for it, what stands under the code, and its row.
-#[cycle(read_branches_read_coded_read_headed_read_if_read_opening_read_select_read_statement_read_statements)]
+#[cycle(statements)]
 fn read_statement(
     request: &[u8],
     dictionary: &[u8],
@@ -122,7 +122,7 @@ fn read_statement(
 }
 
 // A statement after its code, which is counted.
-#[cycle(read_branches_read_coded_read_headed_read_if_read_opening_read_select_read_statement_read_statements)]
+#[cycle(statements)]
 fn read_coded(
     request: &[u8],
     dictionary: &[u8],
@@ -159,7 +159,7 @@ fn read_coded(
 }
 
 // An if, a select, or a statement with a heading, whose statements have a level.
-#[cycle(read_branches_read_coded_read_headed_read_if_read_opening_read_select_read_statement_read_statements)]
+#[cycle(statements)]
 fn read_branches(
     request: &[u8],
     dictionary: &[u8],
@@ -193,7 +193,7 @@ fn read_branches(
 }
 
 // A statement with a heading and one statement under it, which has a level.
-#[cycle(read_branches_read_coded_read_headed_read_if_read_opening_read_select_read_statement_read_statements)]
+#[cycle(statements)]
 fn read_headed(
     request: &[u8],
     dictionary: &[u8],
@@ -256,7 +256,7 @@ fn read_assignment(
 }
 
 // What stands before the statement of one that opens a scope: read up to where the scope begins, and up to the statement.
-#[derive(Drop)]
+#[derive(Clone, Copy)]
 pub(crate) struct Headed {
     pub opened: Step,
     pub ready: Step,
@@ -316,7 +316,7 @@ fn read_heading(
 }
 
 // A statement that opens a scope: a for, a modify, a store, a send or a label. The rows of its contexts get their scope at its end.
-#[cycle(read_branches_read_coded_read_headed_read_if_read_opening_read_select_read_statement_read_statements)]
+#[cycle(statements)]
 fn read_opening(
     request: &[u8],
     dictionary: &[u8],
@@ -363,7 +363,7 @@ fn read_opening(
 }
 
 // An if: its condition, a statement, and an end or a second statement.
-#[cycle(read_branches_read_coded_read_headed_read_if_read_opening_read_select_read_statement_read_statements)]
+#[cycle(statements)]
 fn read_if(
     request: &[u8],
     dictionary: &[u8],
@@ -408,7 +408,7 @@ fn read_if(
 }
 
 // The receives of a select up to its end, so many at most: each of another message.
-#[cycle(read_branches_read_coded_read_headed_read_if_read_opening_read_select_read_statement_read_statements)]
+#[cycle(statements)]
 fn read_select(
     request: &[u8],
     dictionary: &[u8],

@@ -16,7 +16,7 @@ use wire::entries::{FIELD_SIZE, RECORD_BITS};
 use wire::limits::{DATE_SIZE, MAX_RECORD_BYTES, READING_SIZE};
 
 // A length, or that it is above a limit.
-#[derive(Drop)]
+#[derive(Clone, Copy)]
 pub enum Length {
     Is(usize),
     Long,
@@ -113,7 +113,7 @@ pub fn offset_within(d: &[u8], relation: usize, i: usize, limit: usize) -> Lengt
 
 // Where a field's entry stands in the dictionary, and its bytes in a record's entry; or that there is no such field, or that it would stand
 // past the end of the longest record.
-#[derive(Drop)]
+#[derive(Clone, Copy)]
 pub struct Located {
     pub is: bool,
     pub entry: usize,

@@ -10,7 +10,7 @@ use wire::codes::LiteralType;
 
 // A plain code takes so many bytes, and so many values, booleans and clauses are due in its place; one that opens an rse has so many
 // numbers due after that.
-#[derive(Drop)]
+#[derive(Clone, Copy)]
 pub(crate) enum Form {
     Plain(u8, u8),
     Field,

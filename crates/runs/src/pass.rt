@@ -8,7 +8,7 @@ use crate::stream::after_stream;
 use wire::bytes::byte_on;
 
 // A place, and how many values, booleans and clauses are due there.
-#[derive(Drop)]
+#[derive(Clone, Copy)]
 pub(crate) struct Pass {
     pub(crate) place: usize,
     pub(crate) due: usize,

@@ -17,7 +17,7 @@ use wire::table::{number_at, put};
 
 // Where a scan is: its place; how many values, booleans and clauses are due there; how many rows there are; and the row whose
 // rse the place is in, the most that there can be where it is in none.
-#[derive(Drop)]
+#[derive(Clone, Copy)]
 pub(crate) struct Scan {
     pub(crate) place: usize,
     pub(crate) due: usize,

@@ -15,7 +15,7 @@ use wire::bytes::{byte_at, byte_on, word_on};
 use wire::codes::StreamCode;
 
 // Where the entry of its relation stands in the dictionary, or 0; the number of its context; and the place after it.
-#[derive(Drop)]
+#[derive(Clone, Copy)]
 pub(crate) struct Opened {
     pub(crate) relation: u32,
     pub(crate) number: u8,

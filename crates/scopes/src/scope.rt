@@ -38,7 +38,7 @@ pub const SCOPE: usize = 165;
 
 // A context: the place of its relation's entry in the dictionary, its number, and the code of the statement that opened it: for, store or
 // modify.
-#[derive(Drop)]
+#[derive(Clone, Copy)]
 pub struct Context {
     pub relation: u16,
     pub number: ContextNumber,
@@ -46,7 +46,7 @@ pub struct Context {
 }
 
 // The index of the context of a number, or that none is in scope.
-#[derive(Drop)]
+#[derive(Clone, Copy)]
 pub enum Found {
     At(usize),
     Nothing,

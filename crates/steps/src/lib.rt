@@ -1,4 +1,6 @@
 // The fields of a request: a byte, a word, a counted name, and those with a test of their own. Any place has an answer.
+#![tactic(auto)]
+
 ghost use Rattle.std.specs.Prelude.{◌≡◌, ◌≤◌, ◌+◌, length};
 ghost use Rattle.wire.specs.Words.{byte_at};
 ghost use Rattle.grammar.specs.Reader.{on, byte, word, bytes, peek, name, code};

@@ -27,19 +27,19 @@ use Rattle.store.specs.Internal.Changes.{one_by}
 
 -- x is the bytes of s from p on, as far as x goes
 pub record Part (s : List ℕ) (p : ℕ) (x : List ℕ) : Type 0 where
-  pub same_bytes_lem : (j : ℕ) → j < length x → byte_at x j ≡ byte_at s (p + j)
+  pub same_bytes : (j : ℕ) → j < length x → byte_at x j ≡ byte_at s (p + j)
   pub inside : p + length x ≤ length s
 
 pub part_of : (s : List ℕ) (p n : ℕ) → p + n ≤ length s → Part s p (take n (drop p s))
 part_of s p n h =
     let l : length (take n (drop p s)) ≡ n = length-take-le n (drop p s) (omega (arith, length-drop p s)) in
     record {
-      same_bytes_lem = λ j k. get_or-take n (drop p s) j 0 (omega (arith, l)) ∙ get_or-drop p s j 0;
+      same_bytes = λ j k. get_or-take n (drop p s) j 0 (omega (arith, l)) ∙ get_or-drop p s j 0;
       inside = omega (arith, l);
     }
 
 pub whole_part_lem : (x : List ℕ) → Part x 0 x
-whole_part_lem x = record { same_bytes_lem = λ j k. let e : 0 + j ≡ j = omega arith in rw e; inside = omega arith }
+whole_part_lem x = record { same_bytes = λ j k. let e : 0 + j ≡ j = omega arith in rw e; inside = omega arith }
 
 module _ {s : List ℕ} {p : ℕ} {x : List ℕ} (k : Part s p x) where
   pub same_word : (j : ℕ) → j + 1 < length x → word_at x j ≡ word_at s (p + j)

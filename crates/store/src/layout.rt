@@ -21,7 +21,7 @@ use wire::limits::{MAX_RECORD_BYTES, MISSING_READING};
 use wire::table::{number_at, put};
 
 // The relation's id, the length of a record, the number of fields, and the bytes of their missing bits.
-#[derive(Drop)]
+#[derive(Clone, Copy)]
 pub(crate) struct Layout {
     pub id: u32,
     pub size: usize,
@@ -30,7 +30,7 @@ pub(crate) struct Layout {
 }
 
 // The bits set in all missing bytes of some records, or that one of them is wrong.
-#[derive(Drop)]
+#[derive(Clone, Copy)]
 pub(crate) enum Tally {
     Ones(usize),
     Wrong,

@@ -1,4 +1,6 @@
 // A store: the records of one relation in a lent buffer, beside a house dictionary. Buffers, dictionaries and records are of any bytes.
+#![tactic(auto)]
+
 ghost use Rattle.std.specs.Prelude.{◌≡◌, ◌≤◌};
 ghost use Rattle.store.specs.Calls.{number, make as Make, change, add as Add, erase as Erase, replace as Replace};
 ghost use Rattle.dictionary.specs.Internal.Walk.{relation_at};
@@ -32,7 +34,7 @@ pub const STORE_MISSING: usize = 8;
 pub const STORE_HEADER: usize = 10;
 
 // Why a call is refused.
-#[derive(Drop)]
+#[derive(Clone, Copy)]
 pub enum Refusal {
     BadDictionary,
     UnknownRelation,
@@ -57,21 +59,21 @@ pub fn number_of(r: Refusal) -> u32
 }
 
 // A call is done, or refused at a place.
-#[derive(Drop)]
+#[derive(Clone, Copy)]
 pub enum Answer {
     Done,
     Refused(Refusal, usize),
 }
 
 // What a store holds: its relation's id, its record count and its missing count.
-#[derive(Drop)]
+#[derive(Clone, Copy)]
 pub enum Reading {
     Holds(u32, usize, usize),
     Refused(Refusal, usize),
 }
 
 // Where a record stands in the buffer, and its length.
-#[derive(Drop)]
+#[derive(Clone, Copy)]
 pub enum RecordPlace {
     At(usize, usize),
     Refused(Refusal, usize),

@@ -15,14 +15,14 @@ use wire::bytes::word_at;
 use wire::entries::{ENTRY_ID, ENTRY_KIND};
 
 // An open store: the layout of its records, and its counts.
-#[derive(Drop)]
+#[derive(Clone, Copy)]
 pub(crate) struct Store {
     pub layout: Layout,
     pub count: usize,
     pub missing: usize,
 }
 
-#[derive(Drop)]
+#[derive(Clone, Copy)]
 pub(crate) enum Opened {
     Is(Store),
     Refused(Refusal, usize),

@@ -1,4 +1,6 @@
 // The tables that a caller lends: rows of statements and contexts, the scopes of contexts, and the places of conditions.
+#![tactic(auto)]
+
 pub mod conditions;
 pub mod contexts;
 pub mod statements;

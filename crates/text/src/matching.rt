@@ -12,7 +12,7 @@ const ANY_RUN: u8 = 42;
 const ONE_BYTE: u8 = 63;
 
 // Never: the pattern matches no end of the text, so a run before it needs no more tries.
-#[derive(Drop)]
+#[derive(Clone, Copy)]
 enum Matched {
     Yes,
     No,

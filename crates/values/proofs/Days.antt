@@ -21,4 +21,4 @@ module _ (a b : Date) (f : mag a.day < 2 ^ 63) (g : mag b.day < 2 ^ 63) where
   unfolding date_order
   by-day e t =
       ap (λ o. where_equal o (order_ℕ a.fraction b.fraction))
-      (sym t ∙ e ∙ ap₂ order_ℤ (to_z-of_z (record { sfits = f })) (to_z-of_z (record { sfits = g })))
+      (sym t ∙ e ∙ ap₂ order_ℤ (to_z-of_z {w = w64} (record { sfits = f })) (to_z-of_z {w = w64} (record { sfits = g })))

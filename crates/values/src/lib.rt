@@ -1,4 +1,6 @@
 // Values and truth values as the evaluator has them, and the operators and tests on them.
+#![tactic(auto)]
+
 use decimal::Number;
 use meaning::{Fault, Kind, Source, Truth};
 use records::missing::Cause;
@@ -20,7 +22,7 @@ pub mod statistics;
 mod texts;
 
 // The bytes that hold a text: where they start and end in their slice, and the type that says which part of them is the text.
-#[derive(Drop)]
+#[derive(Clone, Copy)]
 pub struct Held {
     pub source: Source,
     pub of: TextType,
@@ -29,21 +31,21 @@ pub struct Held {
 }
 
 // Where a text stands: the slice, and where it starts and ends there.
-#[derive(Drop)]
+#[derive(Clone, Copy)]
 pub struct Span {
     pub source: Source,
     pub start: usize,
     pub end: usize,
 }
 
-#[derive(Drop)]
+#[derive(Clone, Copy)]
 pub struct Date {
     pub day: i64,
     pub fraction: u32,
 }
 
 // A value: there, or missing, with its kind all the same and the cause.
-#[derive(Drop)]
+#[derive(Clone, Copy)]
 pub enum Value {
     Number(Number),
     Text(Held),
@@ -52,13 +54,13 @@ pub enum Value {
 }
 
 // The place after what was worked out.
-#[derive(Drop)]
+#[derive(Clone, Copy)]
 pub struct Position {
     pub at: usize,
 }
 
 // What a value comes out as, and the place after it; or a refusal and its place; or that something it names is not there or does not fit.
-#[derive(Drop)]
+#[derive(Clone, Copy)]
 pub enum Valued {
     Is(Value, Position),
     Refused(Fault, usize),
@@ -66,7 +68,7 @@ pub enum Valued {
 }
 
 // What a boolean comes out as, likewise.
-#[derive(Drop)]
+#[derive(Clone, Copy)]
 pub enum Tested {
     Is(Truth, Position),
     Refused(Fault, usize),

@@ -7,7 +7,7 @@ use crate::{Position, Value, Valued};
 use meaning::Fault;
 
 // Two values and the place after the second; or the first refusal or stray met.
-#[derive(Drop)]
+#[derive(Clone, Copy)]
 pub(crate) enum Operands {
     Are(Value, Value, Position),
     Refused(Fault, usize),
@@ -30,7 +30,7 @@ pub(crate) fn in_order(a: Valued, b: Valued) -> Operands
 
 // A number by its value and scale, and the place after it; or that it is something else. A struct of numbers and no enum: an enum would be
 // copied through memory.
-#[derive(Drop)]
+#[derive(Clone, Copy)]
 pub(crate) struct Plain {
     pub is: bool,
     pub value: i64,

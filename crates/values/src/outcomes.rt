@@ -5,7 +5,7 @@ use crate::{Position, Tested};
 use meaning::Truth;
 
 // Stray where the kinds of the values don't fit.
-#[derive(Drop)]
+#[derive(Clone, Copy)]
 pub(crate) enum Outcome {
     Is(Truth),
     Stray,

@@ -8,7 +8,7 @@ use decimal::Number;
 use meaning::Kind;
 use records::missing::Cause;
 
-#[derive(Drop)]
+#[derive(Clone, Copy)]
 pub(crate) enum Pair {
     Numbers(Number, Number),
     Texts(Held, Held),

@@ -75,6 +75,8 @@ pub kept-alike : {A B : Type 0} (P : A → B → Type 0) (f : A → Result Truth
     (xs : List A) (ys : List B) → Pairs P xs ys → kept_of f xs ≡ kept_of g ys
 unfolding kept_of
 kept-alike P f g h [] [] no_pair = refl
+kept-alike P f g h [] (y ∷ ys) e = elim e [ ]
+kept-alike P f g h (x ∷ xs) [] e = elim e [ ]
 kept-alike P f g h (x ∷ xs) (y ∷ ys) (pairs e es) =
     ap₂ (λ t m. t >>= (λ a. m >>= (λ n. is (kept a n)))) (h x y e) (kept-alike P f g h xs ys es)
 
@@ -84,6 +86,8 @@ pub gathered-alike : {A B : Type 0} (P : A → B → Type 0) (k : Statistic) (p 
     gathered_of k p f u z xs ≡ gathered_of k p g v z ys
 unfolding gathered_of
 gathered-alike P k p f g u v h i z [] [] no_pair = refl
+gathered-alike P k p f g u v h i z [] (y ∷ ys) e = elim e [ ]
+gathered-alike P k p f g u v h i z (x ∷ xs) [] e = elim e [ ]
 gathered-alike P k p f g u v h i z (x ∷ xs) (y ∷ ys) (pairs e es) =
     ap₂ (λ t m. t >>= m) (h x y e) (fun_ext (λ t. ap₂ (λ a m. a >>= m) (one t) (fun_ext (λ z. gathered-alike P k p f g u v h i z xs ys es))))
   where

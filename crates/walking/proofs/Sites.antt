@@ -101,34 +101,34 @@ module _ (d : List Relation) where
   mutual
     unfolding context_rows declared rows_of
 
-    pub context_rows : (t : Statement) (sc : Scope) (p : ℕ) → context_rows d sc t p ≡ rows_of (declared d sc t p)
-    context_rows (assignment v t) sc p = value-rows v sc (p + 1)
-    context_rows (begin ss) sc p = contexts-rows ss sc (p + 1)
-    context_rows (erase c) sc p = refl
-    context_rows (for r s) sc p =
+    pub context_rows_lem : (t : Statement) (sc : Scope) (p : ℕ) → context_rows d sc t p ≡ rows_of (declared d sc t p)
+    context_rows_lem (assignment v t) sc p = value-rows v sc (p + 1)
+    context_rows_lem (begin ss) sc p = contexts-rows ss sc (p + 1)
+    context_rows_lem (erase c) sc p = refl
+    context_rows_lem (for r s) sc p =
         both-rows _ _ (rse_declared d blr.for sc r (p + 1) (p + size (for r s))) _ (rse-rows blr.for r sc (p + 1) (p + size (for r s)))
-        (context_rows s (under_rse d sc r) (p + 1 + length (rse_bytes r)))
-    context_rows (headed h s) sc p =
+        (context_rows_lem s (under_rse d sc r) (p + 1 + length (rse_bytes r)))
+    context_rows_lem (headed h s) sc p =
         both-rows _ _ (heading_declared d sc h p (p + size (headed h s))) _ (heading-rows sc h p (p + size (headed h s)))
-        (context_rows s (under_heading d sc h) (p + length (heading_bytes h)))
-    context_rows (leave n) sc p = refl
-    context_rows (if b s) sc p =
-        both-rows _ _ (boolean_declared d sc b (p + 1)) _ (boolean-rows b sc (p + 1)) (context_rows s sc (p + 1 + length (boolean_bytes b)))
-    context_rows (if_else b s t) sc p =
+        (context_rows_lem s (under_heading d sc h) (p + length (heading_bytes h)))
+    context_rows_lem (leave n) sc p = refl
+    context_rows_lem (if b s) sc p =
+        both-rows _ _ (boolean_declared d sc b (p + 1)) _ (boolean-rows b sc (p + 1)) (context_rows_lem s sc (p + 1 + length (boolean_bytes b)))
+    context_rows_lem (if_else b s t) sc p =
         let q = p + 1 + length (boolean_bytes b) in
         both-rows _ _ (boolean_declared d sc b (p + 1) ++ declared d sc s q) _
-        (both-rows _ _ (boolean_declared d sc b (p + 1)) _ (boolean-rows b sc (p + 1)) (context_rows s sc q)) (context_rows t sc (q + size s))
-    context_rows (select rs) sc p = receives-rows rs sc (p + 1)
+        (both-rows _ _ (boolean_declared d sc b (p + 1)) _ (boolean-rows b sc (p + 1)) (context_rows_lem s sc q)) (context_rows_lem t sc (q + size s))
+    context_rows_lem (select rs) sc p = receives-rows rs sc (p + 1)
 
     pub contexts-rows : (ts : Statements) (sc : Scope) (p : ℕ) → contexts_rows d sc ts p ≡ rows_of (declared_all d sc ts p)
     contexts-rows nothing sc p = refl
     contexts-rows (s then ss) sc p =
-        both-rows _ _ (declared d sc s p) _ (context_rows s sc p) (contexts-rows ss sc (p + size s))
+        both-rows _ _ (declared d sc s p) _ (context_rows_lem s sc p) (contexts-rows ss sc (p + size s))
 
     pub receives-rows : (rs : Receives) (sc : Scope) (p : ℕ) → receives_context_rows d sc rs p ≡ rows_of (receives_declared d sc rs p)
-    receives-rows (last m s) sc p = context_rows s sc (p + 2)
+    receives-rows (last m s) sc p = context_rows_lem s sc (p + 2)
     receives-rows (more m s rs) sc p =
-        both-rows _ _ (declared d sc s (p + 2)) _ (context_rows s sc (p + 2)) (receives-rows rs sc (p + 2 + size s))
+        both-rows _ _ (declared d sc s (p + 2)) _ (context_rows_lem s sc (p + 2)) (receives-rows rs sc (p + 2 + size s))
 
 -- ---- which declarations hold a place
 

@@ -1,12 +1,12 @@
 // The version of a request.
-#[derive(Drop)]
+#[derive(Clone, Copy)]
 pub enum Version {
     Version4,
     Version5,
 }
 
 // What a code says at the kind of place where it is due.
-#[derive(Drop)]
+#[derive(Clone, Copy)]
 pub enum StatementCode {
     Assignment,
     Begin,
@@ -25,7 +25,7 @@ pub enum StatementCode {
 }
 
 // What a value or a target names.
-#[derive(Drop)]
+#[derive(Clone, Copy)]
 pub enum ReferenceCode {
     Field,
     Fid,
@@ -33,7 +33,7 @@ pub enum ReferenceCode {
     Parameter2,
 }
 
-#[derive(Drop)]
+#[derive(Clone, Copy)]
 pub enum Operator {
     Add,
     Subtract,
@@ -42,7 +42,7 @@ pub enum Operator {
 }
 
 // What is worked out of a number over the records of an rse.
-#[derive(Drop)]
+#[derive(Clone, Copy)]
 pub enum Statistic {
     Average,
     Maximum,
@@ -50,7 +50,7 @@ pub enum Statistic {
     Total,
 }
 
-#[derive(Drop)]
+#[derive(Clone, Copy)]
 pub enum ValueCode {
     Literal,
     Reference(ReferenceCode),
@@ -60,7 +60,7 @@ pub enum ValueCode {
     Count,
 }
 
-#[derive(Drop)]
+#[derive(Clone, Copy)]
 pub enum Comparison {
     Eql,
     Neq,
@@ -70,27 +70,27 @@ pub enum Comparison {
     Leq,
 }
 
-#[derive(Drop)]
+#[derive(Clone, Copy)]
 pub enum TextSearch {
     Containing,
     Matching,
     Starting,
 }
 
-#[derive(Drop)]
+#[derive(Clone, Copy)]
 pub enum Connective {
     Or,
     And,
 }
 
 // What is asked of the records of an rse.
-#[derive(Drop)]
+#[derive(Clone, Copy)]
 pub enum Quantifier {
     Any,
     Unique,
 }
 
-#[derive(Drop)]
+#[derive(Clone, Copy)]
 pub enum BooleanCode {
     Compare(Comparison),
     Search(TextSearch),
@@ -101,34 +101,34 @@ pub enum BooleanCode {
     Quantify(Quantifier),
 }
 
-#[derive(Drop)]
+#[derive(Clone, Copy)]
 pub enum StreamCode {
     Relation,
     Rid,
 }
 
-#[derive(Drop)]
+#[derive(Clone, Copy)]
 pub enum ClauseCode {
     Boolean,
     Sort,
     End,
 }
 
-#[derive(Drop)]
+#[derive(Clone, Copy)]
 pub enum Direction {
     Ascending,
     Descending,
 }
 
 // The three widths of a number in a message, a literal or a field.
-#[derive(Drop)]
+#[derive(Clone, Copy)]
 pub enum Width {
     Short,
     Long,
     Int64,
 }
 
-#[derive(Drop)]
+#[derive(Clone, Copy)]
 pub enum TextType {
     Text,
     Varying,
@@ -136,21 +136,21 @@ pub enum TextType {
 }
 
 // The types of a descriptor.
-#[derive(Drop)]
+#[derive(Clone, Copy)]
 pub enum DataType {
     Number(Width),
     Date,
     Chars(TextType),
 }
 
-#[derive(Drop)]
+#[derive(Clone, Copy)]
 pub enum LiteralType {
     NumberLiteral(Width),
     TextLiteral,
 }
 
 // The types of a field of the dictionary: those of a descriptor, and the house reading.
-#[derive(Drop)]
+#[derive(Clone, Copy)]
 pub enum FieldType {
     Plain(DataType),
     Reading,

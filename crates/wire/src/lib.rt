@@ -1,4 +1,6 @@
 // What requests, dictionaries and records are written in: bytes, words, codes by their kind of place, entries; sizes, and the rows of tables.
+#![tactic(auto)]
+
 pub mod blr;
 pub mod bytes;
 pub mod codes;

@@ -1,0 +1,16 @@
+use mathlib.Core.Path.{sym, ap}
+use borrow.Author.Tests.{ne_eqb}
+use Rattle.leaf_exports.specs.Exports.{search_of}
+use Rattle.leaf_exports.proofs.search_of.Goals as goal
+
+pub returns-in-0 : goal.returns-in-0
+unfolding search_of
+returns-in-0 c = ap search_of (sym c.in-0.is)
+
+pub returns-in-1 : goal.returns-in-1
+unfolding search_of
+returns-in-1 c = ap search_of (sym c.in-1.is)
+
+pub returns-in_default : goal.returns-in_default
+unfolding search_of
+returns-in_default c = rw (ne_eqb c.args.t 0 c.in_default.in_default-own.rest.0.1, ne_eqb c.args.t 1 c.in_default.in_default-own.rest.1)

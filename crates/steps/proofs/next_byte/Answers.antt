@@ -1,0 +1,19 @@
+use lib.ListN.{length}
+use Prim.Native.Nat.{◌+◌}
+use mathlib.Core.Path.{sym, ap, ap₂, ◌∙◌}
+use borrow.Author.Tests.{leb-true}
+use Rattle.wire.specs.Words.{byte_at}
+use Rattle.grammar.specs.declared.ByteStep.TheVariants.{Is}
+use Rattle.grammar.specs.Internal.Steps.{byte_step}
+use Rattle.grammar.proofs.StepLaws.{taken-whole, taken-cut}
+use Rattle.steps.proofs.next_byte.Goals as goal
+
+pub moved-requires : goal.moved-requires
+moved-requires c = leb-true (c.args.c.at + 1) (length c.args.s.now) (sym c.stand.ensures ∙ c.if-stand.true)
+
+pub returns-then-stand : goal.returns-then-stand
+returns-then-stand c = ap₂ Is c.byte_at.ensures c.moved.ensures ∙
+    sym (ap byte_step (taken-whole 1 byte_at c.args.s.now c.args.c (sym c.stand.ensures ∙ c.if-stand.true)))
+
+pub returns-else-stand : goal.returns-else-stand
+returns-else-stand c = sym (ap byte_step (taken-cut 1 byte_at c.args.s.now c.args.c (sym c.stand.ensures ∙ c.if-stand.false)))

@@ -1,0 +1,24 @@
+-- `store::layout::lay_of` meets its contract. By the length of a record. Assumes nothing.
+use Rattle.dictionary.specs.Internal.Walk.{relation_at}
+use Rattle.records.proofs.Offsets.{found, above}
+use Rattle.records.specs.Record.{record_length}
+use Rattle.store.proofs.Layouts.{laid-short, laid-long}
+use mathlib.Core.Path.{refl, sym, ◌∙◌}
+use native.Mathlib.Omega.{arith}
+use Rattle.store.proofs.layout.lay_of.Goals as goal
+
+pub lay_out-requires : goal.lay_out-requires
+lay_out-requires c = let r = relation_at c.args.d.now c.args.relation in
+    let k = found 4096 (record_length r) c.in-Is.n (sym c.in-Is.is ∙ c.record_length.ensures) in
+    omega (arith, k.0, k.1)
+
+pub returns-in-Is : goal.returns-in-Is
+returns-in-Is c = let r = relation_at c.args.d.now c.args.relation in
+    laid-short r c.args.table.now _ c.described.result c.in-Is.n
+    (found 4096 (record_length r) c.in-Is.n (sym c.in-Is.is ∙ c.record_length.ensures)) c.lay_out.ensures
+    c.described.ensures
+
+pub returns-in-Long : goal.returns-in-Long
+returns-in-Long c = let r = relation_at c.args.d.now c.args.relation in
+    laid-long r c.args.table.now c.args.table.now c.described-in-Long.result
+    (above 4096 (record_length r) (sym c.in-Long.is ∙ c.record_length.ensures)) refl c.described-in-Long.ensures
