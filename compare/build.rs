@@ -1,4 +1,4 @@
-//! Links the product's static library and that of test exports, which `rt staticlib` writes.
+//! Links the product's static library and that of test exports, which `tools/archive` writes.
 
 fn main() {
     let root = std::env::var("CARGO_MANIFEST_DIR").expect("cargo sets the folder of the package");

@@ -30,7 +30,7 @@ function numbers(t,    n, a, i, s) {
 
 # a signed number
 function signed_number(n) {
-    return n < 0 ? "(negℤ (pos " substr(n, 2) "))" : "(pos " n ")"
+    return n < 0 ? "(neg_ℤ (pos " substr(n, 2) "))" : "(pos " n ")"
 }
 
 # places and outcomes as one list
@@ -46,13 +46,13 @@ function answer(t,    a, p) {
     split(t, a, " ")
     if (a[1] == "refused") return "refusal " a[2] " " a[3]
     if (t ~ /^[0-9]/) return "tests " tested(t)
-    if (a[1] == "true") return "isTrue"
-    if (a[1] == "false") return "isFalse"
-    if (t == "missing") return "isMissing Cause.Bit"
-    if (a[1] == "missing") return "isMissing Cause." toupper(substr(a[2], 1, 1)) substr(a[2], 2)
-    if (a[1] == "number") return "isNumber " signed_number(a[2]) " " signed_number(a[3])
-    if (a[1] == "text") return "isText " list(a[2])
-    if (a[1] == "date") return "isDate " signed_number(a[2]) " " a[3]
+    if (a[1] == "true") return "is_true"
+    if (a[1] == "false") return "is_false"
+    if (t == "missing") return "is_missing Cause.Bit"
+    if (a[1] == "missing") return "is_missing Cause." toupper(substr(a[2], 1, 1)) substr(a[2], 2)
+    if (a[1] == "number") return "is_number " signed_number(a[2]) " " signed_number(a[3])
+    if (a[1] == "text") return "is_text " list(a[2])
+    if (a[1] == "date") return "is_date " signed_number(a[2]) " " a[3]
     split(t, p, "|")
     return "rows " numbers(p[2]) " " numbers(p[3]) " " numbers(p[4])
 }
@@ -65,12 +65,12 @@ function open_file(crate,    proofs, name) {
     file[crate] = proofs "/" name ".antt"
     print "pub mod " name >> (proofs "/Lib.antt")
     print "use Prim.Native.Nat.{ℕ}" > file[crate]
-    print "use mathlib.Core.Path.{_≡_, refl}" > file[crate]
-    print "use mathlib.Core.List.{List, [], _∷_, _++_}" > file[crate]
-    print "use lib.IntN.{pos, negℤ}" > file[crate]
+    print "use mathlib.Core.Path.{◌≡◌, refl}" > file[crate]
+    print "use mathlib.Core.List.{List, [], ◌∷◌, ◌++◌}" > file[crate]
+    print "use lib.IntN.{pos, neg_ℤ}" > file[crate]
     print "use lib.ListN.{replicate}" > file[crate]
-    print "use Rattle·records.specs.declared.missing.Cause.the-variants as Cause" > file[crate]
-    print "use Rattle·examples.proofs.Answers.{Answer, rows, isTrue, isFalse, isMissing, isNumber, isText, isDate, tests, anyCause, refusal, readAnswer, evaluateAnswer, valueAnswer, explainAnswer}" > file[crate]
+    print "use Rattle.records.specs.declared.missing.Cause.TheVariants as Cause" > file[crate]
+    print "use Rattle.examples.proofs.Answers.{Answer, rows, is_true, is_false, is_missing, is_number, is_text, is_date, tests, any_cause, refusal, read_answer, evaluate_answer, value_answer, explain_answer}" > file[crate]
 }
 
 {
@@ -79,12 +79,12 @@ function open_file(crate,    proofs, name) {
     k = index($0, " = ")
     right = substr($0, k + 3)
     runs = $7 == "=" ? "[]" : list($7)
-    if ($1 == "read") left = "readAnswer " list($3) " " list($2) " " $4 " " $5 " " $6
-    else left = $1 "Answer " list($3) " " list($2) " " $4 " " list($5) " " list($6) " " runs
+    if ($1 == "read") left = "read_answer " list($3) " " list($2) " " $4 " " $5 " " $6
+    else left = $1 "_answer " list($3) " " list($2) " " $4 " " list($5) " " list($6) " " runs
     if ($1 == "explain") left = left " 21844"
-    if (right == "missing") left = "anyCause (" left ")"
+    if (right == "missing") left = "any_cause (" left ")"
     print "" > file[crate]
     print "case" NR " : " left " ≡ " answer(right) > file[crate]
-    print "unfolding readAnswer evaluateAnswer valueAnswer explainAnswer" > file[crate]
+    print "unfolding read_answer evaluate_answer value_answer explain_answer" > file[crate]
     print "case" NR " = refl" > file[crate]
 }

@@ -46,7 +46,7 @@
 //! # Linking
 //!
 //! The archive is found in the folder `GREENBLR_LIB_DIR`, or by pkg-config where greenblr of this version is installed, or in
-//! `target/staticlib` of the repository, where `rt staticlib greenblr` puts it. It is for x86-64 Linux.
+//! `target/staticlib` of the repository, where `tools/archive greenblr` puts it. It is for x86-64 Linux.
 
 #![deny(missing_docs)]
 #![deny(unsafe_code)]
