@@ -1,5 +1,4 @@
 -- Laws that belong to no one function.
-pub mod Table
 pub mod Tens
 pub mod Bits
 pub mod Fitted
@@ -7,8 +6,6 @@ pub mod Signed
 pub mod Scales
 pub mod Quotient
 pub mod Raised
-pub mod Ranges
-pub mod Differences
 pub mod Ordered
 pub mod Parts
 pub mod Working

@@ -7,10 +7,9 @@ use native.Mathlib.Omega.{arith}
 use native.Mathlib.Nat.{add-zero, add-mul, suc-mul, zero-mul, mul-le-mul_right}
 use native.Mathlib.Decide.{dec_lt}
 use borrow.Author.Tests.{lt-ltb, le-ltb}
-use lib.Dec.{ltb}
 use lib.IntN.{ℤ, pos, negsuc}
-use Rattle.wire.specs.declared.order.Order.{Order}
-use Rattle.wire.specs.declared.order.Order.TheVariants.{Less, Equal, Greater}
+use Rattle.std.specs.declared.cmp.Ordering.{Ordering}
+use Rattle.std.specs.declared.cmp.Ordering.TheVariants.{Less, Equal, Greater}
 use Rattle.wire.specs.Orders.{order_ℕ, order_ℤ, where_equal}
 use Rattle.decimal.specs.Internal.Signs.{signed}
 
@@ -45,9 +44,9 @@ alike a b c d f g h =
 in-turn : (a b u v f g : ℕ) → (u < v → a < b) → (v < u → b < a) → (u ≡ v → order_ℕ a b ≡ order_ℕ f g)
     → order_ℕ a b ≡ where_equal (order_ℕ u v) (order_ℕ f g)
 in-turn a b u v f g less greater equal =
-    ⊎_elim (λ l. is-less a b (less l) ∙ ap (λ (o : Order). where_equal o (order_ℕ f g)) (sym (is-less u v l)))
-    (⊎_elim (λ e. equal e ∙ ap (λ (o : Order). where_equal o (order_ℕ f g)) (sym (is-equal u v e)))
-    (λ q. is_greater a b (greater q) ∙ ap (λ (o : Order). where_equal o (order_ℕ f g)) (sym (is_greater u v q))))
+    ⊎_elim (λ l. is-less a b (less l) ∙ ap (λ (o : Ordering). where_equal o (order_ℕ f g)) (sym (is-less u v l)))
+    (⊎_elim (λ e. equal e ∙ ap (λ (o : Ordering). where_equal o (order_ℕ f g)) (sym (is-equal u v e)))
+    (λ q. is_greater a b (greater q) ∙ ap (λ (o : Ordering). where_equal o (order_ℕ f g)) (sym (is_greater u v q))))
     (trichotomy u v)
 
 next : (M a b : ℕ) → a < b → a * M + M ≤ b * M
@@ -126,7 +125,7 @@ nothing_left true false = refl
 nothing_left false true = refl
 nothing_left false false = refl
 
-first-decides : (o : Order) → where_equal o Equal ≡ o
+first-decides : (o : Ordering) → where_equal o Equal ≡ o
 first-decides Less = refl
 first-decides Equal = refl
 first-decides Greater = refl

@@ -9,8 +9,8 @@ use lib.Dec.{lit<}
 use lib.Pow.{pow-add}
 use lib.IntN.{ℤ, pos, negsuc, nat_abs, ◌*ℤ◌}
 use lib.Signed.{quot_z, rem_z}
-use Rattle.wire.specs.declared.order.Order.{Order}
-use Rattle.wire.specs.declared.order.Order.TheVariants.{Less, Equal, Greater}
+use Rattle.std.specs.declared.cmp.Ordering.{Ordering}
+use Rattle.std.specs.declared.cmp.Ordering.TheVariants.{Less, Equal, Greater}
 use Rattle.decimal.specs.declared.Number.{Number}
 use Rattle.decimal.specs.Number.{places, scale_of, scaled, value_at, common, compared}
 use Rattle.wire.specs.Orders.{order_ℤ, where_equal}
@@ -113,7 +113,7 @@ compares-by-parts a b =
     compared_at (common a b) a b l m n ∙ by-parts-at (common a b) a b l m
 
 -- the two halves of the sentence: where the whole parts differ, they decide
-other-decides : (o p : Order) → (o ≡ Equal → ⊥) → where_equal o p ≡ o
+other-decides : (o p : Ordering) → (o ≡ Equal → ⊥) → where_equal o p ≡ o
 other-decides Less p h = refl
 other-decides Equal p h = absurd (h refl)
 other-decides Greater p h = refl
@@ -138,7 +138,7 @@ same-scale-order x y a =
     compared_at (places a) (scaled x a) (scaled y a) l l (places-le a) ∙ ap₂ order_ℤ (own-places x a) (own-places y a)
 
 -- the order by parts asks for the places alone
-parts_at : ℤ → ℕ → ℤ → ℕ → Order
+parts_at : ℤ → ℕ → ℤ → ℕ → Ordering
 parts_at x p y q =
     where_equal (order_ℤ (quot_z x (pos (10 ^ p))) (quot_z y (pos (10 ^ q))))
     (order_ℤ (rem_z x (pos (10 ^ p)) *ℤ pos (10 ^ (max p q - p))) (rem_z y (pos (10 ^ q)) *ℤ pos (10 ^ (max p q - q))))
@@ -154,7 +154,7 @@ by-places x a y b =
     ∙ sym (parts_are x a y b)
 
 -- the order by parts that a call found of two values and their places
-pub parts-found : (a b : Number) {r : Order} {x y : ℤ} {p q : ℕ} → r ≡ by_parts (scaled x (scale_of p)) (scaled y (scale_of q))
+pub parts-found : (a b : Number) {r : Ordering} {x y : ℤ} {p q : ℕ} → r ≡ by_parts (scaled x (scale_of p)) (scaled y (scale_of q))
     → x ≡ a.value → y ≡ b.value → p ≡ places a.scale → q ≡ places b.scale → r ≡ compared a b
 parts-found a b e f g h k =
     e ∙ rw (f, g, h, k) (by-places a.value a.scale b.value b.scale ∙ sym (compares-by-parts a b))

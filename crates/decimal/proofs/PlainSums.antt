@@ -7,10 +7,10 @@ use native.Mathlib.Nat.{min-eq_right}
 use borrow.Author.Tests.{lt-leb, le-leb, leb-true, ltb-true, ltb-false, eq-eqb, ne_eqb}
 use lib.IntN.{ℤ, pos, negsuc, ◌+ℤ◌, ◌*ℤ◌}
 use lib.Signed.{mag, lt_z, le_z}
-use mir.Syntax.{Width, w64}
+use mir.Syntax.{Width}
 use mir.Val.{SFits, of_z, to_z}
 use mir.Facts.{to_z-of_z}
-use Rattle.decimal.specs.declared.Computed.TheVariants.{Value}
+use Rattle.std.specs.Prelude.{Ok}
 use Rattle.decimal.specs.Number.{places, scale_of, scaled, fits, fitted, rescaled, added}
 use Rattle.decimal.specs.Internal.Plain.{same_scale, has_places, sums_plainly, PlainSum}
 use Rattle.decimal.proofs.Bits.{clash}
@@ -57,7 +57,7 @@ module _ (a : ℤ) where
   abbrev most : ℕ
   most = max (places a) (places a)
 
-  at_own : (x : ℤ) → mag x < 2 ^ 63 → rescaled most (scaled x a) ≡ Value (scaled x (scale_of (places a)))
+  at_own : (x : ℤ) → mag x < 2 ^ 63 → rescaled most (scaled x a) ≡ Ok (scaled x (scale_of (places a)))
   unfolding rescaled
   at_own x h =
       let k : most - places a ≡ 0 = omega arith in
@@ -66,7 +66,7 @@ module _ (a : ℤ) where
       ∙ sym (made refl refl h)
 
   module _ (x y : ℤ) (f : mag x < 2 ^ 63) (g : mag y < 2 ^ 63) where
-    sum-plain : has_places a ≡ true → mag (x +ℤ y) < 2 ^ 63 → added (scaled x a) (scaled y a) ≡ Value (scaled (x +ℤ y) a)
+    sum-plain : has_places a ≡ true → mag (x +ℤ y) < 2 ^ 63 → added (scaled x a) (scaled y a) ≡ Ok (scaled (x +ℤ y) a)
     unfolding added
     sum-plain p h =
         let m : most ≡ places a = omega arith in

@@ -7,7 +7,9 @@ use lib.Dec.{lit<}
 use lib.IntN.{ℤ, pos, negsuc, neg_ℤ}
 use lib.Signed.{mag, quot_z}
 use mir.Syntax.{w64}
-use mir.Val.{of_z}
+use mir.Val.{SFits, of_z}
+use Rattle.std.specs.Prelude.{Option, Some, None, SomeIff}
+use Rattle.std.specs.Int.{CanDivide}
 use Rattle.decimal.specs.declared.Number.{Number}
 use Rattle.decimal.specs.Number.{fitted, divided}
 use Rattle.decimal.proofs.Fitted.{negative-in}
@@ -29,3 +31,12 @@ unfolding divided
 divided-other a (pos zero) scale h = absurd (h refl)
 divided-other a (pos (suc n)) scale h = refl
 divided-other a (negsuc n) scale h = refl
+
+positive : (n : ℕ) → (n ≡ 0 → ⊥) → 0 < n
+positive n h = omega arith
+
+-- by a divisor that is not zero, what `checked_div` answers goes by whether the quotient fits
+pub divides-or-not : (r : Option ℤ) (x b : ℤ) {y : ℤ} → (of_z w64 y ≡ 0 → ⊥) → b ≡ y
+    → SomeIff r (CanDivide w64 x b) (quot_z x b) → SomeIff r (SFits w64 (quot_z x b)) (quot_z x b)
+divides-or-not (Some v) x b h e (p, q) = (p.1, q)
+divides-or-not None x b h e n = λ f. n (positive (of_z w64 b) (λ z. h (rw e at z)), f)

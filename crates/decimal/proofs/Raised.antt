@@ -1,32 +1,22 @@
 -- A value times a power of ten, twice. Assumes nothing.
 use Prim.Native.Nat.{ℕ, zero, suc, ◌+◌, ◌*◌, ◌^◌, ◌≤◌, ◌<◌}
-use mathlib.Core.Path.{◌≡◌, refl, sym, ap, ap₂, ◌∙◌}
-use mathlib.Core.Bool.{Bool, true, false}
+use mathlib.Core.Path.{◌≡◌, refl, sym, ap, ◌∙◌}
+use mathlib.Core.Bool.{true, false}
 use native.Mathlib.Omega.{arith}
 use native.Mathlib.Nat.{mul_assoc, mul-le-mul_left, mul-one}
 use native.Mathlib.Decide.{dec_lt}
-use borrow.Author.Tests.{lt-ltb, le-ltb}
 use lib.Pow.{pow-add}
 use lib.IntN.{ℤ, pos, negsuc, neg_ℤ, ◌*ℤ◌}
 use lib.Signed.{mag}
 use mir.Syntax.{w64}
 use mir.Val.{of_z}
-use Rattle.decimal.specs.declared.Computed.{Computed}
-use Rattle.decimal.specs.declared.Computed.TheVariants.{Value, Overflow, ZeroDivisor}
-use Rattle.decimal.specs.declared.Number.{Number}
-use Rattle.decimal.specs.Number.{fitted, unless_zero}
+use Rattle.std.specs.Prelude.{Err}
+use Rattle.decimal.specs.declared.ArithmeticError.TheVariants.{Overflow}
+use Rattle.decimal.specs.Number.{Computed, fitted, unless_zero, ◌>>=◌}
 use Rattle.decimal.specs.Internal.Signs.{signed}
 use Rattle.decimal.proofs.Fitted.{fits_in, fits_out, negative-out}
 use Rattle.decimal.proofs.Signed.{product-signed}
 use Rattle.decimal.proofs.Parts.{power_pos}
-
-absurd-eq : {A : Type 0} → ◌≡◌ {A = ℕ} 0 1 → A
-absurd-eq z = absurd (omega arith)
-
-abbrev value_in : Computed → ℤ
-value_in (Value n) = n.value
-value_in Overflow = pos 0
-value_in ZeroDivisor = pos 0
 
 -- the square of a power
 twice : (k : ℕ) → 10 ^ k * 10 ^ k ≡ 10 ^ (2 * k)
@@ -49,35 +39,23 @@ further : (x : ℤ) (m : ℕ) → 0 < m → mag x ≤ mag (x *ℤ pos m)
 further (pos n) m h = no_less n m h
 further (negsuc n) m h = let l : suc n ≤ suc n * m = no_less (suc n) m h in negative-out (suc n * m) n l
 
--- the value of a number that fits
-pub fitted-value : (z scale : ℤ) (n : Number) → fitted z scale ≡ Value n → n.value ≡ z
-fitted-value z scale n e = go (dec_lt (mag z) (2 ^ 63))
-  where
-    go : Dec (mag z < 2 ^ 63) → n.value ≡ z
-    go (yes l) = let f = fits_in z scale l in let g : Value n ≡ Value (record { value = z; scale = scale }) = sym (f ∙ e) in ap value_in g
-    go (no l) = let f = fits_out z scale (omega arith) in absurd-eq (cc)
-
--- what is raised and does not fit, does not fit when it is raised again
-pub fitted-again : (x scale : ℤ) (k : ℕ) → fitted (x *ℤ pos (10 ^ k)) scale ≡ Overflow → Overflow ≡ fitted (x *ℤ pos (10 ^ (2 * k))) scale
-fitted-again x scale k e = go (dec_lt (mag (x *ℤ pos (10 ^ k))) (2 ^ 63))
-  where
-    go : Dec (mag (x *ℤ pos (10 ^ k)) < 2 ^ 63) → Overflow ≡ fitted (x *ℤ pos (10 ^ (2 * k))) scale
-    go (yes l) = let f = fits_in (x *ℤ pos (10 ^ k)) scale l in absurd-eq (cc)
-    go (no l) =
-        let m = further (x *ℤ pos (10 ^ k)) (10 ^ k) (power_pos k) in
-        let h : 2 ^ 63 ≤ mag (x *ℤ pos (10 ^ k) *ℤ pos (10 ^ k)) = omega (arith, m) in
-        fits_out (x *ℤ pos (10 ^ (2 * k))) scale (rw (raised-again x k) at h)
-
--- a product is never without a divisor
-pub fitted-never : {A : Type 0} (z scale : ℤ) → fitted z scale ≡ ZeroDivisor → A
-fitted-never {A} z scale e = go (dec_lt (mag z) (2 ^ 63))
-  where
-    go : Dec (mag z < 2 ^ 63) → A
-    go (yes l) = let f = fits_in z scale l in absurd-eq (cc)
-    go (no l) = let f = fits_out z scale (omega arith) in absurd-eq (cc)
-
 -- a divisor that is not zero
 pub unless-other : (y : ℤ) (x : Computed) → (of_z w64 y ≡ 0 → ⊥) → unless_zero y x ≡ x
 unless-other (pos zero) x h = absurd (h refl)
 unless-other (pos (suc n)) x h = refl
 unless-other (negsuc n) x h = refl
+
+-- raised twice, step by step
+pub raised-twice : (x scale : ℤ) (k : ℕ) → (fitted (x *ℤ pos (10 ^ k)) scale >>= λ n. fitted (n.value *ℤ pos (10 ^ k)) scale) ≡ fitted (x *ℤ pos (10 ^ (2 * k))) scale
+raised-twice x scale k = go (dec_lt (mag (x *ℤ pos (10 ^ k))) (2 ^ 63))
+  where
+    go : Dec (mag (x *ℤ pos (10 ^ k)) < 2 ^ 63) → (fitted (x *ℤ pos (10 ^ k)) scale >>= λ n. fitted (n.value *ℤ pos (10 ^ k)) scale) ≡ fitted (x *ℤ pos (10 ^ (2 * k))) scale
+    go (yes l) = rw (← fits_in (x *ℤ pos (10 ^ k)) scale l, raised-again x k)
+    go (no l) =
+        let m = further (x *ℤ pos (10 ^ k)) (10 ^ k) (power_pos k) in
+        let h : 2 ^ 63 ≤ mag (x *ℤ pos (10 ^ k) *ℤ pos (10 ^ k)) = omega (arith, m) in
+        rw (← fits_out (x *ℤ pos (10 ^ k)) scale (omega arith)) (fits_out (x *ℤ pos (10 ^ (2 * k))) scale (rw (raised-again x k) at h))
+
+-- what is raised and does not fit, does not fit when it is raised again
+pub fitted-again : (x scale : ℤ) (k : ℕ) → fitted (x *ℤ pos (10 ^ k)) scale ≡ Err Overflow → Err Overflow ≡ fitted (x *ℤ pos (10 ^ (2 * k))) scale
+fitted-again x scale k e = rw e at (raised-twice x scale k)

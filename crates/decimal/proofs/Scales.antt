@@ -1,35 +1,29 @@
 -- Scales and decimal places. Assumes nothing.
-use Prim.Native.Nat.{ℕ, zero, suc, ◌-◌, ◌^◌, max, ◌≤◌, ◌<◌}
+use Prim.Native.Nat.{ℕ, zero, suc, ◌-◌, ◌^◌, max, min, ◌≤◌, ◌<◌}
 use mathlib.Core.Path.{◌≡◌, refl, sym, ap, ap₂, ◌∙◌}
-use mathlib.Core.Bool.{true, false}
 use native.Mathlib.Omega.{arith}
 use native.Mathlib.Nat.{min-le_left, min-eq_left, min-eq_right}
 use native.Mathlib.Decide.{dec_lt}
-use borrow.Author.Tests.{lt-ltb, le-ltb, ltb-true, ltb-false}
-use lib.Dec.{leb-zero}
-use lib.IntN.{ℤ, pos, negsuc, neg_ℤ, sub_ℕ, ◌+ℤ◌, ◌-ℤ◌, ◌*ℤ◌, neg_ℤ-neg_ℤ}
-use lib.Signed.{mag, lt_z, le_z}
+use borrow.Author.Tests.{lt-ltb, le-ltb}
+use lib.IntN.{ℤ, pos, negsuc, nat_abs, neg_ℤ, sub_ℕ, ◌+ℤ◌, ◌-ℤ◌, ◌*ℤ◌, neg_ℤ-neg_ℤ}
+use lib.Signed.{mag}
 use mir.Syntax.{w8}
 use mir.Val.{SFits, to_z, of_z}
+use Rattle.std.specs.Int.{int_max, int_min}
 use Rattle.decimal.specs.declared.Number.{Number}
 use Rattle.decimal.specs.Number.{places, scale_of, fitted, rescaled}
-use Rattle.decimal.proofs.Bits.{clash, read_back}
+use Rattle.decimal.proofs.Bits.{read_back}
 
-pub places-none : (z : ℤ) → le_z (pos 0) z ≡ true → places z ≡ 0
+-- what `clamp` leaves of a scale has as many units below 0 as there are places
+pub clamped : (z : ℤ) → nat_abs (int_max (negsuc 17) (int_min z (pos 0))) ≡ places z
 unfolding places
-places-none (pos n) e = refl
-places-none (negsuc n) e = clash e
-
-pub places-most : (z : ℤ) → lt_z z (negsuc 17) ≡ true → places z ≡ 18
-unfolding places
-places-most (pos n) e = clash e
-places-most (negsuc n) e = let h : 18 ≤ suc n = omega (arith, ltb-true 17 n e) in min-eq_left h
-
-pub places-within : (z : ℤ) → le_z (pos 0) z ≡ false → lt_z z (negsuc 17) ≡ false → neg_ℤ z ≡ pos (places z)
-unfolding places
-places-within (pos n) e f = clash (sym e ∙ leb-zero n)
-places-within (negsuc n) e f =
-    let h : suc n ≤ 18 = omega (arith, ltb-false 17 n f) in ap pos (sym (min-eq_right h))
+clamped (pos zero) = refl
+clamped (pos (suc n)) = let l : 0 < suc n = omega arith in rw (lt-ltb 0 (suc n) l)
+clamped (negsuc n) = go (dec_lt 17 n)
+  where
+    go : Dec (17 < n) → nat_abs (int_max (negsuc 17) (int_min (negsuc n) (pos 0))) ≡ min 18 (suc n)
+    go (yes l) = let h : 18 ≤ suc n = omega arith in rw (lt-ltb 17 n l) (sym (min-eq_left h))
+    go (no l) = let h : suc n ≤ 18 = omega arith in rw (le-ltb 17 n (omega arith)) (sym (min-eq_right h))
 
 pub places-le : (z : ℤ) → places z ≤ 18
 unfolding places

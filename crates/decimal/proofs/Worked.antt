@@ -2,7 +2,7 @@
 use Prim.Native.Nat.{ℕ}
 use mathlib.Core.Path.{◌≡◌, refl}
 use lib.IntN.{ℤ, pos, neg_ℤ}
-use Rattle.wire.specs.declared.order.Order.TheVariants.{Less, Equal, Greater}
+use Rattle.std.specs.declared.cmp.Ordering.TheVariants.{Less, Equal, Greater}
 use Rattle.decimal.specs.declared.Number.{Number}
 use Rattle.decimal.specs.Number.{places, scale_of, compared}
 use Rattle.wire.specs.Orders.{order_ℤ}

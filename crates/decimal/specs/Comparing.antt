@@ -2,7 +2,7 @@
 -- stands after it. This is the order that `compare` promises, `Number.compared`: the theorem `compares-by-parts` in proofs/Parts.antt.
 use Rattle.std.specs.Prelude.{ℕ, ◌-◌, ◌^◌, ℤ, pos, ◌*ℤ◌}
 use Rattle.std.specs.Int.Signed.{quot_z, rem_z}
-use Rattle.wire.specs.declared.order.Order.{Order}
+use Rattle.std.specs.declared.cmp.Ordering.{Ordering}
 use Rattle.wire.specs.Orders.{order_ℤ, where_equal}
 use Rattle.decimal.specs.declared.Number.{Number}
 use Rattle.decimal.specs.Number.{places, common}
@@ -19,5 +19,5 @@ fraction_at k a = rem_z a.value (pos (10 ^ places a.scale)) *ℤ pos (10 ^ (k - 
 
 -- 02: "two numbers compare as their whole parts, cut toward zero, and where these are equal as their signed fractions." Both fractions
 -- are counted at the places of the number that has more of them.
-unfoldable pub by_parts : Number → Number → Order
+unfoldable pub by_parts : Number → Number → Ordering
 by_parts a b = where_equal (order_ℤ (whole_part a) (whole_part b)) (order_ℤ (fraction_at (common a b) a) (fraction_at (common a b) b))

@@ -1,15 +1,19 @@
 -- 01: "Numbers are signed 64-bit with a scale, compared exactly over the powers of ten up to 10^18."
-use Rattle.std.specs.Prelude.{ℕ, suc, ◌+◌, ◌-◌, ◌*◌, ◌^◌, min, max, Bool, cond, ltb, ℤ, pos, negsuc, neg_ℤ, ◌+ℤ◌, ◌-ℤ◌, ◌*ℤ◌}
+use Rattle.std.specs.Prelude.{ℕ, suc, ◌+◌, ◌-◌, ◌*◌, ◌^◌, min, max, Bool, cond, ltb, ℤ, pos, negsuc, neg_ℤ, ◌+ℤ◌, ◌-ℤ◌, ◌*ℤ◌, Result, Ok, Err}
 use Rattle.std.specs.Int.Signed.{mag, quot_z}
-use Rattle.wire.specs.declared.order.Order.{Order}
+use Rattle.std.specs.declared.cmp.Ordering.{Ordering}
 use Rattle.wire.specs.Orders.{order_ℤ}
 use Rattle.wire.specs.declared.codes.Version.{Version}
 use Rattle.wire.specs.declared.codes.Version.TheVariants.{Version4, Version5}
 use Rattle.wire.specs.declared.codes.Operator.{Operator}
 use Rattle.wire.specs.declared.codes.Operator.TheVariants.{Add, Subtract, Multiply, Divide}
 use Rattle.decimal.specs.declared.Number.{Number}
-use Rattle.decimal.specs.declared.Computed.{Computed}
-use Rattle.decimal.specs.declared.Computed.TheVariants.{Value, Overflow, ZeroDivisor}
+use Rattle.decimal.specs.declared.ArithmeticError.{ArithmeticError}
+use Rattle.decimal.specs.declared.ArithmeticError.TheVariants.{Overflow, ZeroDivisor}
+
+-- what an operation gives
+abbrev pub Computed : Type 0
+Computed = Result Number ArithmeticError
 
 -- the number of a value and a scale
 abbrev pub scaled : ℤ → ℤ → Number
@@ -34,7 +38,7 @@ fits z = ltb (mag z) (2 ^ 63)
 
 -- 01: "result that doesn't fit is overflow"
 unfoldable pub fitted : ℤ → ℤ → Computed
-fitted z scale = cond (fits z) (Value (record { value = z; scale = scale })) Overflow
+fitted z scale = cond (fits z) (Ok (record { value = z; scale = scale })) (Err Overflow)
 
 -- a number's value at k places, or at its own where these are more
 abbrev pub value_at : ℕ → Number → ℤ
@@ -46,9 +50,8 @@ rescaled k a = fitted (value_at k a) (scale_of (max k (places a.scale)))
 
 infixl 10 ◌>>=◌
 abbrev pub ◌>>=◌ : Computed → (Number → Computed) → Computed
-◌>>=◌ (Value a) f = f a
-◌>>=◌ Overflow f = Overflow
-◌>>=◌ ZeroDivisor f = ZeroDivisor
+◌>>=◌ (Ok a) f = f a
+◌>>=◌ (Err e) f = Err e
 
 -- the places of the smaller scale
 abbrev pub common : Number → Number → ℕ
@@ -73,7 +76,7 @@ multiplied a b = fitted (a.value *ℤ b.value) (scale_of (places a.scale + place
 
 -- a number's value divided by another, given a scale; 01: "Division truncates toward zero."
 unfoldable pub divided : Number → ℤ → ℤ → Computed
-divided a (pos ℕ.zero) scale = ZeroDivisor
+divided a (pos ℕ.zero) scale = Err ZeroDivisor
 divided a (pos (suc n)) scale = fitted (quot_z a.value (pos (suc n))) scale
 divided a (negsuc n) scale = fitted (quot_z a.value (negsuc n)) scale
 
@@ -83,7 +86,7 @@ quotient a b = divided a b.value (scale_of (places a.scale) -ℤ scale_of (place
 
 -- 02, No. 8: "a zero divisor is told first"
 abbrev pub unless_zero : ℤ → Computed → Computed
-unless_zero (pos ℕ.zero) x = ZeroDivisor
+unless_zero (pos ℕ.zero) x = Err ZeroDivisor
 unless_zero (pos (suc n)) x = x
 unless_zero (negsuc n) x = x
 
@@ -113,5 +116,5 @@ computed Version4 Divide a b = quotient a b
 computed Version5 Divide a b = quotient5 a b
 
 -- 01: "compared exactly over the powers of ten up to 10^18": both at the most places
-unfoldable pub compared : Number → Number → Order
+unfoldable pub compared : Number → Number → Ordering
 compared a b = order_ℤ (value_at max_places a) (value_at max_places b)

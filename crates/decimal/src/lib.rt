@@ -6,16 +6,14 @@ ghost use Rattle.decimal.specs.Number.{places, rescaled, added, subtracted, mult
 ghost use Rattle.decimal.specs.Number.{compared, scaled};
 ghost use Rattle.decimal.specs.Internal.Plain.{has_places, PlainSum};
 
+use std::cmp::Ordering;
 use wire::codes::{Operator, Version};
 use wire::limits::MIN_ARITHMETIC_SCALE;
-use wire::order::{Order, signed_order};
 
 mod order;
 mod places;
 mod powers;
 mod rescaling;
-mod sign;
-mod sums;
 mod values;
 
 #[derive(Clone, Copy)]
@@ -24,13 +22,15 @@ pub struct Number {
     pub scale: i8,
 }
 
-// What an operation gives.
-#[derive(Clone, Copy)]
-pub enum Computed {
-    Value(Number),
+// Why an operation gives no number.
+#[derive(Clone, Copy, PartialEq, Eq)]
+pub enum ArithmeticError {
     Overflow,
     ZeroDivisor,
 }
+
+// What an operation gives.
+pub type Computed = Result<Number, ArithmeticError>;
 
 // The same number at another scale, or at its own where that has more places.
 pub fn rescale(a: Number, scale: i8) -> Computed
@@ -39,69 +39,67 @@ pub fn rescale(a: Number, scale: i8) -> Computed
     rescaling::at_places(a, places::places_of(scale))
 }
 
+// Kept, with subtract: a function of the operation would have to say in its contract what that answers, and both are four lines.
+#[tactic(auto, unfolding(crate::specs::Number::added))]
 pub(crate) fn add(a: Number, b: Number) -> Computed
     ensures { result ≡ added a b }
 {
-    let x = a.value;
-    let y = b.value;
-    sums::sum_or_difference(x, places::places_in(a), y, places::places_in(b), false)
+    let k = places::common(a, b);
+    let x = rescaling::at_places(a, k)?;
+    let y = rescaling::at_places(b, k)?;
+    values::fitting(x.value.checked_add(y.value), places::scale_of(k))
 }
 
+#[tactic(auto, unfolding(crate::specs::Number::subtracted))]
 pub(crate) fn subtract(a: Number, b: Number) -> Computed
     ensures { result ≡ subtracted a b }
 {
-    let x = a.value;
-    let y = b.value;
-    sums::sum_or_difference(x, places::places_in(a), y, places::places_in(b), true)
+    let k = places::common(a, b);
+    let x = rescaling::at_places(a, k)?;
+    let y = rescaling::at_places(b, k)?;
+    values::fitting(x.value.checked_sub(y.value), places::scale_of(k))
 }
 
 pub(crate) fn multiply(a: Number, b: Number) -> Computed
     ensures { result ≡ multiplied a b }
 {
-    let x = a.value;
-    let y = b.value;
     let k = places::places_in(a) + places::places_in(b);
-    values::product(
-        sign::is_negative(x),
-        sign::magnitude(x),
-        sign::is_negative(y),
-        sign::magnitude(y),
-        places::scale_of(k),
-    )
+    values::fitting(a.value.checked_mul(b.value), places::scale_of(k))
 }
 
 // The quotient, toward zero.
 pub(crate) fn divide(a: Number, b: Number) -> Computed
     ensures { result ≡ quotient a b }
 {
-    let y = b.value;
     let first = places::scale_of(places::places_in(a));
     let second = places::scale_of(places::places_in(b));
-    values::quotient_of(a, y, first - second)
+    values::quotient_of(a, b.value, first - second)
 }
 
 // The quotient of version 5, toward zero: the dividend is first raised by the divisor's places, twice.
+#[tactic(auto, unfolding(crate::specs::Number::quotient5))]
 pub(crate) fn divide5(a: Number, b: Number) -> Computed
     ensures { result ≡ quotient5 a b }
 {
-    let x = a.value;
-    let y = b.value;
-    if y == 0 {
-        return Computed::ZeroDivisor;
+    if b.value == 0 {
+        return Err(ArithmeticError::ZeroDivisor);
     }
     let p = places::places_in(a);
     let q = places::places_in(b);
-    let dividend = rescaling::raise_twice(x, q, places::scale_of(p));
-    values::quotient_from(dividend, y, places::scale_of(p + q))
+    let dividend = rescaling::raise_twice(a.value, q, places::scale_of(p))?;
+    values::quotient_of(dividend, b.value, places::scale_of(p + q))
 }
 
 pub fn negate(a: Number) -> Computed
     ensures { result ≡ negated a }
 {
-    let x = a.value;
-    values::opposite(x, places::scale_of(places::places_in(a)))
+    values::fitting(
+        a.value.checked_neg(),
+        places::scale_of(places::places_in(a)),
+    )
 }
 
+#[tactic(auto, unfolding(crate::specs::Number::computed))]
 pub fn compute(v: Version, o: Operator, a: Number, b: Number) -> Computed
     ensures { result ≡ computed v o a b }
 {
@@ -117,20 +115,20 @@ pub fn compute(v: Version, o: Operator, a: Number, b: Number) -> Computed
 }
 
 // The exact order of two numbers: that of their whole parts, and where these are equal that of their fractions.
-pub fn compare(a: Number, b: Number) -> Order
+// Kept: no `Ord`, since 30 with scale 0 and 300 with scale -1 are equal here and are no equal structs.
+pub fn compare(a: Number, b: Number) -> Ordering
     ensures { result ≡ compared a b }
 {
-    let x = a.value;
-    let y = b.value;
-    order::by_parts(x, places::places_in(a), y, places::places_in(b))
+    order::by_parts(a.value, places::places_in(a), b.value, places::places_in(b))
 }
 
 // The same by values and scales. Numbers of one scale are in the order of their values, and no part of them is worked out.
-pub fn order_of(x: i64, a: i8, y: i64, b: i8) -> Order
+// Kept, with sums_plainly: the values of records come by their parts, and a struct would go through memory.
+pub fn order_of(x: i64, a: i8, y: i64, b: i8) -> Ordering
     ensures { result ≡ compared (scaled x a) (scaled y b) }
 {
     if a == b {
-        return signed_order(x, y);
+        return x.cmp(&y);
     }
     order::by_parts(x, places::places_of(a), y, places::places_of(b))
 }
@@ -151,7 +149,7 @@ pub fn sums_plainly(x: i64, a: i8, y: i64, b: i8) -> bool
 {
     if a == b {
         if has_places(a) {
-            return values::sum_fits(x, y);
+            return x.checked_add(y).is_some();
         }
     }
     false

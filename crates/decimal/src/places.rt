@@ -1,6 +1,6 @@
 // Scales and decimal places.
-ghost use Rattle.std.specs.Prelude.{◌≡◌, ◌+◌, ◌-◌, ◌≤◌, max};
-ghost use Rattle.decimal.specs.Number.{max_places, places, scale_of};
+ghost use Rattle.std.specs.Prelude.{◌≡◌, ◌+◌, ◌≤◌};
+ghost use Rattle.decimal.specs.Number.{max_places, places, scale_of, common};
 
 use super::Number;
 use wire::limits::MIN_ARITHMETIC_SCALE;
@@ -12,21 +12,21 @@ pub(crate) const MAX_PLACES: usize = 18;
 pub(crate) fn places_of(scale: i8) -> usize
     ensures { (result ≡ places scale) × (result ≤ max_places) }
 {
-    if 0 <= scale {
-        0
-    } else if scale < MIN_ARITHMETIC_SCALE {
-        MAX_PLACES
-    } else {
-        (-scale) as usize
-    }
+    scale.clamp(MIN_ARITHMETIC_SCALE, 0).unsigned_abs() as usize
 }
 
 // The decimal places of a number.
 pub(crate) fn places_in(a: Number) -> usize
     ensures { (result ≡ places a.scale) × (result ≤ max_places) }
 {
-    let scale = a.scale;
-    places_of(scale)
+    places_of(a.scale)
+}
+
+// The larger count of decimal places of two numbers.
+pub(crate) fn common(a: Number, b: Number) -> usize
+    ensures { (result ≡ common a b) × (result ≤ max_places) }
+{
+    places_in(a).max(places_in(b))
 }
 
 // The scale of so many decimal places.
@@ -35,17 +35,4 @@ pub(crate) fn scale_of(k: usize) -> i8
     ensures { result ≡ scale_of k }
 {
     -(k as i8)
-}
-
-pub(crate) fn larger(a: usize, b: usize) -> usize
-    ensures { result ≡ max a b }
-{
-    if a <= b { b } else { a }
-}
-
-pub(crate) fn apart(a: usize, b: usize) -> usize
-    requires { (a ≤ max_places) × (b ≤ max_places) }
-    ensures { result ≡ (a - b) + (b - a) }
-{
-    if a < b { b - a } else { a - b }
 }

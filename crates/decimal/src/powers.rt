@@ -1,11 +1,11 @@
 // The powers of ten.
-ghost use Rattle.std.specs.Prelude.{◌≡◌, ◌-◌, ◌≤◌, ◌^◌, max};
+ghost use Rattle.std.specs.Prelude.{◌≡◌, ◌-◌, ◌≤◌, ◌^◌, max, pos};
 ghost use Rattle.decimal.specs.Number.{max_places};
 
-use super::places::{MAX_PLACES, larger};
+use super::places::MAX_PLACES;
 
 // From ten to the 0 up to ten to the most places.
-const POWERS: [u64; MAX_PLACES + 1] = [
+const POWERS: [i64; MAX_PLACES + 1] = [
     1,
     10,
     100,
@@ -27,10 +27,10 @@ const POWERS: [u64; MAX_PLACES + 1] = [
     1000000000000000000,
 ];
 
-// Ten to the k.
-pub(crate) fn power(k: usize) -> u64
+// Ten to the k. Kept, here and in rescaling.rt: a type of the counts up to 18 would be unpacked at each sum and difference of them.
+pub(crate) fn power(k: usize) -> i64
     requires { k ≤ max_places }
-    ensures { result ≡ 10 ^ k }
+    ensures { result ≡ pos (10 ^ k) }
 {
     POWERS[k]
 }
@@ -38,20 +38,20 @@ pub(crate) fn power(k: usize) -> u64
 // Ten to the places of two numbers, and to the places that each lacks of the larger count.
 #[derive(Clone, Copy)]
 pub(crate) struct PlacePowers {
-    pub first: u64,
-    pub first_lacks: u64,
-    pub second: u64,
-    pub second_lacks: u64,
+    pub first: i64,
+    pub first_lacks: i64,
+    pub second: i64,
+    pub second_lacks: i64,
 }
 
 // The compiler copies the table to the stack wherever it is read: one copy serves all four.
 pub(crate) fn powers_for(p: usize, q: usize) -> PlacePowers
     requires { (p ≤ max_places) × (q ≤ max_places) }
-    ensures first_value { (result.first ≡ 10 ^ p) × (result.first_lacks ≡ 10 ^ (max p q - p)) }
-    ensures second_value { (result.second ≡ 10 ^ q) × (result.second_lacks ≡ 10 ^ (max p q - q)) }
+    ensures first_value { (result.first ≡ pos (10 ^ p)) × (result.first_lacks ≡ pos (10 ^ (max p q - p))) }
+    ensures second_value { (result.second ≡ pos (10 ^ q)) × (result.second_lacks ≡ pos (10 ^ (max p q - q))) }
 {
     let powers = POWERS;
-    let most = larger(p, q);
+    let most = p.max(q);
     PlacePowers {
         first: powers[p],
         first_lacks: powers[most - p],

@@ -2,42 +2,38 @@
 ghost use Rattle.std.specs.Prelude.{◌≡◌, ◌*◌, ◌≤◌, ◌^◌, pos, ◌*ℤ◌};
 ghost use Rattle.decimal.specs.Number.{max_places, fitted, rescaled};
 
-use super::places::{larger, places_in, scale_of};
+use super::places::{places_in, scale_of};
 use super::powers::power;
-use super::sign::{is_negative, magnitude};
-use super::values::product;
+use super::values::fitting;
 use super::{Computed, Number};
 
-// The value times a power of ten. By no places it is the value, and the table of powers is not read.
+// The value times a power of ten. By no places it is the value, and the table of powers is not read. Kept: k as in powers.rt.
 pub(crate) fn raise(x: i64, k: usize, scale: i8) -> Computed
     requires { k ≤ max_places }
     ensures { result ≡ fitted (x *ℤ pos (10 ^ k)) scale }
 {
     if k == 0 {
-        return Computed::Value(Number { value: x, scale });
+        return Ok(Number { value: x, scale });
     }
-    product(is_negative(x), magnitude(x), false, power(k), scale)
+    fitting(x.checked_mul(power(k)), scale)
 }
 
-// The value times the same power of ten twice. Where the first product does not fit, the second does not.
+// The value times the same power of ten twice. Where the first product does not fit, the second does not. Kept: k as above.
 pub(crate) fn raise_twice(x: i64, k: usize, scale: i8) -> Computed
     requires { k ≤ max_places }
     ensures { result ≡ fitted (x *ℤ pos (10 ^ (2 * k))) scale }
 {
-    match raise(x, k, scale) {
-        Computed::Value(n) => raise(n.value, k, scale),
-        Computed::Overflow => Computed::Overflow,
-        Computed::ZeroDivisor => Computed::ZeroDivisor,
-    }
+    let n = raise(x, k, scale)?;
+    raise(n.value, k, scale)
 }
 
-// The number at k places, or at its own where these are more.
+// The number at k places, or at its own where these are more. Kept: k as above.
+#[tactic(auto, unfolding(crate::specs::Number::rescaled))]
 pub(crate) fn at_places(a: Number, k: usize) -> Computed
     requires { k ≤ max_places }
     ensures { result ≡ rescaled k a }
 {
-    let x = a.value;
     let p = places_in(a);
-    let m = larger(k, p);
-    raise(x, m - p, scale_of(m))
+    let m = k.max(p);
+    raise(a.value, m - p, scale_of(m))
 }

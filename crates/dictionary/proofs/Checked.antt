@@ -1,20 +1,19 @@
 -- The check by places finds what the definition says: proper, or the first entry at fault.
-use mathlib.Core.Path.{◌≡◌, refl, sym, ap, ap₂, ◌∙◌}
+use mathlib.Core.Path.{◌≡◌, refl, sym, ap, ◌∙◌}
 use mathlib.Core.Bool.{Bool, true, false, cond, not, ◌&&◌, ◌||◌}
-use mathlib.Core.List.{List, [], ◌∷◌, ◌++◌}
+use mathlib.Core.List.{List, [], ◌∷◌}
 use mathlib.Core.Option.{Option, none, some}
 use Prim.Native.Nat.{ℕ, zero, suc, ◌+◌, ◌≤◌, ◌<◌}
 use native.Mathlib.Omega.{arith}
 use native.Mathlib.Numerals.{add-one}
 use lib.Dec.{eqb, ltb, leb}
-use borrow.Author.Tests.{eqb-true, leb-true, eq-eqb, ne_eqb, lt-ltb}
+use borrow.Author.Tests.{eqb-true, leb-true, eq-eqb, lt-ltb}
 use lib.ListN.{length, length-append}
 use Rattle.wire.specs.Words.{byte_at, word_at}
 use Rattle.wire.specs.Lists.{any_of, same_bytes}
 use Rattle.wire.specs.Classes.{Class, due, left_out, foreign, field_class}
 use Rattle.wire.specs.declared.codes.FieldType.{FieldType}
 use Rattle.dictionary.specs.declared.check.Met.{Met}
-use Rattle.dictionary.specs.Format.{fitting}
 use Rattle.dictionary.specs.Dictionary.{kind_at, Field, Relation, name_at, good_name, whole_entry, relation_fits, relation_entry, field_fits, field_at, with_field, field_entry, entry, Checked, proper, at_fault, next_entry, entries, dictionary}
 use Rattle.dictionary.specs.Internal.Walk.{between, same_relation, same_field, relation_good, field_good, relation_met, field_met, meet, on_met, fault_from, fault}
 use Rattle.dictionary.proofs.Places.{Walk, here, step, walk-on, last_one, none_between}

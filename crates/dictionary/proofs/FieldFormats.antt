@@ -1,6 +1,6 @@
 -- The format of a field by its id or its name: what its entry says, or none.
 use Prim.Native.Nat.{ℕ, zero, suc, ◌≤◌}
-use mathlib.Core.Path.{◌≡◌, refl, sym, ap, ◌∙◌}
+use mathlib.Core.Path.{◌≡◌, refl, ap, ◌∙◌}
 use mathlib.Core.Bool.{Bool, true, false, cond}
 use mathlib.Core.List.{List, [], ◌∷◌, map}
 use mathlib.Core.Option
@@ -9,13 +9,13 @@ use native.Mathlib.Omega.{arith}
 use borrow.Author.Tests.{ltb-false}
 use lib.Dec.{ltb}
 use lib.ListN.{length, get_elem?}
+use Rattle.std.specs.Prelude.{Some, None}
+use Rattle.wire.specs.Options.{option_of}
 use Rattle.wire.specs.Lists.{find, index_of, ◌and_then◌}
 use Rattle.dictionary.specs.Format.{Format}
 use Rattle.dictionary.specs.Dictionary.{Relation}
-use Rattle.dictionary.specs.declared.lookup.Place.TheVariants.{At, Unknown}
 use Rattle.dictionary.specs.Naming.{named, numbered, field_of, format_of}
 use Rattle.dictionary.specs.Internal.Walk.{fields_of, has_name, entry_field, relation_at}
-use Rattle.dictionary.specs.Internal.Answers.{place_answer}
 use Rattle.dictionary.proofs.FieldSearches.{map-index}
 
 pub get-map : {A B : Type 0} (f : A → B) (l : List A) (i : ℕ) → get_elem? (map f l) i ≡ Option.map f (get_elem? l i)
@@ -23,11 +23,11 @@ get-map f [] i = refl
 get-map f (x ∷ l) zero = refl
 get-map f (x ∷ l) (suc i) = get-map f l i
 
-pub place-some : (o : Option ℕ) {q : ℕ} → At q ≡ place_answer o → o ≡ some q
+pub place-some : (o : Option ℕ) {q : ℕ} → Some q ≡ option_of o → o ≡ some q
 place-some none e = absurd (let z : ◌≡◌ {A = ℕ} 0 1 = cc in omega arith)
 place-some (some p) e = cc
 
-pub place_none : (o : Option ℕ) → Unknown ≡ place_answer o → o ≡ none
+pub place_none : (o : Option ℕ) → None ≡ option_of o → o ≡ none
 place_none none e = refl
 place_none (some p) e = absurd (let z : ◌≡◌ {A = ℕ} 0 1 = cc in omega arith)
 
@@ -45,10 +45,10 @@ module _ (d : List ℕ) (r i : ℕ) where
       by none = refl
       by (some q) = refl
 
-  pub format-found : {q : ℕ} → At q ≡ place_answer (get_elem? (fields_of d r) i) → format_of (relation_at d r) i ≡ some (entry_field d q).format
+  pub format-found : {q : ℕ} → Some q ≡ option_of (get_elem? (fields_of d r) i) → format_of (relation_at d r) i ≡ some (entry_field d q).format
   format-found e = format_is ∙ ap (entry_format d) (place-some (get_elem? (fields_of d r) i) e)
 
-  pub format-none : Unknown ≡ place_answer (get_elem? (fields_of d r) i) → format_of (relation_at d r) i ≡ none
+  pub format-none : None ≡ option_of (get_elem? (fields_of d r) i) → format_of (relation_at d r) i ≡ none
   format-none e = format_is ∙ ap (entry_format d) (place_none (get_elem? (fields_of d r) i) e)
 
 -- ---- of an id that a request names

@@ -1,16 +1,15 @@
 -- The fields after a relation's entry: those of a run of entries of kind 2.
-use mathlib.Core.Path.{◌≡◌, refl, sym, ap, ◌∙◌}
-use mathlib.Core.Bool.{Bool, true, false, ◌&&◌, and-false}
+use mathlib.Core.Path.{◌≡◌, refl, ap, ◌∙◌}
+use mathlib.Core.Bool.{and-false}
 use mathlib.Core.List.{List, [], ◌∷◌, ◌++◌, map}
 use mathlib.Core.Logic.{◌⊎◌, inl, inr}
 use Prim.Native.Nat.{ℕ, zero, suc, ◌+◌, ◌≤◌, ◌<◌}
 use native.Mathlib.Omega.{arith}
-use lib.Dec.{eqb, ltb}
 use lib.ListN.{length}
 use borrow.Author.Tests.{lt-ltb, le-ltb, eq-eqb, ne_eqb}
 use Rattle.wire.specs.Words.{word_at}
 use Rattle.dictionary.specs.Dictionary.{kind_at, Field}
-use Rattle.dictionary.specs.Internal.Walk.{placed, is_field, field_places, entry_field}
+use Rattle.dictionary.specs.Internal.Walk.{is_field, field_places, entry_field}
 
 -- from q to p stand the entries of these fields
 pub data Run (d : List ℕ) : ℕ → List Field → ℕ → Type 0 where

@@ -1,21 +1,18 @@
 -- The search for a field: what is passed, and what is left to search.
 use mathlib.Core.Path.{◌≡◌, refl, sym, ap, ◌∙◌}
-use mathlib.Core.Bool.{Bool, true, false, cond}
+use mathlib.Core.Bool.{true, false, cond}
 use mathlib.Core.List.{List, [], ◌∷◌, map}
 use mathlib.Core.Option
 use mathlib.Core.Option.{Option, none, some}
-use Prim.Native.Nat.{ℕ, zero, suc, ◌+◌, ◌-◌, ◌≤◌, ◌<◌}
+use Prim.Native.Nat.{ℕ, zero, suc, ◌+◌, ◌-◌, ◌<◌}
 use native.Mathlib.Nat.{add-zero}
 use native.Mathlib.Omega.{arith}
 use lib.ListN.{length, get_elem?}
+use Rattle.std.specs.Prelude.{Some, None}
+use Rattle.wire.specs.Options.{option_of}
 use Rattle.wire.specs.Lists.{find, index_of, same_bytes}
-use Rattle.dictionary.specs.Dictionary.{Field}
 use Rattle.dictionary.specs.Naming.{named, field_of}
 use Rattle.dictionary.specs.Internal.Walk.{fields_of, has_name, is_field, next_place, fields_from, entry_field, relation_at}
-use Rattle.dictionary.specs.Internal.FieldAnswers.{index_answer}
-use Rattle.dictionary.specs.declared.field.Index.TheVariants.{Is, Unknown}
-use Rattle.dictionary.specs.declared.lookup.Place.TheVariants.{At as AtPlace, Unknown as NoPlace}
-use Rattle.dictionary.specs.Internal.Answers.{place_answer}
 use Rattle.dictionary.proofs.Fields.{inside, further, no_more, one_field, of-relation}
 
 -- ---- from an entry at q to the place p after it
@@ -57,11 +54,11 @@ module _ (d n : List ℕ) where
       map-index d n (fields_of d r) ∙ ap (index_of (has_name d n)) (fields-after d r e) ∙ none_passed (index_of (has_name d n) (fields_from d p))
 
   module _ (q i : ℕ) where
-    pub named_end : is_field d q ≡ false → Unknown ≡ index_answer (passed i (index_of (has_name d n) (fields_from d q)))
+    pub named_end : is_field d q ≡ false → None ≡ option_of (passed i (index_of (has_name d n) (fields_from d q)))
     unfolding index_of
     named_end h = rw (no_more d q h)
 
-    pub named_here : is_field d q ≡ true → has_name d n q ≡ true → Is i ≡ index_answer (passed i (index_of (has_name d n) (fields_from d q)))
+    pub named_here : is_field d q ≡ true → has_name d n q ≡ true → Some i ≡ option_of (passed i (index_of (has_name d n) (fields_from d q)))
     unfolding index_of
     named_here h t = rw (one_field d q h, t, add-zero i)
 
@@ -73,11 +70,11 @@ module _ (d n : List ℕ) where
 -- ---- the entry of a name
 
 module _ (d n : List ℕ) (q : ℕ) where
-  pub found-end : is_field d q ≡ false → NoPlace ≡ place_answer (find (has_name d n) (fields_from d q))
+  pub found-end : is_field d q ≡ false → None ≡ option_of (find (has_name d n) (fields_from d q))
   unfolding find
   found-end h = rw (no_more d q h)
 
-  pub found_here : is_field d q ≡ true → has_name d n q ≡ true → AtPlace q ≡ place_answer (find (has_name d n) (fields_from d q))
+  pub found_here : is_field d q ≡ true → has_name d n q ≡ true → Some q ≡ option_of (find (has_name d n) (fields_from d q))
   unfolding find
   found_here h t = rw (one_field d q h, t)
 
@@ -89,10 +86,10 @@ module _ (d n : List ℕ) (q : ℕ) where
 -- ---- the entry of an id
 
 module _ (d : List ℕ) (q i : ℕ) where
-  pub entry-end : is_field d q ≡ false → NoPlace ≡ place_answer (get_elem? (fields_from d q) i)
+  pub entry-end : is_field d q ≡ false → None ≡ option_of (get_elem? (fields_from d q) i)
   entry-end h = rw (no_more d q h)
 
-  pub entry_here : is_field d q ≡ true → i ≡ 0 → AtPlace q ≡ place_answer (get_elem? (fields_from d q) i)
+  pub entry_here : is_field d q ≡ true → i ≡ 0 → Some q ≡ option_of (get_elem? (fields_from d q) i)
   entry_here h z = rw (one_field d q h, z)
 
   pub entry_next : {p : ℕ} → p ≡ next_place d q → is_field d q ≡ true → (i ≡ 0 → ⊥) →

@@ -1,8 +1,6 @@
 -- Laws that belong to no one function.
 pub mod Places
 pub mod Tests
-pub mod InRange
-pub mod Entry
 pub mod Bytes
 pub mod Checked
 pub mod Loop

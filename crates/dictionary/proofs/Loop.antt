@@ -1,22 +1,22 @@
 -- The check's loop: what holds at each entry, and what the answer is at the end.
-use mathlib.Core.Path.{◌≡◌, refl, sym, ap, subst, ◌∙◌}
-use mathlib.Core.Bool.{Bool, true, false, cond, not, ◌&&◌}
-use mathlib.Core.List.{List, [], ◌∷◌}
+use mathlib.Core.Path.{◌≡◌, refl, sym, ap, ◌∙◌}
+use mathlib.Core.Bool.{Bool, true, false, cond, ◌&&◌}
+use mathlib.Core.List.{List}
 use mathlib.Core.Option.{Option, none, some}
 use Prim.Native.Nat.{ℕ, zero, suc, ◌+◌, ◌≤◌, ◌<◌}
 use native.Mathlib.Omega.{arith}
-use lib.Dec.{eqb, ltb, leb}
+use lib.Dec.{eqb, ltb}
 use lib.ListN.{length}
-use borrow.Author.Tests.{eqb-true, leb-true, lt-ltb, le-ltb, lt-leb, le-leb}
+use borrow.Author.Tests.{lt-ltb, le-ltb, lt-leb, le-leb}
+use Rattle.std.specs.Prelude.{Some, None, Result, Ok, Err}
+use Rattle.wire.specs.Options.{option_of}
 use Rattle.wire.specs.Words.{byte_at, word_at}
 use Rattle.wire.specs.Classes.{Class, due, left_out, foreign, field_class}
 use Rattle.wire.specs.declared.codes.FieldType.{FieldType}
-use Rattle.dictionary.specs.declared.check.DictionaryCheck.TheVariants.{Proper, Fault}
 use Rattle.dictionary.specs.declared.check.Met.{Met}
-use Rattle.dictionary.specs.declared.check.Meeting.TheVariants.{Good, Bad}
 use Rattle.dictionary.specs.Dictionary.{kind_at, whole_entry, Checked, proper, at_fault, dictionary}
 use Rattle.dictionary.specs.Internal.Walk.{relation_good, field_good, relation_met, field_met, meet, on_met, fault_from, fault}
-use Rattle.dictionary.specs.Internal.Answers.{answer_of, meeting_of, fault_answer}
+use Rattle.dictionary.specs.Internal.Answers.{answer_of, fault_answer}
 use Rattle.dictionary.proofs.Tests.{both_left, both_right}
 use Rattle.dictionary.proofs.Checked.{fault_of, fault-is, whole_long, whole-inside}
 
@@ -68,13 +68,21 @@ unfolding meet
 stepped d p m n s = kind-some d p m n (eqb (kind_at d p) 1) (eqb (kind_at d p) 2) s
 
 -- what the code's answer says
-pub met_some : (o : Option Met) (n : Met) → meeting_of o ≡ Good n → o ≡ some n
+pub met_some : (o : Option Met) (n : Met) → option_of o ≡ Some n → o ≡ some n
 met_some none n e = let z : ◌≡◌ {A = ℕ} 0 1 = cc in absurd (omega arith)
 met_some (some m) n e = cc
 
-pub met-none : (o : Option Met) → meeting_of o ≡ Bad → o ≡ none
+pub met-none : (o : Option Met) → option_of o ≡ None → o ≡ none
 met-none none e = refl
 met-none (some m) e = let z : ◌≡◌ {A = ℕ} 0 1 = cc in absurd (omega arith)
+
+error_of : {T : Type 0} → Result T ℕ → ℕ
+error_of (Ok x) = 0
+error_of (Err p) = p
+
+pub same_error : {T : Type 0} {p q : ℕ} → ◌≡◌ {A = Result T ℕ} (Err p) (Err q) → p ≡ q
+unfolding error_of
+same_error e = ap error_of e
 
 -- ---- the loop
 
@@ -119,7 +127,7 @@ by-fault (at_fault p) = refl
 pub answered : (d : List ℕ) (o : Option ℕ) → fault d ≡ o → fault_answer o ≡ answer_of (dictionary d)
 answered d o e = ap fault_answer (sym e ∙ fault-is d) ∙ sym (by-fault (dictionary d))
 
-pub stops : (d : List ℕ) (m : Met) (p : ℕ) → Going d m p → p < length d → meet d p m ≡ none → Fault p ≡ answer_of (dictionary d)
+pub stops : (d : List ℕ) (m : Met) (p : ℕ) → Going d m p → p < length d → meet d p m ≡ none → Err p ≡ answer_of (dictionary d)
 stops d m p g h s = let k = next-fault g.fuel d p m h g.enough none s in answered d (some p) (g.same ∙ k.2)
 
 none_from : (n : ℕ) (d : List ℕ) (p : ℕ) (m : Met) → length d ≤ p → fault_from n d p m ≡ none
@@ -127,9 +135,9 @@ unfolding fault_from
 none_from zero d p m h = refl
 none_from (suc n) d p m h = rw (le-ltb p (length d) h)
 
-pub ends : (d : List ℕ) (m : Met) (p : ℕ) → Going d m p → length d ≤ p → Proper ≡ answer_of (dictionary d)
+pub ends : (d : List ℕ) (m : Met) (p : ℕ) → Going d m p → length d ≤ p → Ok tt ≡ answer_of (dictionary d)
 ends d m p g h = answered d none (g.same ∙ none_from g.fuel d p m h)
 
-pub too_long : (d : List ℕ) → 65535 < length d → Fault 0 ≡ answer_of (dictionary d)
+pub too_long : (d : List ℕ) → 65535 < length d → Err 0 ≡ answer_of (dictionary d)
 unfolding dictionary
 too_long d h = rw (lt-leb (length d) 65535 h)

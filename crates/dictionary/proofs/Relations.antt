@@ -1,6 +1,6 @@
 -- In a proper dictionary the entries say of each relation what the definition says of it.
-use mathlib.Core.Path.{◌≡◌, refl, sym, ap, subst, ◌∙◌}
-use mathlib.Core.Bool.{Bool, true, false, cond, ◌&&◌}
+use mathlib.Core.Path.{◌≡◌, refl, ap, subst, ◌∙◌}
+use mathlib.Core.Bool.{Bool, true, false, cond}
 use mathlib.Core.List.{List, [], ◌∷◌, ◌++◌, map}
 use mathlib.Core.Option
 use mathlib.Core.Option.{Option, none, some}
@@ -8,12 +8,12 @@ use Prim.Native.Nat.{ℕ, zero, suc, ◌+◌, ◌≤◌, ◌<◌}
 use native.Mathlib.Omega.{arith}
 use lib.Dec.{eqb, ltb, leb}
 use lib.ListN.{length}
-use borrow.Author.Tests.{eqb-true, ltb-true, ltb-false, leb-true}
+use borrow.Author.Tests.{eqb-true, ltb-true, ltb-false}
 use Rattle.wire.specs.Words.{byte_at, word_at}
 use Rattle.wire.specs.Lists.{find, same_bytes}
 use Rattle.wire.specs.Classes.{Class, due, left_out, foreign, field_class}
 use Rattle.wire.specs.declared.codes.FieldType.{FieldType}
-use Rattle.dictionary.specs.Dictionary.{kind_at, Field, Relation, name_at, whole_entry, relation_fits, relation_entry, field_fits, field_at, with_field, field_entry, entry, Checked, proper, at_fault, next_entry, entries, dictionary}
+use Rattle.dictionary.specs.Dictionary.{kind_at, Relation, name_at, whole_entry, relation_fits, relation_entry, field_fits, field_at, with_field, field_entry, entry, Checked, proper, at_fault, next_entry, entries, dictionary}
 use Rattle.dictionary.specs.Naming.{Name, named, numbered, relation_of}
 use Rattle.dictionary.specs.Internal.Walk.{between, later, last_of, is_named, relation_place, type_of, entry_field, fields_from, fields_of, relation_at}
 use Rattle.dictionary.proofs.Places.{Walk, here, walk-on, last_one, none_between}

@@ -4,11 +4,6 @@ use mathlib.Core.Bool.{Bool, true, false, not, ◌&&◌, ◌||◌, false≢true}
 use mathlib.Core.List.{List, [], ◌∷◌, ◌++◌}
 use Rattle.wire.specs.Lists.{any_of}
 
-pub either_order : (a b c : Bool) → a || (b || c) ≡ b || (a || c)
-either_order true true c = refl
-either_order true false c = refl
-either_order false b c = refl
-
 pub or-false : (a : Bool) → a || false ≡ a
 or-false true = refl
 or-false false = refl

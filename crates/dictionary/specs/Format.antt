@@ -1,5 +1,5 @@
 -- How the bytes of a field or a parameter are laid out: a type, a scale and a size.
-use Rattle.std.specs.Prelude.{ℕ, ◌+◌, Bool, true, false, ◌&&◌, eqb, leb, ℤ, pos}
+use Rattle.std.specs.Prelude.{ℕ, ◌+◌, Bool, ◌&&◌, eqb, leb, ℤ, pos}
 use Rattle.std.specs.Int.Signed.{le_z}
 use Rattle.wire.specs.Words.{signed}
 use Rattle.wire.specs.Limits.{min_scale, min_int64_scale, max_text_bytes, short_size, long_size, int64_size, date_size, length_word, reading_size}

@@ -2,24 +2,16 @@
 ghost use Rattle.std.specs.Prelude.{◌≡◌, ◌<◌, length};
 ghost use Rattle.std.proofs.Math.ListN.{get_elem?};
 ghost use Rattle.wire.specs.Lists.{find};
+ghost use Rattle.wire.specs.Options.{option_of};
 ghost use Rattle.dictionary.specs.Naming.{named, field_of};
 ghost use Rattle.dictionary.specs.Internal.Walk.{fields_of, has_name, relation_at, entry_field};
-ghost use Rattle.dictionary.specs.Internal.Answers.{place_answer};
-ghost use Rattle.dictionary.specs.Internal.FieldAnswers.{index_answer, format_is};
+ghost use Rattle.dictionary.specs.Internal.FieldAnswers.{format_is};
 
 use crate::entries::{is_field, next_place, type_at};
-use crate::lookup::Place;
 use crate::names::{name_at, same_bytes};
 use wire::bytes::{byte_on, word_on};
 use wire::codes::FieldType;
 use wire::entries::{FIELD_NAME, FIELD_SCALE, FIELD_SIZE};
-
-// The id of a field, or that there is none.
-#[derive(Clone, Copy)]
-pub enum Index {
-    Is(usize),
-    Unknown,
-}
 
 // What a field's entry says of its bytes: the type, the scale byte as it stands, and the size word.
 #[derive(Clone, Copy)]
@@ -34,59 +26,57 @@ fn has_name(d: &[u8], q: usize, name: &[u8]) -> bool
     requires { q < length d.now }
     ensures { result ≡ has_name d.now name.now q }
 {
-    if d.len() - q <= FIELD_NAME {
-        return same_bytes(name_at(d, d.len()), name);
-    }
     same_bytes(name_at(d, q + FIELD_NAME), name)
 }
 
 // The id of the field of a name.
-pub fn field_named(d: &[u8], relation: usize, name: &[u8]) -> Index
-    ensures { result ≡ index_answer (field_of (relation_at d.now relation) (named name.now)) }
+pub fn field_named(d: &[u8], relation: usize, name: &[u8]) -> Option<usize>
+    ensures { result ≡ option_of (field_of (relation_at d.now relation) (named name.now)) }
 {
     let mut q = next_place(d, relation);
     let mut i: usize = 0;
     while is_field(d, q) {
         if has_name(d, q, name) {
-            return Index::Is(i);
+            return Some(i);
         }
         i += 1;
         q = next_place(d, q);
     }
-    Index::Unknown
+    None
 }
 
 // The place of the entry of the field of a name.
-pub fn named_entry(d: &[u8], relation: usize, name: &[u8]) -> Place
-    ensures { result ≡ place_answer (find (has_name d.now name.now) (fields_of d.now relation)) }
+pub fn named_entry(d: &[u8], relation: usize, name: &[u8]) -> Option<usize>
+    ensures { result ≡ option_of (find (has_name d.now name.now) (fields_of d.now relation)) }
 {
     let mut q = next_place(d, relation);
     while is_field(d, q) {
         if has_name(d, q, name) {
-            return Place::At(q);
+            return Some(q);
         }
         q = next_place(d, q);
     }
-    Place::Unknown
+    None
 }
 
 // The place of the entry of the field of an id.
-pub fn field_entry(d: &[u8], relation: usize, id: usize) -> Place
-    ensures { result ≡ place_answer (get_elem? (fields_of d.now relation) id) }
+pub fn field_entry(d: &[u8], relation: usize, id: usize) -> Option<usize>
+    ensures { result ≡ option_of (get_elem? (fields_of d.now relation) id) }
 {
     let mut q = next_place(d, relation);
     let mut left = id;
     while is_field(d, q) {
         if left == 0 {
-            return Place::At(q);
+            return Some(q);
         }
         left -= 1;
         q = next_place(d, q);
     }
-    Place::Unknown
+    None
 }
 
 // The type, scale and size of the field whose entry stands at q.
+#[tactic(auto, unfolding(crate::specs::Internal::Walk::entry_field))]
 pub fn described(d: &[u8], q: usize) -> Description
     ensures { format_is result ≡ (entry_field d.now q).format }
 {

@@ -22,8 +22,7 @@ pub fn text_bytes(t: TextType, n: u32) -> usize
 {
     let size = n as usize;
     match t {
-        TextType::Text => size,
+        TextType::Text | TextType::Cstring => size,
         TextType::Varying => size + LENGTH_WORD,
-        TextType::Cstring => size,
     }
 }

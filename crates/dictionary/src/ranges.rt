@@ -11,32 +11,25 @@ fn least_scale(w: Width) -> i8
     ensures { result ≡ least_scale w }
 {
     match w {
-        Width::Short => MIN_SCALE,
-        Width::Long => MIN_SCALE,
+        Width::Short | Width::Long => MIN_SCALE,
         Width::Int64 => MIN_INT64_SCALE,
     }
 }
 
 // Whether a number of a width may have a scale byte.
+#[tactic(auto, unfolding(crate::specs::Format::scale_in_range))]
 pub fn scale_in_range(w: Width, b: u8) -> bool
     ensures { result ≡ scale_in_range w b }
 {
     let scale = signed_byte(b);
-    if least_scale(w) <= scale {
-        scale <= 0
-    } else {
-        false
-    }
+    least_scale(w) <= scale && scale <= 0
 }
 
 // "Text n 1–255."
+#[tactic(auto, unfolding(crate::specs::Format::size_in_range))]
 pub fn size_in_range(n: u32) -> bool
     ensures { result ≡ size_in_range n }
 {
     let size = n as usize;
-    if size < 1 {
-        false
-    } else {
-        size <= MAX_TEXT_BYTES
-    }
+    1 <= size && size <= MAX_TEXT_BYTES
 }

@@ -10,12 +10,13 @@ ghost use Rattle.std.specs.Prelude.{◌≤◌, length};
 ghost use Rattle.input.specs.Evaluation.{max_input_bytes};
 ghost use Rattle.evaluate.specs.Program.{Answered};
 
-use input::{EvaluationInput, MAX_INPUT_BYTES, NUMBER_ENTRY_BYTES};
+use input::{MAX_INPUT_BYTES, NUMBER_ENTRY_BYTES};
 use meaning::{Evaluation, ValueEvaluation};
 use show::{bad_input, evaluation, value};
 use wire::bytes::word_at;
 use wire::entries::{ENTRY_BODY, MESSAGE_ENTRY};
 
+// Kept: two kinds of answer, and an input that is none; an Option around an enum of the two is no plainer.
 // Of a value also where request, records and runs begin in the input, for a text in one of them; messages stand in a space of their own.
 #[derive(Clone, Copy)]
 enum ProgramAnswer {
@@ -25,27 +26,26 @@ enum ProgramAnswer {
 }
 
 // The answer to an input. A body starts four bytes after its entry; the messages are joined in a space as long as the longest input.
+// Kept as a fact, in this file: the room for the joined messages; a struct around one lent slice is no plainer.
 fn evaluate_input(s: &[u8], images: &mut [u8]) -> ProgramAnswer
     requires { max_input_bytes ≤ length images.old }
     ensures { Answered s.now result }
 {
-    match input::evaluation_entries(s) {
-        EvaluationInput::Entries(request, number, records, runs) => {
-            let joined = input::join_bodies(s, number + NUMBER_ENTRY_BYTES, MESSAGE_ENTRY, images);
-            let bytes = &s[request + ENTRY_BODY..number];
-            let dictionary = &s[ENTRY_BODY..request];
-            let asked = word_at(s, number + ENTRY_BODY) as usize;
-            let messages = &images[..joined];
-            let rows = &s[records..runs];
-            let behind = &s[runs..];
-            if input::asks_row(s, number) {
-                let v = evaluator::evaluate_value(bytes, dictionary, asked, messages, rows, behind);
-                return ProgramAnswer::Value(v, request + ENTRY_BODY, records, runs);
-            }
-            ProgramAnswer::Is(evaluator::evaluate(bytes, dictionary, asked, messages, rows, behind))
-        }
-        EvaluationInput::Bad => ProgramAnswer::BadInput,
+    let Some(at) = input::evaluation_entries(s) else {
+        return ProgramAnswer::BadInput;
+    };
+    let joined = input::join_bodies(s, at.number + NUMBER_ENTRY_BYTES, MESSAGE_ENTRY, images);
+    let bytes = &s[at.request + ENTRY_BODY..at.number];
+    let dictionary = &s[ENTRY_BODY..at.request];
+    let asked = word_at(s, at.number + ENTRY_BODY) as usize;
+    let messages = &images[..joined];
+    let rows = &s[at.records..at.runs];
+    let behind = &s[at.runs..];
+    if input::asks_row(s, at.number) {
+        let v = evaluator::evaluate_value(bytes, dictionary, asked, messages, rows, behind);
+        return ProgramAnswer::Value(v, at.request + ENTRY_BODY, at.records, at.runs);
     }
+    ProgramAnswer::Is(evaluator::evaluate(bytes, dictionary, asked, messages, rows, behind))
 }
 
 // The answer to an input, with the message bytes joined.

@@ -7,13 +7,15 @@ use native.Mathlib.Omega.{arith}
 use lib.ListN.{length, get_or, replicate, get_or-eq_default, get_or-append}
 use lib.Seq.{sets}
 use borrow.Author.Tests.{le-leb}
+use Rattle.std.specs.Prelude.{Result, Ok, Err}
 use Rattle.wire.specs.Codes as blr
+use Rattle.wire.specs.declared.refused.Refused.{Refused}
+use Rattle.wire.specs.Options.{refused_at}
 use Rattle.wire.specs.Limits.{max_statements, statement_row_numbers, statement_table_numbers, parameter_table_numbers, context_table_numbers}
 use Rattle.dictionary.specs.Dictionary.{Relation}
 use Rattle.grammar.specs.declared.Refusal.{Refusal}
 use Rattle.grammar.specs.declared.Cursor.{Cursor}
-use Rattle.grammar.specs.declared.ReadAnswer.{ReadAnswer}
-use Rattle.grammar.specs.declared.ReadAnswer.TheVariants.{Accepted, Refused}
+use Rattle.grammar.specs.declared.Counts.{Counts}
 use Rattle.grammar.specs.Tree.{Request}
 use Rattle.grammar.specs.Sizes.{statements_count, parameter_count, contexts_count}
 use Rattle.grammar.specs.Rows.{request_statement_rows}
@@ -33,20 +35,19 @@ use Rattle.surroundings.proofs.Noted.{noted-any}
 use Rattle.surroundings.proofs.Scales.{scales-are}
 use Rattle.evaluator.specs.AfterReading.{ReadSo, AfterReading, RowsRead}
 
-was-refused : (x : Read Request) (r : Refusal) (p : ℕ) → reading_of x ≡ Refused r p → x ≡ refused r p
-was-refused (read t c) r p e = absurd-eq (cc)
-was-refused (refused y q) r p e = cc
+was-refused : (x : Read Request) (r : Refused Refusal) → reading_of x ≡ Err r → x ≡ refused r.refusal r.place
+was-refused (read t c) r e = absurd-eq (cc)
+was-refused (refused y q) r e = let z : refused_at y q ≡ r = cc in ap (λ u. refused u.refusal u.place) z
 
-record Was (x : Read Request) (m o : ℕ) : Type 0 where
+record Was (x : Read Request) (n : Counts) : Type 0 where
   request : Request
   cursor : Cursor
   is : x ≡ read request cursor
-  parameters : m ≡ parameter_count request.messages
-  contexts : o ≡ contexts_count request.statements
+  counts : n ≡ record { statements = suc (statements_count request.statements); parameters = parameter_count request.messages; contexts = contexts_count request.statements }
 
-was-accepted : (x : Read Request) (n m o : ℕ) → reading_of x ≡ Accepted n m o → Was x m o
-was-accepted (read t c) n m o e = record { request = t; cursor = c; is = refl; parameters = cc; contexts = cc }
-was-accepted (refused y q) n m o e = absurd-eq (cc)
+was-accepted : (x : Read Request) (n : Counts) → reading_of x ≡ Ok n → Was x n
+was-accepted (read t c) n e = record { request = t; cursor = c; is = refl; counts = cc }
+was-accepted (refused y q) n e = absurd-eq (cc)
 
 -- ---- the rows of statements, and what they tell of from-values
 
@@ -75,7 +76,7 @@ module _ (t : Request) (n : ℕ) (counted : n ≡ suc (statements_count t.statem
 
 -- ---- of a reading
 
-module _ {s d st pa ct st' pa' ct' : List ℕ} {r : ReadAnswer} (h : Answered s d st pa ct st' pa' ct' r)
+module _ {s d st pa ct st' pa' ct' : List ℕ} {r : Result Counts (Refused Refusal)} (h : Answered s d st pa ct st' pa' ct' r)
     (a : statement_table_numbers ≤ length st) (b : parameter_table_numbers ≤ length pa) (k : context_table_numbers ≤ length ct) where
   abbrev answers : Read Request
   answers = answer s d (length st) (length pa) (length ct)
@@ -85,11 +86,11 @@ module _ {s d st pa ct st' pa' ct' : List ℕ} {r : ReadAnswer} (h : Answered s 
   with-room = rw (answer, le-leb statement_table_numbers (length st) a, le-leb parameter_table_numbers (length pa) b, le-leb context_table_numbers (length ct) k)
 
   -- of one that accepts
-  module _ (n m o : ℕ) (e : r ≡ Accepted n m o) where
-    was : Was answers m o
-    was = was-accepted answers n m o (sym h.answered ∙ e)
+  module _ (n : Counts) (e : r ≡ Ok n) where
+    was : Was answers n
+    was = was-accepted answers n (sym h.answered ∙ e)
 
-    so-read : ReadSo s d pa' ct' m o
+    so-read : ReadSo s d pa' ct' n.parameters n.contexts
     unfolding parameter_table context_table
     so-read =
         let w = was in
@@ -106,24 +107,23 @@ module _ {s d st pa ct st' pa' ct' : List ℕ} {r : ReadAnswer} (h : Answered s 
           more_contexts = _;
           parameter_rows = rw w.is at h.parameters_filled;
           context_rows = rw (w.is, y.checked) at h.contexts_filled;
-          parameters_are = w.parameters;
-          contexts_are = w.contexts;
+          parameters_are = ap (λ z. z.parameters) w.counts;
+          contexts_are = ap (λ z. z.contexts) w.counts;
         }
 
     -- what was read, in its own words
     is_read : answers ≡ read so-read.request so-read.cursor
     is_read = with-room ∙ so-read.reads
 
-    counted : n ≡ suc (statements_count so-read.request.statements)
-    counted =
-        let f : Accepted n m o ≡ reading_of (read so-read.request so-read.cursor) = sym e ∙ h.answered ∙ ap reading_of is_read in
-        cc
+    counted : n.statements ≡ suc (statements_count so-read.request.statements)
+    unfolding so-read was
+    counted = ap (λ z. z.statements) was.counts
 
     rows_are : st' ≡ padded (request_statement_rows so-read.request) (length st)
     unfolding statement_table
     rows_are = rw is_read at h.statements_filled
 
-    pub rows-read : RowsRead s d pa' ct' st' n m o
+    pub rows-read : RowsRead s d pa' ct' st' n.statements n.parameters n.contexts
     rows-read =
         let so = so-read in
         let t = so.request in
@@ -131,35 +131,35 @@ module _ {s d st pa ct st' pa' ct' : List ℕ} {r : ReadAnswer} (h : Answered s 
         record {
           so = so;
           few = omega (arith, few, counted);
-          told = told_in t n counted so.relations st' _ rows_are;
-          no_more = λ i l. no-from (from_value so.relations t i) _ _ (row-values so.relations t i) (no_code t n counted i l);
+          told = told_in t n.statements counted so.relations st' _ rows_are;
+          no_more = λ i l. no-from (from_value so.relations t i) _ _ (row-values so.relations t i) (no_code t n.statements counted i l);
         }
 
   -- of one that refuses: it refuses an evaluation
-  module _ (x : Refusal) (p : ℕ) (e : r ≡ Refused x p) where
-    refused-so : reading s d ≡ refused x p
-    refused-so = sym with-room ∙ was-refused answers x p (sym h.answered ∙ e)
+  module _ (x : Refused Refusal) (e : r ≡ Err x) where
+    refused-so : reading s d ≡ refused x.refusal x.place
+    refused-so = sym with-room ∙ was-refused answers x (sym h.answered ∙ e)
 
-    pub refuses : (n : ℕ) (images rows runs : List ℕ) → refusal x p ≡ evaluation s d n images rows runs
+    pub refuses : (n : ℕ) (images rows runs : List ℕ) → refusal x.refusal x.place ≡ evaluation s d n images rows runs
     unfolding evaluation
     refuses n images rows runs = rw refused-so
 
-    pub refuses-value : (i : ℕ) (images rows runs : List ℕ) → refusal x p ≡ value_evaluation s d i images rows runs
+    pub refuses-value : (i : ℕ) (images rows runs : List ℕ) → refusal x.refusal x.place ≡ value_evaluation s d i images rows runs
     unfolding value_evaluation
     refuses-value i images rows runs = rw refused-so
 
 -- ---- of a reading that notes the places of the conditions
 
-module _ {s d st pa ct nd st' pa' ct' nd' : List ℕ} {r : ReadAnswer} (h : AnsweredNoting s d st pa ct nd st' pa' ct' nd' r)
+module _ {s d st pa ct nd st' pa' ct' nd' : List ℕ} {r : Result Counts (Refused Refusal)} (h : AnsweredNoting s d st pa ct nd st' pa' ct' nd' r)
     (a : statement_table_numbers ≤ length st) (b : parameter_table_numbers ≤ length pa) (k : context_table_numbers ≤ length ct)
     (l : max_statements ≤ length nd) where
-  pub after-reading : (n m o : ℕ) → r ≡ Accepted n m o → AfterReading s d pa' ct' nd' m o
+  pub after-reading : (n : Counts) → r ≡ Ok n → AfterReading s d pa' ct' nd' n.parameters n.contexts
   unfolding condition_table
-  after-reading n m o e =
-      let so : ReadSo s d pa' ct' m o = so-read h.answered a b k n m o e in
+  after-reading n e =
+      let so : ReadSo s d pa' ct' n.parameters n.contexts = so-read h.answered a b k n e in
       let few = request-conditions-few so.relations so.request so.accepted.allowed in
       let g = so.accepted.allowed.sized.statements in
       let cs = request_conditions so.relations so.request in
-      let w = is_read h.answered a b k n m o e in
+      let w = is_read h.answered a b k n e in
       let z : nd' ≡ sets (replicate (length nd) 0) 0 (map (λ x. x.place) cs) = rw (w, so.accepted.house) at h.conditions_filled in
       record { so = so; noted = λ i. ap (λ q. get_or q i 0) z ∙ noted-any cs (length nd) i (omega (arith, few, g, l)) }

@@ -10,11 +10,11 @@ use lib.Seq.{sets}
 use borrow.Author.Tests.{lt-ltb}
 use mir.Syntax.{w8}
 use mir.Val.{Fits as Fits-width}
+use Rattle.std.specs.Prelude.{Result, Ok, Err}
+use Rattle.wire.specs.Options.{refused_at}
 use Rattle.wire.specs.Limits.{max_contexts, max_parameters}
 use Rattle.wire.specs.Words.{word_at}
 use Rattle.dictionary.specs.Dictionary.{Relation}
-use Rattle.records.specs.declared.proper.RunAnswer.{RunAnswer}
-use Rattle.records.specs.declared.proper.RunAnswer.TheVariants.{AsDue, WrongAt}
 use Rattle.records.specs.Record.{Run, as_due, wrong_at, next_record}
 use Rattle.records.specs.Runs.{proper_run, runs as runs_from}
 use Rattle.records.specs.Internal.Answers.{run_answer}
@@ -29,11 +29,10 @@ use Rattle.runs.specs.Steps.{State, found}
 use Rattle.runs.specs.Filled.{row_relations, filled, Checked}
 use Rattle.runs.proofs.FilledLaws.{as-due}
 use Rattle.kinds.specs.KindAt.{kinds_noted}
-use Rattle.evaluator.specs.declared.prepared.Prepared.TheVariants as Prepared
 use Rattle.evaluator.specs.Slices.{binding_numbers, Fits}
 use Rattle.evaluator.specs.Bound.{Bound, context_table, scanned, rows_bound, kind_table, run_rows, runs_checked, table_bound, RowsLaid}
 
-pub was-wrong : (x : Run) (p : ℕ) → WrongAt p ≡ run_answer x → x ≡ wrong_at p
+pub was-wrong : (x : Run) (p : ℕ) → Err p ≡ run_answer x → x ≡ wrong_at p
 was-wrong as_due p e = absurd-eq (cc)
 was-wrong (wrong_at q) p e = cc
 
@@ -87,7 +86,7 @@ module _ (b : Bound) where
   slots-in = slots_in b.numbers b.relations (min from max_contexts) 0
 
   -- the tables of the code, one after another: zeros, with the contexts in scope, with the rows that were found, with their kinds, and checked
-  module _ {t₀ t₁ t₂ t₃ t₄ : List ℕ} {rows : ℕ} {r : RunAnswer} (zeros : t₀ ≡ replicate binding_numbers 0)
+  module _ {t₀ t₁ t₂ t₃ t₄ : List ℕ} {rows : ℕ} {r : Result (Unit {0}) ℕ} (zeros : t₀ ≡ replicate binding_numbers 0)
       (laid : t₁ ≡ sets t₀ 0 (binding_rows (bound_contexts slots-in b.records 0))) (rows-found : rows ≡ (found_in t₁).scan.rows)
       (table-found : t₂ ≡ (found_in t₁).table) (noted : t₃ ≡ noted_in t₂)
       (checked : Checked b.dictionary b.runs (min rows max_contexts - from) from t₃ t₄ r) where
@@ -114,7 +113,7 @@ module _ (b : Bound) where
         ap (take (rows_bound b * binding_row_numbers)) (checked.table_filled
         ∙ ap₂ (λ n t. filled b.dictionary b.runs (min n max_contexts - from) from 0 t) rows_same kinds-same)
 
-    pub rows-laid : r ≡ AsDue → RowsLaid b t₄ (Prepared.Rows rows)
+    pub rows-laid : r ≡ Ok tt → RowsLaid b t₄ (Ok rows)
     rows-laid e =
         record {
           rows_are = rw (as-due (runs_checked b) (sym e ∙ answer-same)) (ap answered rows_same);
@@ -122,5 +121,5 @@ module _ (b : Bound) where
         }
 
     -- 26
-    pub wrong-runs : (p : ℕ) → r ≡ WrongAt p → RowsLaid b t₄ (Prepared.Refused BadRuns p)
+    pub wrong-runs : (p : ℕ) → r ≡ Err p → RowsLaid b t₄ (Err (refused_at BadRuns p))
     wrong-runs p e = record { rows_are = rw (was-wrong (runs_checked b) p (sym e ∙ answer-same)); table_is = table_same }

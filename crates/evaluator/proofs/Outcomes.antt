@@ -6,7 +6,10 @@ use mathlib.Core.Option.{Option, none, some}
 use native.Mathlib.Omega.{arith}
 use lib.ListN.{length, get_or, get_elem?, take}
 use borrow.Author.Tests.{eq-eqb, ne_eqb}
+use Rattle.grammar.proofs.StepLaws.{absurd-eq}
+use Rattle.std.specs.Prelude.{Option as Maybe, Some}
 use Rattle.wire.specs.Codes as blr
+use Rattle.wire.specs.Options.{option_of}
 use Rattle.wire.specs.Limits.{max_depth, max_request_bytes, statement_row_numbers}
 use Rattle.grammar.specs.declared.Refusal.TheVariants.{NoBoolean}
 use Rattle.grammar.specs.Bytes.{value_bytes, boolean_bytes, request_bytes}
@@ -22,7 +25,7 @@ use Rattle.meaning.specs.Evaluation.{refusal, outcome, value_outcome, on_inputs,
 use Rattle.walking.specs.Walk.{Walked, ended, Sight, value_at, boolean_at}
 use Rattle.walking.specs.Sees.{Sees}
 use Rattle.walking.proofs.Asked.{site, stands_after, allowed-there, walks, never}
-use Rattle.walking.proofs.Asked.{value-site, value-stands-after, value-allowed-there, value-walks, value-never}
+use Rattle.walking.proofs.Asked.{value-site, value-allowed-there, value-walks, value-never}
 use Rattle.surroundings.specs.Bindings.{bound_sight}
 use Rattle.surroundings.specs.Tables.{condition_place}
 use Rattle.surroundings.proofs.Around.{run-due, slots-in-scope, value-run-due, value-slots-in-scope}
@@ -32,11 +35,13 @@ use Rattle.runs.proofs.Conditions.{condition-found, value_found}
 use Rattle.sights.proofs.Conditions.{table_for, condition-sees, value_table_for, value-sees}
 use Rattle.evaluator.specs.AfterReading.{ReadSo, AfterReading, RowsRead, from_place, settled}
 use Rattle.evaluator.specs.Answers.{settled_value}
+use Rattle.evaluator.specs.Bound.{Prepared}
+use Rattle.evaluator.specs.Prepared.{given, Prepares}
 use Rattle.evaluator.proofs.Due.{InputsDue}
 use Rattle.evaluator.proofs.KindsNoted.{few-rows, kinds_there, kinds-are, kinds-count, kinds-relations, table-noted}
 use Rattle.evaluator.proofs.KindsNoted.{few-value-rows, value_kinds_there, value-kinds-are, value-kinds-count, value-kinds-relations, value-table-noted}
 use Rattle.evaluator.proofs.Parts.{Part, table-cut}
-use Rattle.evaluator.proofs.Ready.{Question}
+use Rattle.evaluator.proofs.Ready.{Question, Ready}
 
 -- ---- the walks, and what they come out as
 
@@ -170,7 +175,23 @@ module _ {s d pa ct nd : List ℕ} {m o : ℕ} (w : AfterReading s d pa ct nd m 
       let k = place-asked z in
       (question images rows runs k.0 k.1, k.2)
 
+  -- once all is prepared for it
+  abbrev pub condition-ready : (images rows runs : List ℕ) {p : ℕ} → p ≡ get_or nd n 0 → (p ≡ 0 → ⊥) → {t : List ℕ} {r : Prepared} →
+      Prepares (given s d pa ct m o images rows runs p) t r →
+      Ready w.so images rows runs (condition_walk s) settled (evaluation s d n images rows runs)
+  condition-ready images rows runs {p} e z {t} {r} h =
+      let k = condition-asked images rows runs (λ y. z (e ∙ y)) in
+      record { asked = k.0; place = p; here = e ∙ k.1; table = t; answer = r; prepared = h }
+
 -- ---- a from-value
+
+pub place-told : (x : Option ℕ) (p : ℕ) → option_of x ≡ Some p → x ≡ some p
+place-told none p e = absurd-eq (cc)
+place-told (some q) p e = cc
+
+pub no-place : (x : Option ℕ) (b : Maybe ℕ) → b ≡ option_of x → ((p : ℕ) → b ≡ Some p → ⊥) → x ≡ none
+no-place none b e n = refl
+no-place (some q) b e n = absurd (n q e)
 
 module _ {s d pa ct st : List ℕ} {c m o : ℕ} (w : RowsRead s d pa ct st c m o) (k : ℕ) where
   abbrev asked-value : Option FromValue
@@ -188,25 +209,22 @@ module _ {s d pa ct st : List ℕ} {c m o : ℕ} (w : RowsRead s d pa ct st c m 
   abbrev Told : Option FromValue → Type 0
   Told x = FromTold x (get_or st (k * statement_row_numbers) 0) (get_or st (k * statement_row_numbers + 1) 0)
 
-  from-none : (asked-value ≡ none) → k < c → from_place st k ≡ 0
+  from-none : (asked-value ≡ none) → k < c → from_place st k ≡ none
   unfolding from_place
   from-none e h = rw (ne_eqb (get_or st (k * statement_row_numbers + 1) 0) blr.assignment (subst Told e (w.told k h)))
 
-  from_some : (x : FromValue) → asked-value ≡ some x → k < c → from_place st k ≡ x.place
+  from_some : (x : FromValue) → asked-value ≡ some x → k < c → from_place st k ≡ some x.place
   unfolding from_place
   from_some x e h =
       let q = subst Told e (w.told k h) in
-      rw (eq-eqb (get_or st (k * statement_row_numbers + 1) 0) blr.assignment q.0) (sym q.1)
+      rw (eq-eqb (get_or st (k * statement_row_numbers + 1) 0) blr.assignment q.0) (ap some (sym q.1))
 
-  value-not-zero : (x : FromValue) → asked-value ≡ some x → x.place ≡ 0 → ⊥
-  value-not-zero x e z = omega (arith, value-stands-after s d w.so.relations w.so.request w.so.accepted k x e, z)
-
-  pub no_value : (images rows runs : List ℕ) → k < c → from_place st k ≡ 0 → refusal NoBoolean 0 ≡ value_evaluation s d k images rows runs
+  pub no_value : (images rows runs : List ℕ) → k < c → from_place st k ≡ none → refusal NoBoolean 0 ≡ value_evaluation s d k images rows runs
   no_value images rows runs h z = by asked-value refl
     where
       by : (x : Option FromValue) → asked-value ≡ x → refusal NoBoolean 0 ≡ value_evaluation s d k images rows runs
       by none e = not-asked images rows runs e
-      by (some x) e = absurd (value-not-zero x e (sym (from_some x e h) ∙ z))
+      by (some x) e = absurd-eq (let y = sym (from_some x e h) ∙ z in cc)
 
   at_value : (images rows runs : List ℕ) (x : FromValue) → asked-value ≡ some x →
       value_evaluation s d k images rows runs ≡
@@ -270,13 +288,19 @@ module _ {s d pa ct st : List ℕ} {c m o : ℕ} (w : RowsRead s d pa ct st c m 
       }
 
   -- what stands at the place that the row tells
-  pub value-asked : (images rows runs : List ℕ) → k < c → (from_place st k ≡ 0 → ⊥) →
-      (q : Question w.so images rows runs (value_walk s) settled_value (value_evaluation s d k images rows runs)) ×
-      (from_place st k ≡ q.part.place)
-  value-asked images rows runs h z = by asked-value refl
+  pub value-asked : (images rows runs : List ℕ) → k < c → (p : ℕ) → from_place st k ≡ some p →
+      (q : Question w.so images rows runs (value_walk s) settled_value (value_evaluation s d k images rows runs)) × (p ≡ q.part.place)
+  value-asked images rows runs h p z = by asked-value refl
     where
       by : (x : Option FromValue) → asked-value ≡ x →
-          (q : Question w.so images rows runs (value_walk s) settled_value (value_evaluation s d k images rows runs)) ×
-          (from_place st k ≡ q.part.place)
-      by none e = absurd (z (from-none e h))
-      by (some x) e = (value-question images rows runs x e, from_some x e h)
+          (q : Question w.so images rows runs (value_walk s) settled_value (value_evaluation s d k images rows runs)) × (p ≡ q.part.place)
+      by none e = absurd-eq (let y = sym (from-none e h) ∙ z in cc)
+      by (some x) e = (value-question images rows runs x e, let y = sym z ∙ from_some x e h in cc)
+
+  -- once all is prepared for it
+  abbrev pub value-ready : (images rows runs : List ℕ) → k < c → (p : ℕ) → from_place st k ≡ some p → {t : List ℕ} {r : Prepared} →
+      Prepares (given s d pa ct m o images rows runs p) t r →
+      Ready w.so images rows runs (value_walk s) settled_value (value_evaluation s d k images rows runs)
+  value-ready images rows runs l p e {t} {r} h =
+      let q = value-asked images rows runs l p e in
+      record { asked = q.0; place = p; here = q.1; table = t; answer = r; prepared = h }

@@ -5,14 +5,14 @@ use mathlib.Core.Bool.{cond}
 use mathlib.Core.List.{List}
 use lib.ListN.{length}
 use borrow.Author.Tests.{le-leb, lt-leb, eq-eqb, ne_eqb}
+use Rattle.std.specs.Prelude.{Err}
+use Rattle.wire.specs.Options.{refused_at}
 use Rattle.grammar.specs.declared.Refusal.TheVariants.{TablesTooShort}
 use Rattle.grammar.proofs.StepLaws.{absurd-eq}
 use Rattle.meaning.specs.declared.Truth.{Truth}
 use Rattle.walking.specs.Walk.{Walked, astray}
-use Rattle.values.specs.declared.Tested.{Tested}
-use Rattle.values.specs.Values.{tested}
-use Rattle.evaluator.specs.declared.prepared.Prepared.{Prepared}
-use Rattle.evaluator.specs.declared.prepared.Prepared.TheVariants as Prepared
+use Rattle.values.specs.Values.{Tested, tested}
+use Rattle.evaluator.specs.Bound.{Prepared}
 use Rattle.evaluator.specs.Slices.{Slices, binding_numbers, run_bytes, booleans_of, Fits}
 use Rattle.evaluator.specs.Prepared.{Given, Prepares}
 use Rattle.evaluator.specs.Outside.{fits, TestedAt, PreparesIn}
@@ -35,7 +35,7 @@ module _ (g : Slices) (l p : ℕ) where
   tested-there r h e = e ∙ both-fit h
 
 module _ (g : Given) (room : ℕ) (t : List ℕ) where
-  pub no_table : (room ≡ binding_numbers → ⊥) → PreparesIn room g t (Prepared.Refused TablesTooShort 0)
+  pub no_table : (room ≡ binding_numbers → ⊥) → PreparesIn room g t (Err (refused_at TablesTooShort 0))
   no_table h = record { answered_so = rw (ne_eqb room binding_numbers h); table_is = λ n z. absurd-eq (cc) }
 
   pub any-table : (r : Prepared) → room ≡ binding_numbers → Prepares g t r → PreparesIn room g t r

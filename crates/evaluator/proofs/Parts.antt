@@ -6,7 +6,9 @@ use native.Mathlib.Omega.{arith}
 use lib.Dec.{eqb}
 use lib.ListN.{length, take, replicate, length-append, length-map, length-take}
 use lib.Seq.{sets, length-sets, length-take-le, take_at}
+use Rattle.std.specs.Prelude.{Ok, Err}
 use Rattle.wire.specs.Limits.{max_contexts, max_parameters}
+use Rattle.wire.specs.declared.refused.Refused.{Refused}
 use Rattle.wire.specs.Lists.{sum_of}
 use Rattle.dictionary.specs.Internal.Walk.{relation_at}
 use Rattle.records.specs.Record.{as_due, records}
@@ -33,11 +35,9 @@ use Rattle.runs.proofs.Leads.{seen}
 use Rattle.runs.proofs.FilledLaws.{laid-relations, laid_filled}
 use Rattle.kinds.specs.KindAt.{kinds_noted}
 use Rattle.sights.specs.Seen.{with_kinds}
-use Rattle.evaluator.specs.declared.prepared.Prepared.{Prepared}
-use Rattle.evaluator.specs.declared.prepared.Prepared.TheVariants as Prepared
 use Rattle.evaluator.specs.Slices.{binding_numbers, slices, sight_of, Fits}
 use Rattle.evaluator.specs.AfterReading.{ReadSo}
-use Rattle.evaluator.specs.Bound.{Bound, bound, context_table, scanned, rows_bound, kind_table, runs_checked, table_bound, prepared_in}
+use Rattle.evaluator.specs.Bound.{Bound, Prepared, bound, context_table, scanned, rows_bound, kind_table, runs_checked, table_bound, prepared_in}
 use Rattle.evaluator.specs.Prepared.{Given, given, scope_slots, bound_by, records_checked, prepared_by, Prepares}
 use Rattle.evaluator.proofs.Slots.{slots-own}
 use Rattle.evaluator.proofs.BoundLaws.{bound-fits}
@@ -215,13 +215,13 @@ module _ {s d pa ct : List ℕ} {m o : ℕ} {w : ReadSo s d pa ct m o} (images :
 
   module _ {t : List ℕ} {r : Prepared} (h : Prepares given_for t r) where
     -- 21, 22, 26
-    pub refused-so : {A : Type 0} (x : Refusal) (q : ℕ) → r ≡ Prepared.Refused x q → (rest : Outcome A) →
-        refusal x q ≡ on_inputs p.scope p.due w.request.messages images rows runs rest
-    refused-so x q e rest =
-        inputs-refused p.scope p.due w.request.messages images rows runs all-rows x q rest
+    pub refused-so : {A : Type 0} (x : Refused Refusal) → r ≡ Err x → (rest : Outcome A) →
+        refusal x.refusal x.place ≡ on_inputs p.scope p.due w.request.messages images rows runs rest
+    refused-so x e rest =
+        inputs-refused p.scope p.due w.request.messages images rows runs all-rows x.refusal x.place rest
         (sym prepared-is ∙ sym h.answered_so ∙ ap prepared_in e)
 
-    pub stands-so : (n : ℕ) → r ≡ Prepared.Rows n → Stands t n
+    pub stands-so : (n : ℕ) → r ≡ Ok n → Stands t n
     stands-so n e =
         let f : prepared_in r ≡ answered n = ap prepared_in e in
         let told = sym prepared-is ∙ sym h.answered_so ∙ f in

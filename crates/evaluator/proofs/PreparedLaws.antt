@@ -6,10 +6,10 @@ use native.Mathlib.Omega.{arith}
 use lib.ListN.{length, take, drop, length-map}
 use lib.Seq.{sets, sets-eq, length-sets, take_at}
 use borrow.Author.Tests.{eq-eqb, ne_eqb}
+use Rattle.std.specs.Prelude.{Result, Ok, Err}
 use Rattle.wire.specs.Limits.{max_contexts, max_parameters}
+use Rattle.wire.specs.Options.{refused_at}
 use Rattle.dictionary.specs.Internal.Walk.{relation_at}
-use Rattle.records.specs.declared.proper.RunAnswer.{RunAnswer}
-use Rattle.records.specs.declared.proper.RunAnswer.TheVariants.{AsDue, WrongAt}
 use Rattle.records.specs.Record.{Run, as_due, wrong_at, records as records_from}
 use Rattle.records.specs.Internal.Answers.{run_answer}
 use Rattle.grammar.specs.declared.Refusal.{Refusal}
@@ -21,9 +21,7 @@ use Rattle.surroundings.specs.Parameters.{held_from}
 use Rattle.surroundings.specs.Tables.{numbers_in, Laid}
 use Rattle.surroundings.proofs.Laid.{slots-few}
 use Rattle.runs.proofs.FilledLaws.{as-due}
-use Rattle.evaluator.specs.declared.prepared.Prepared.{Prepared}
-use Rattle.evaluator.specs.declared.prepared.Prepared.TheVariants as Prepared
-use Rattle.evaluator.specs.Bound.{Bound, bound, rows_bound, runs_checked, RowsLaid}
+use Rattle.evaluator.specs.Bound.{Bound, Prepared, bound, rows_bound, runs_checked, RowsLaid}
 use Rattle.evaluator.specs.Prepared.{Given, scope_slots, bound_by, records_checked, prepared_by, Prepares}
 use Rattle.evaluator.proofs.BoundLaws.{was-wrong}
 
@@ -40,7 +38,7 @@ rows_told as_due k n e = cc
 rows_told (wrong_at p) k n e = absurd-eq (cc)
 
 module _ (g : Given) where
-  refuses : (t : List ℕ) (x : Refusal) (p : ℕ) → refusal x p ≡ prepared_by g → Prepares g t (Prepared.Refused x p)
+  refuses : (t : List ℕ) (x : Refusal) (p : ℕ) → refusal x p ≡ prepared_by g → Prepares g t (Err (refused_at x p))
   refuses t x p e = record { answered_so = e; table_is = λ n z. absurd-eq (cc) }
 
   abbrev held : ℕ
@@ -48,7 +46,7 @@ module _ (g : Given) where
 
   -- 21
   pub wrong-images : (t : List ℕ) (total : ℕ) → total ≡ held → (length g.images ≡ total → ⊥) →
-      Prepares g t (Prepared.Refused BadMessageBytes (length g.images))
+      Prepares g t (Err (refused_at BadMessageBytes (length g.images)))
   wrong-images t total h e =
       refuses t BadMessageBytes (length g.images) (rw (ne_eqb (length g.images) held (λ z. e (z ∙ sym h))))
 
@@ -63,6 +61,21 @@ module _ (g : Given) where
     pub laid : Laid (scope_slots g) numbers relations numbers' relations' count
     pub numbers-room : max_contexts ≤ length numbers
     pub relations-room : max_contexts ≤ length relations
+
+  abbrev pub laid-ready : {numbers relations numbers' relations' : List ℕ} {count : ℕ} → length g.images ≡ held →
+      Laid (scope_slots g) numbers relations numbers' relations' count → max_contexts ≤ length numbers → max_contexts ≤ length relations → Ready
+  laid-ready e l a b =
+      record {
+        exact = e;
+        numbers = _;
+        relations = _;
+        numbers' = _;
+        relations' = _;
+        count = _;
+        laid = l;
+        numbers-room = a;
+        relations-room = b;
+      }
 
 module _ {g : Given} (z : Ready g) where
   abbrev numbers-in : List ℕ
@@ -110,19 +123,19 @@ module _ {g : Given} (z : Ready g) where
   handed-same =
       λ i. bound g.request g.dictionary (numbers-are i) (relations-are i) g.parameters g.rows g.records g.runs g.place
 
-  module _ (r : RunAnswer)
+  module _ (r : Result (Unit {0}) ℕ)
       (is : r ≡ run_answer (records_from (map (relation_at g.dictionary) (take z.count z.relations')) g.records 0)) where
     answer-same : r ≡ run_answer (records_checked g)
     answer-same = is ∙ ap (λ xs. run_answer (records_from (map (relation_at g.dictionary) xs) g.records 0)) relations-are
 
     -- 22
-    pub wrong-records : (t : List ℕ) (p : ℕ) → r ≡ WrongAt p → Prepares g t (Prepared.Refused BadRecords p)
+    pub wrong-records : (t : List ℕ) (p : ℕ) → r ≡ Err p → Prepares g t (Err (refused_at BadRecords p))
     wrong-records t p e =
         refuses g t BadRecords p
         (rw (eq-eqb (length g.images) (held g) z.exact, was-wrong (records_checked g) p (sym e ∙ answer-same)))
 
     -- 26, or the rows
-    pub rows-prepared : (t : List ℕ) (q : Prepared) → r ≡ AsDue → RowsLaid handed t q → Prepares g t q
+    pub rows-prepared : (t : List ℕ) (q : Prepared) → r ≡ Ok tt → RowsLaid handed t q → Prepares g t q
     rows-prepared t q e l =
         let k = subst (λ b. RowsLaid b t q) handed-same l in
         record {

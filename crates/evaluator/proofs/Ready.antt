@@ -3,7 +3,9 @@ use Prim.Native.Nat.{ℕ, ◌*◌, ◌≤◌}
 use mathlib.Core.Path.{◌≡◌, sym, ap, subst, ◌∙◌}
 use mathlib.Core.List.{List, ◌++◌}
 use lib.ListN.{take}
+use Rattle.std.specs.Prelude.{Ok, Err}
 use Rattle.wire.specs.Limits.{max_contexts}
+use Rattle.wire.specs.declared.refused.Refused.{Refused}
 use Rattle.grammar.specs.declared.Refusal.{Refusal}
 use Rattle.grammar.specs.Demands.{Octets}
 use Rattle.grammar.specs.Sizes.{parameter_count}
@@ -15,10 +17,9 @@ use Rattle.walking.specs.Walk.{Walked, astray, ended, Sight}
 use Rattle.surroundings.specs.Bindings.{binding_row_numbers, binding_rows, bound_sight}
 use Rattle.runs.specs.Filled.{filled_bindings}
 use Rattle.sights.specs.Seen.{with_kinds}
-use Rattle.evaluator.specs.declared.prepared.Prepared.{Prepared}
-use Rattle.evaluator.specs.declared.prepared.Prepared.TheVariants as Prepared
 use Rattle.evaluator.specs.Slices.{slices, sight_of, Fits}
 use Rattle.evaluator.specs.AfterReading.{ReadSo}
+use Rattle.evaluator.specs.Bound.{Prepared}
 use Rattle.evaluator.specs.Prepared.{given, Prepares}
 use Rattle.evaluator.proofs.Due.{InputsDue, inputs-pass}
 use Rattle.evaluator.proofs.KindsNoted.{contexts_there}
@@ -63,11 +64,11 @@ module _ {s d pa ct : List ℕ} {m o : ℕ} {w : ReadSo s d pa ct m o} {images r
   prepared-here = subst (λ p. Prepares (given s d pa ct m o images rows runs p) z.table z.answer) z.here z.prepared
 
   -- 21, 22, 26
-  pub refused-there : (r : Refusal) (p : ℕ) → z.answer ≡ Prepared.Refused r p → refusal r p ≡ evaluated
-  refused-there r p e =
-      refused-so images runs q.part prepared-here r p e (settle (ended q.result q.after)) ∙ sym q.evaluated-so
+  pub refused-there : (r : Refused Refusal) → z.answer ≡ Err r → refusal r.refusal r.place ≡ evaluated
+  refused-there r e =
+      refused-so images runs q.part prepared-here r e (settle (ended q.result q.after)) ∙ sym q.evaluated-so
 
-  module _ (k : ℕ) (told : z.answer ≡ Prepared.Rows k) where
+  module _ (k : ℕ) (told : z.answer ≡ Ok k) where
     stands : Stands images runs q.part z.table k
     stands = stands-so images runs q.part prepared-here k told
 

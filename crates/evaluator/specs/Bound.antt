@@ -1,8 +1,10 @@
 -- What is worked out once the records are as due: the rows of the contexts in scope and of the any, unique and statistic codes of what is
 -- asked for, and whether the runs are as due.
-use Rattle.std.specs.Prelude.{ℕ, ◌*◌, ◌-◌, min, ◌≡◌, List, length, take, replicate}
+use Rattle.std.specs.Prelude.{ℕ, ◌*◌, ◌-◌, min, ◌≡◌, List, length, take, replicate, Result, Ok, Err}
 use Rattle.std.proofs.lemmas.List.Edits.{sets}
 use Rattle.wire.specs.Limits.{max_parameters, max_contexts}
+use Rattle.wire.specs.declared.refused.Refused.{Refused}
+use Rattle.grammar.specs.declared.Refusal.{Refusal}
 use Rattle.records.specs.Record.{Run}
 use Rattle.records.specs.Runs.{runs as runs_from}
 use Rattle.meaning.specs.Evaluation.{Outcome, answered, refusal, after_runs}
@@ -11,8 +13,6 @@ use Rattle.surroundings.specs.Tables.{slots_in}
 use Rattle.runs.specs.Steps.{State, found}
 use Rattle.runs.specs.Filled.{row_relations, filled}
 use Rattle.kinds.specs.KindAt.{kinds_noted}
-use Rattle.evaluator.specs.declared.prepared.Prepared.{Prepared}
-use Rattle.evaluator.specs.declared.prepared.Prepared.TheVariants as Prepared
 use Rattle.evaluator.specs.Slices.{binding_numbers}
 
 -- the request, the dictionary, the contexts in scope (their numbers and their relations), the table of parameters and how many it has, the
@@ -74,10 +74,13 @@ table_bound b =
     take (rows_bound b * binding_row_numbers)
     (filled b.dictionary b.runs (run_rows b) (length b.numbers) 0 (kind_table b))
 
--- an answer of the code, as an outcome
+-- an answer of the code, and that as an outcome
+abbrev pub Prepared : Type 0
+Prepared = Result ℕ (Refused Refusal)
+
 abbrev pub prepared_in : Prepared → Outcome ℕ
-prepared_in (Prepared.Rows n) = answered n
-prepared_in (Prepared.Refused r p) = refusal r p
+prepared_in (Ok n) = answered n
+prepared_in (Err x) = refusal x.refusal x.place
 
 -- how many rows there are, or 26; and the rows, in the table t
 pub record RowsLaid (b : Bound) (t : List ℕ) (r : Prepared) : Type 0 where

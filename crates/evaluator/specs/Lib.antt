@@ -1,5 +1,4 @@
 -- What the code of evaluation is handed, and what it answers.
-pub mod Forms
 pub mod Kept
 pub mod Slices
 pub mod Answers

@@ -3,12 +3,10 @@ use Rattle.std.specs.Prelude.{ℕ, ◌*◌, ◌≡◌, Bool, false, cond, List, 
 use Rattle.grammar.specs.declared.Refusal.TheVariants.{TablesTooShort}
 use Rattle.meaning.specs.Evaluation.{answered, refusal}
 use Rattle.walking.specs.Walk.{astray}
-use Rattle.values.specs.declared.Tested.{Tested}
-use Rattle.values.specs.Values.{tested}
+use Rattle.values.specs.Values.{Tested, tested}
 use Rattle.surroundings.specs.Bindings.{binding_row_numbers}
-use Rattle.evaluator.specs.declared.prepared.Prepared.{Prepared}
 use Rattle.evaluator.specs.Slices.{Slices, binding_numbers, run_bytes, booleans_of}
-use Rattle.evaluator.specs.Bound.{table_bound, prepared_in}
+use Rattle.evaluator.specs.Bound.{Prepared, table_bound, prepared_in}
 use Rattle.evaluator.specs.Prepared.{Given, bound_by, prepared_by}
 
 -- the bindings and the runs are not too long

@@ -8,8 +8,8 @@ use Rattle.surroundings.specs.Slots.{Slot, slots_from, relations_in}
 use Rattle.surroundings.specs.Parameters.{held_from}
 use Rattle.surroundings.specs.Bindings.{binding_row_numbers}
 use Rattle.surroundings.specs.Tables.{numbers_in}
-use Rattle.evaluator.specs.declared.prepared.Prepared.{Prepared}
-use Rattle.evaluator.specs.Bound.{Bound, bound, rows_bound, runs_checked, table_bound, prepared_in}
+use Rattle.evaluator.specs.declared.prepared.Given.{Given as GivenSlices}
+use Rattle.evaluator.specs.Bound.{Bound, Prepared, bound, rows_bound, runs_checked, table_bound, prepared_in}
 
 -- the request, the dictionary, the tables of parameters and of contexts with so many rows, the images, the records, the runs and the place
 pub record Given : Type 0 where
@@ -38,6 +38,12 @@ given s d parameters contexts rows declared images records runs p =
       runs = runs;
       place = p;
     }
+
+-- what the code is given, and the place
+abbrev pub given_in : GivenSlices → ℕ → Given
+given_in x p =
+    given x.request.now x.dictionary.now x.parameters.now x.contexts.now x.counts.parameters x.counts.contexts x.images.now
+    x.records.now x.runs.now p
 
 -- the contexts in scope at the place
 abbrev pub scope_slots : Given → List Slot

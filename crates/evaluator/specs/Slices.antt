@@ -1,5 +1,5 @@
 -- What the code of the walk is handed, and what it answers.
-use Rattle.std.specs.Prelude.{ℕ, ◌+◌, ◌/◌, ◌≤◌, ◌<◌, min, ◌≡◌, true, List, length}
+use Rattle.std.specs.Prelude.{ℕ, ◌+◌, ◌/◌, ◌≤◌, ◌<◌, min, ◌≡◌, List, length, Option as Maybe, IfSome, Result as RustResult, Ok, Err}
 use Rattle.std.proofs.Math.Option.{Option, some}
 use Rattle.wire.specs.Limits.{max_parameters, parameter_row_numbers}
 use Rattle.wire.specs.declared.codes.ValueCode.{ValueCode}
@@ -8,23 +8,19 @@ use Rattle.wire.specs.declared.codes.Quantifier.{Quantifier}
 use Rattle.wire.specs.declared.codes.Statistic.{Statistic}
 use Rattle.grammar.specs.Tree.{Reference}
 use Rattle.meaning.specs.declared.Truth.{Truth}
-use Rattle.meaning.specs.Data.{Datum, ◌>>=◌, between_of}
+use Rattle.meaning.specs.Data.{Result, is, Datum, ◌>>=◌}
 use Rattle.meaning.specs.Inputs.{Fetched}
 use Rattle.meaning.specs.Meaning.{if_kept}
-use Rattle.walking.specs.Walk.{Walked, at, ◌▷◌, ended, Over, Sight, result_of, such_at, over_at, numbers_at, count_at, value_under, boolean_under, value_at, boolean_at}
-use Rattle.values.specs.declared.Valued.{Valued}
-use Rattle.values.specs.declared.Tested.{Tested}
+use Rattle.walking.specs.Walk.{Walked, at, Over, Sight, result_of, such_at, over_at, numbers_at, count_at, value_under, boolean_under, value_at, boolean_at}
+use Rattle.values.specs.declared.Stop.{Stop}
 use Rattle.values.specs.declared.statistics.Gathered.{Gathered}
-use Rattle.values.specs.declared.statistics.Gathering.{Gathering}
-use Rattle.values.specs.Values.{Lent, lent, valued, tested}
+use Rattle.values.specs.Values.{Lent, Valued, Tested, lent, stopped, valued, tested}
 use Rattle.values.specs.Numbers.{number_of}
-use Rattle.values.specs.Statistics.{gathered_in, gathering}
+use Rattle.values.specs.Statistics.{Gathering, gathered_in, gathering}
 use Rattle.surroundings.specs.Bindings.{place_if, bound_sight, run_of}
 use Rattle.inputs.specs.declared.singles.Two.{Two}
-use Rattle.evaluator.specs.declared.forms.PairCode.{PairCode}
-use Rattle.evaluator.specs.declared.quantifiers.Kept.{Kept}
-use Rattle.evaluator.specs.Forms.{judged}
-use Rattle.evaluator.specs.Kept.{kept_in, kept_over}
+use Rattle.evaluator.specs.declared.tested.Slices.{Slices as LentSlices}
+use Rattle.evaluator.specs.Kept.{Kept, kept_in, kept_over}
 
 -- the request, the dictionary, the rows of the bindings, the rows of the parameters, the images, the records and the runs
 pub record Slices : Type 0 where
@@ -47,6 +43,10 @@ slices s d bindings parameters images records runs =
       records = records;
       runs = runs;
     }
+
+-- those that the code is lent
+abbrev pub slices_in : LentSlices → Slices
+slices_in x = slices x.request.now x.dictionary.now x.bindings.now x.parameters.now x.images.now x.records.now x.runs.now
 
 abbrev pub lent_of : Slices → Lent
 lent_of g = lent g.request g.images g.records g.runs
@@ -104,12 +104,9 @@ counts_of g levels p = count_at (run_there g p) (booleans_from g levels)
 abbrev pub kepts_of : Slices → ℕ → ℕ → Walked ℕ
 kepts_of g levels p = kept_over (run_there g p) (booleans_from g levels)
 
--- a value at a place, and the value after another
+-- a value at a place
 abbrev pub ValueAt : Slices → ℕ → ℕ → Valued → Type 0
 ValueAt g levels p r = valued (lent_of g) r ≡ values_of g levels p
-
-abbrev pub ValueAfter : Slices → ℕ → Valued → Valued → Type 0
-ValueAfter g levels a r = valued (lent_of g) r ≡ (valued (lent_of g) a ▷ λ x q. values_of g levels q)
 
 -- two values stand one after the other from a place on
 pub record InTurn (g : Slices) (levels p : ℕ) (x y : Datum) (e : ℕ) : Type 0 where
@@ -117,12 +114,10 @@ pub record InTurn (g : Slices) (levels p : ℕ) (x y : Datum) (e : ℕ) : Type 0
   pub first : values_of g levels p ≡ at x between
   pub second : values_of g levels between ≡ at y e
 
--- the two numbers after the code at a place, if they were found: the walk gives just these, whatever the parameters and the images are
-abbrev pub TwoAfter : List ℕ → List ℕ → List ℕ → List ℕ → List ℕ → ℕ → ℕ → Two → Type 0
-TwoAfter s d bindings records runs levels p r =
-    r.is ≡ true → (parameters images : List ℕ) →
-    InTurn (slices s d bindings parameters images records runs) levels (p + 1) (number_of r.first r.first_scale)
-    (number_of r.second r.second_scale) r.after
+-- the two numbers after the code at a place, if they were found: the walk gives just these
+abbrev pub TwoAfter : Slices → ℕ → ℕ → Maybe Two → Type 0
+TwoAfter g levels p r =
+    IfSome r (λ t. InTurn g levels (p + 1) (number_of t.first t.first_scale) (number_of t.second t.second_scale) t.after)
 
 -- what stands under a value's code at a place, and the same where that place is before the end
 abbrev pub under_of : Slices → ℕ → ℕ → ValueCode → Walked Datum
@@ -135,24 +130,12 @@ ValueUnder g levels p code r = valued (lent_of g) r ≡ under_of g levels p code
 abbrev pub ValueInside : Slices → ℕ → ℕ → ValueCode → Valued → Type 0
 ValueInside g levels p code r = p < length g.request → ValueUnder g levels p code r
 
--- a boolean at a place, the boolean after another, and what stands under a boolean's code
+-- a boolean at a place, and what stands under a boolean's code
 abbrev pub BooleanAt : Slices → ℕ → ℕ → Tested → Type 0
 BooleanAt g levels p r = tested r ≡ booleans_of g levels p
 
-abbrev pub BooleanAfter : Slices → ℕ → Tested → Tested → Type 0
-BooleanAfter g levels a r = tested r ≡ (tested a ▷ λ x q. booleans_of g levels q)
-
 abbrev pub BooleanUnder : Slices → ℕ → ℕ → BooleanCode → Tested → Type 0
 BooleanUnder g levels p code r = tested r ≡ boolean_under (values_of g levels) (booleans_of g levels) (runs_of g levels p) p code
-
--- a test on two values or three, after its first value, and between after its second
-abbrev pub PairAfter : Slices → ℕ → Valued → PairCode → Tested → Type 0
-PairAfter g levels a code r =
-    tested r ≡ (valued (lent_of g) a ▷ λ x q. values_of g levels q ▷ λ y e. judged (values_of g levels) code x y e)
-
-abbrev pub BetweenAfter : Slices → ℕ → Valued → Valued → Tested → Type 0
-BetweenAfter g levels a b r =
-    tested r ≡ (valued (lent_of g) a ▷ λ x q. valued (lent_of g) b ▷ λ y u. values_of g levels u ▷ λ z e. ended (between_of x y z) e)
 
 -- how many records are kept of the run of the code at a place, and of that of a row
 abbrev pub KeptAt : Slices → ℕ → ℕ → Kept → Type 0
@@ -166,9 +149,14 @@ abbrev pub OverNumbers : Slices → ℕ → ℕ → ℕ → Statistic → Valued
 OverNumbers g levels p row k r =
     valued (lent_of g) r ≡ numbers_at k p (some (run_of g.runs g.bindings row)) (booleans_from g levels) (values_from g levels)
 
+-- an answer of the code without a place, as a result
+abbrev pub truth_in : RustResult Truth Stop → Result Truth
+truth_in (Ok t) = is t
+truth_in (Err x) = result_of (stopped x)
+
 -- the condition of an rse at a place, with the record in turn; 0 says that it has none
-abbrev pub SuchAt : Slices → ℕ → ℕ → Tested → Type 0
-SuchAt g levels such r = result_of (tested r) ≡ such_at (place_if such) (booleans_of g levels)
+abbrev pub SuchAt : Slices → ℕ → ℕ → RustResult Truth Stop → Type 0
+SuchAt g levels such r = truth_in r ≡ such_at (place_if such) (booleans_of g levels)
 
 -- what the record in turn makes of what is gathered, for the statistic at p, whose number stands after its rse
 abbrev pub GatheredWith : Slices → ℕ → ℕ → ℕ → ℕ → Statistic → Gathered → Gathering → Type 0

@@ -4,16 +4,14 @@
 ghost use Rattle.meaning.specs.Evaluated.{Evaluated};
 ghost use Rattle.meaning.specs.ValueEvaluated.{ValueEvaluated};
 
-use grammar::ReadAnswer;
+use crate::prepared::Given;
 use meaning::{Evaluation, ValueEvaluation};
 use reader::{read, read_noting};
 use wire::limits::{CONTEXT_TABLE, MAX_STATEMENTS, PARAMETER_TABLE, STATEMENT_TABLE};
 
 pub mod answers;
 mod conditions;
-mod forms;
 mod gathering;
-mod noted;
 mod numbers;
 mod places;
 pub mod prepared;
@@ -23,6 +21,7 @@ pub mod tested;
 mod walk;
 
 // The condition of a number, from 0 in reading order: what it comes out as with these message images, records and runs, or the refusal and its place.
+// Kept: README and docs name these arguments.
 pub fn evaluate<'a>(
     request: &'a [u8],
     dictionary: &[u8],
@@ -38,34 +37,29 @@ pub fn evaluate<'a>(
     let mut parameters = [0u32; PARAMETER_TABLE];
     let mut contexts = [0u32; CONTEXT_TABLE];
     let mut places = [0u32; MAX_STATEMENTS];
-    let reading = read_noting(
+    let counts = read_noting(
         request,
         dictionary,
         &mut statements,
         &mut parameters,
         &mut contexts,
         &mut places,
-    );
-    match reading {
-        ReadAnswer::Accepted(_, rows, declared) => conditions::evaluate_read(
-            request,
-            dictionary,
-            &parameters,
-            &contexts,
-            &places,
-            rows,
-            declared,
-            number,
-            images,
-            records,
-            runs,
-        ),
-        ReadAnswer::Refused(r, p) => Evaluation::Refused(r, p),
-    }
+    )?;
+    let given = Given {
+        request,
+        dictionary,
+        parameters: &parameters,
+        contexts: &contexts,
+        counts,
+        images,
+        records,
+        runs,
+    };
+    conditions::evaluate_read(given, &places, number)
 }
 
 // The from-value of an assignment, by the row of its statement, from 0: what it comes out as with these message images, records and runs, or
-// the refusal and its place.
+// the refusal and its place. Kept: README and docs name these arguments.
 pub fn evaluate_value<'a>(
     request: &'a [u8],
     dictionary: &[u8],
@@ -80,28 +74,22 @@ pub fn evaluate_value<'a>(
     let mut statements = [0u32; STATEMENT_TABLE];
     let mut parameters = [0u32; PARAMETER_TABLE];
     let mut contexts = [0u32; CONTEXT_TABLE];
-    let reading = read(
+    let counts = read(
         request,
         dictionary,
         &mut statements,
         &mut parameters,
         &mut contexts,
-    );
-    match reading {
-        ReadAnswer::Accepted(count, rows, declared) => conditions::evaluate_row(
-            request,
-            dictionary,
-            &parameters,
-            &contexts,
-            &statements,
-            count,
-            rows,
-            declared,
-            row,
-            images,
-            records,
-            runs,
-        ),
-        ReadAnswer::Refused(r, p) => ValueEvaluation::Refused(r, p),
-    }
+    )?;
+    let given = Given {
+        request,
+        dictionary,
+        parameters: &parameters,
+        contexts: &contexts,
+        counts,
+        images,
+        records,
+        runs,
+    };
+    conditions::evaluate_row(given, &statements, row)
 }

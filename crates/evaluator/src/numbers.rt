@@ -1,35 +1,25 @@
 // Numbers that are found without a walk over the values at their places.
-ghost use Rattle.inputs.specs.Noted.{Noted};
-ghost use Rattle.evaluator.specs.Slices.{TwoAfter};
+ghost use Rattle.evaluator.specs.Slices.{slices_in, TwoAfter};
 
 use crate::places::place_after;
-use inputs::singles::{Two, no_two, two_at};
+use crate::walk::Walk;
+use inputs::singles::{Two, two_at};
 
 // The two numbers that stand after the code at a place, where a level is left for them.
-pub(crate) fn two_after(
-    request: &[u8],
-    dictionary: &[u8],
-    bindings: &[u32],
-    fields: &[u32],
-    records: &[u8],
-    runs: &[u8],
-    levels: usize,
-    at: usize,
-) -> Two
-    ensures { Noted dictionary.now fields.now →
-        TwoAfter request.now dictionary.now bindings.now records.now
-        runs.now levels at result }
+pub(crate) fn two_after(walk: &Walk, levels: usize, at: usize) -> Option<Two>
+    ensures { TwoAfter (slices_in walk.now.slices) levels at result }
 {
     if levels == 0 {
-        return no_two();
+        return None;
     }
+    let x = walk.slices;
     two_at(
-        request,
-        dictionary,
-        bindings,
-        fields,
-        records,
-        runs,
-        place_after(request, at),
+        x.request,
+        x.dictionary,
+        x.bindings,
+        walk.fields,
+        x.records,
+        x.runs,
+        place_after(x.request, at),
     )
 }

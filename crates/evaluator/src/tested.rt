@@ -1,38 +1,57 @@
-// A boolean by its place, for another crate.
-ghost use Rattle.evaluator.specs.Slices.{slices};
+// A boolean by its place, for another crate, and what a walk goes over.
+ghost use Rattle.std.specs.Prelude.{◌≡◌};
+ghost use Rattle.values.specs.Values.{lent_in};
+ghost use Rattle.evaluator.specs.Slices.{slices_in, lent_of};
 ghost use Rattle.evaluator.specs.Outside.{TestedAt};
 
-use crate::noted::boolean_noted;
+use crate::walk::{Walk, noted};
 use surroundings::bindings::BINDING_TABLE;
-use values::Tested;
+use values::{Lent, Stop, Tested};
 
 // The bytes of 32 runs of 65,535 bytes: so many runs can have at most.
 pub const RUN_BYTES: usize = 2097120;
 
+// What a walk goes over: a request, a dictionary, the rows of the bindings and of the parameters, message images, records and runs.
+#[derive(Clone, Copy)]
+pub struct Slices<'a> {
+    pub request: &'a [u8],
+    pub dictionary: &'a [u8],
+    pub bindings: &'a [u32],
+    pub parameters: &'a [u32],
+    pub images: &'a [u8],
+    pub records: &'a [u8],
+    pub runs: &'a [u8],
+}
+
+impl<'a> Slices<'a> {
+    // The slices that texts stand in.
+    pub(crate) fn lent(self) -> Lent<'a>
+        ensures { lent_in result ≡ lent_of (slices_in self.entry) }
+    {
+        Lent {
+            request: self.request,
+            images: self.images,
+            records: self.records,
+            runs: self.runs,
+        }
+    }
+}
+
 // A boolean whose code stands at a place, with so many levels left; stray where the bindings or the runs are too long.
-pub fn tested_at<'a>(
-    request: &'a [u8],
-    dictionary: &[u8],
-    bindings: &[u32],
-    parameters: &[u32],
-    images: &'a [u8],
-    records: &'a [u8],
-    runs: &'a [u8],
-    levels: usize,
-    at: usize,
-) -> Tested
-    ensures { TestedAt
-        (slices request.now dictionary.now bindings.now parameters.now
-        images.now records.now runs.now)
-        levels at result }
+// Kept: levels and place change from call to call, so a struct of the three would be made anew for each: no plainer.
+pub fn tested_at(x: Slices, levels: usize, at: usize) -> Tested
+    ensures { TestedAt (slices_in x.entry) levels at result }
 {
-    if BINDING_TABLE < bindings.len() {
-        return Tested::Stray;
+    if BINDING_TABLE < x.bindings.len() {
+        return Err(Stop::Stray);
     }
-    if RUN_BYTES < runs.len() {
-        return Tested::Stray;
+    if RUN_BYTES < x.runs.len() {
+        return Err(Stop::Stray);
     }
-    boolean_noted(
-        request, dictionary, bindings, parameters, images, records, runs, levels, at,
-    )
+    let fields = noted(x, at);
+    let walk = Walk {
+        slices: x,
+        fields: &fields,
+    };
+    walk.bool_at(levels, at)
 }

@@ -10,48 +10,37 @@ ghost use Rattle.input.specs.Evaluation.{max_input_bytes};
 ghost use Rattle.explain.specs.Program.{Answered};
 
 use explanation::{Explanation, TEST_TABLE};
-use input::{EvaluationInput, MAX_INPUT_BYTES, NUMBER_ENTRY_BYTES};
+use input::{MAX_INPUT_BYTES, NUMBER_ENTRY_BYTES};
 use show::{bad_input, explanation_lines};
 use wire::bytes::word_at;
 use wire::entries::{ENTRY_BODY, MESSAGE_ENTRY};
 
-#[derive(Clone, Copy)]
-enum ProgramAnswer {
-    Is(Explanation),
-    BadInput,
-}
-
-// The answer to an input, with the tests in a lent table. A body starts four bytes after its entry; the messages are joined in a space as
+// The answer to an input, if it is one, with the tests in a lent table. A body starts four bytes after its entry; the messages are joined in a space as
 // long as the longest input.
-fn explain_input(s: &[u8], images: &mut [u8], tests: &mut [u32]) -> ProgramAnswer
+// Kept as a fact, in this file: the room for the joined messages; a struct around one lent slice is no plainer.
+fn explain_input(s: &[u8], images: &mut [u8], tests: &mut [u32]) -> Option<Explanation>
     requires { max_input_bytes ≤ length images.old }
     ensures { Answered s.now tests.old tests.new result }
 {
-    match input::evaluation_entries(s) {
-        EvaluationInput::Entries(request, number, records, runs) => {
-            if input::asks_row(s, number) {
-                return ProgramAnswer::BadInput;
-            }
-            let joined = input::join_bodies(s, number + NUMBER_ENTRY_BYTES, MESSAGE_ENTRY, images);
-            let bytes = &s[request + ENTRY_BODY..number];
-            let dictionary = &s[ENTRY_BODY..request];
-            let asked = word_at(s, number + ENTRY_BODY) as usize;
-            let messages = &images[..joined];
-            let rows = &s[records..runs];
-            let behind = &s[runs..];
-            ProgramAnswer::Is(explanation::explain(
-                bytes, dictionary, asked, messages, rows, behind, tests,
-            ))
-        }
-        EvaluationInput::Bad => ProgramAnswer::BadInput,
+    let at = input::evaluation_entries(s)?;
+    if input::asks_row(s, at.number) {
+        return None;
     }
+    let joined = input::join_bodies(s, at.number + NUMBER_ENTRY_BYTES, MESSAGE_ENTRY, images);
+    let bytes = &s[at.request + ENTRY_BODY..at.number];
+    let dictionary = &s[ENTRY_BODY..at.request];
+    let asked = word_at(s, at.number + ENTRY_BODY) as usize;
+    let messages = &images[..joined];
+    let rows = &s[at.records..at.runs];
+    let behind = &s[at.runs..];
+    Some(explanation::explain(bytes, dictionary, asked, messages, rows, behind, tests))
 }
 
 // The answer to an input, with the tests that were listed.
-fn show_answer(a: ProgramAnswer, tests: &[u32]) {
-    match a {
-        ProgramAnswer::Is(e) => explanation_lines(e, tests),
-        ProgramAnswer::BadInput => bad_input(),
+fn show_answer(answer: Option<Explanation>, tests: &[u32]) {
+    match answer {
+        Some(e) => explanation_lines(e, tests),
+        None => bad_input(),
     }
 }
 

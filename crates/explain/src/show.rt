@@ -1,17 +1,21 @@
-// Lines on standard output, of this program alone. No contract can say what is written, so these functions have none.
+// Lines on standard output, of this program alone: no contract can say what is written, so these functions have none, and a public function
+// of a library has one. So `text`, `refused` and `bad_input` stand in `listing`, `evaluate` and `explain` alike.
 use explanation::Explanation;
-use wire::table::number_at;
+use grammar::Refusal;
+use wire::refused::Refused;
 
+// Kept, in this file: `println!` hands a failed write to its caller, which the programs pass over; with `let _ =` on each line it is no plainer.
+// Kept as twins: `text`, `refused` and `bad_input` stand in three programs, as the head of this file says.
 fn text(s: &[u8]) {
     io::write_all(1, s);
 }
 
 // A refusal's number and place.
-fn refused(n: u32, p: usize) {
+fn refused(e: Refused<Refusal>) {
     text(b"refused ");
-    io::print_decimal(1, n as u64);
+    io::print_decimal(1, u64::from(u32::from(e.refusal)));
     text(b" at ");
-    io::print_decimal(1, p as u64);
+    io::print_decimal(1, e.place as u64);
     text(b"\n");
 }
 
@@ -27,22 +31,15 @@ fn line(place: u32, outcome: u32) {
 
 // A line for each of so many tests: two numbers of the table each, which has room for all.
 fn lines(n: usize, tests: &[u32]) {
-    let mut i: usize = 0;
-    let mut p: usize = 0;
-    while i < n {
-        if tests.len() <= p {
-            return;
-        }
-        line(number_at(tests, p), number_at(tests, p + 1));
-        p += 2;
-        i += 1;
+    for test in tests.chunks_exact(2).take(n) {
+        line(test[0], test[1]);
     }
 }
 
 pub(crate) fn explanation_lines(e: Explanation, tests: &[u32]) {
     match e {
-        Explanation::Tests(n) => lines(n, tests),
-        Explanation::Refused(r, p) => refused(grammar::number_of(r), p),
+        Ok(n) => lines(n, tests),
+        Err(e) => refused(e),
     }
 }
 

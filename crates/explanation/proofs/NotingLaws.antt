@@ -1,74 +1,82 @@
 -- The walk that lays tests in rows: a law for each way through it.
 use Prim.Native.Nat.{ℕ, suc, ◌+◌, ◌-◌, ◌<◌, ◌≤◌}
-use mathlib.Core.Path.{◌≡◌, refl, sym, ap, subst, ◌∙◌}
+use mathlib.Core.Path.{◌≡◌, refl, sym, ap, ap₂, subst, ◌∙◌}
 use mathlib.Core.Bool.{Bool, true, false}
 use mathlib.Core.List.{List, ◌++◌}
+use mathlib.Core.Logic.{◌⊎◌, inl, inr}
 use native.Mathlib.Omega.{arith}
 use lib.Dec.{ltb}
 use lib.ListN.{length, take, set, length-append, length-map, length-set}
 use lib.Seq.{length-take-le, take-suc-set}
 use borrow.Author.Tests.{lt-ltb, le-ltb}
+use Rattle.std.specs.Prelude.{Result, Ok, Err}
 use Rattle.wire.specs.Lists.{among, any_of}
 use Rattle.wire.specs.Words.{byte_at}
-use Rattle.wire.specs.Classes.{foreign, due, classify, boolean_class}
+use Rattle.wire.specs.Classes.{Class, left_out, foreign, due, classify, boolean_class}
 use Rattle.wire.specs.declared.codes.Connective.{Connective}
 use Rattle.wire.specs.declared.codes.BooleanCode.{BooleanCode}
 use Rattle.wire.specs.declared.codes.BooleanCode.TheVariants as Boolean
+use Rattle.wire.specs.declared.codes.Comparison.{Comparison}
+use Rattle.wire.specs.declared.codes.TextSearch.{TextSearch}
+use Rattle.wire.specs.declared.codes.Quantifier.{Quantifier}
 use Rattle.wire.proofs.Past.{past}
-use Rattle.classes.specs.declared.BooleanClass.{BooleanClass}
-use Rattle.classes.specs.declared.BooleanClass.TheVariants as BooleanClass
-use Rattle.classes.specs.Classes.{boolean_class_of}
+use Rattle.classes.specs.declared.NotDue.{NotDue}
+use Rattle.classes.specs.Classes.{class_of}
 use Rattle.grammar.proofs.StepLaws.{absurd-eq}
 use Rattle.meaning.specs.declared.Truth.{Truth}
-use Rattle.meaning.specs.declared.Fault.{Fault}
 use Rattle.meaning.specs.Data.{connected, opposite}
 use Rattle.walking.specs.Walk.{Walked, at, fault, astray, ◌▷◌, on_class, boolean_at}
-use Rattle.values.specs.declared.Position.{Position}
-use Rattle.values.specs.declared.Tested.{Tested}
-use Rattle.values.specs.declared.Tested.TheVariants as Tested
-use Rattle.values.specs.Values.{tested}
+use Rattle.values.specs.declared.Stop.{Stop}
+use Rattle.values.specs.declared.Stop.TheVariants.{Refused, Stray}
+use Rattle.values.specs.Values.{Tested, stopped, tested}
 use Rattle.evaluator.specs.Slices.{Slices, sight_of, booleans_of}
-use Rattle.explanation.specs.declared.nodes.Node.{Node}
-use Rattle.explanation.specs.declared.nodes.Node.TheVariants as Node
 use Rattle.explanation.specs.declared.rows.Noted.{Noted}
 use Rattle.explanation.specs.Explanation.{Explained, settles, needed, joined, turned, as_test}
 use Rattle.explanation.specs.Internal.Walk.{test_at, explain_under, explain_at}
-use Rattle.explanation.specs.Internal.Noting.{packed, rows_of, Keeps, truth_at, settles_at, Notes, node_of, explains, under}
+use Rattle.explanation.specs.Internal.Noting.{packed, rows_of, Keeps, truth_at, Lays, Notes, explains, under}
 use Rattle.explanation.proofs.Link.{explain_below, explain-level, explain-by}
 use Rattle.explanation.proofs.RowLaws.{kept-between, kept-laid}
 
--- ---- nothing is laid
+-- ---- a walk that comes to an end, and one that stops
 
-module _ (w : Walked Explained) (n : ℕ) (t : List ℕ) (room : n ≤ length t) where
-  pub stray-noted : astray ≡ w → Notes w n t t (record { tested = Tested.Stray; rows = n })
-  stray-noted e =
-      record {
-        truth = ap truth_at e;
-        no_fewer = omega arith;
-        within = room;
-        same = refl;
-        laid = λ x q h. let z = e ∙ h in absurd-eq (cc);
-      }
+-- what is explained by a walk that comes out as a truth value, at a place
+pub record Done (w : Walked Explained) (y : Truth) (q : ℕ) : Type 0 where
+  pub is : Explained
+  pub there : w ≡ at is q
+  pub truth : is.truth ≡ y
 
-  pub fault-noted : (f : Fault) (p : ℕ) → fault f p ≡ w → Notes w n t t (record { tested = Tested.Refused f p; rows = n })
-  fault-noted f p e =
-      record {
-        truth = ap truth_at e;
-        no_fewer = omega arith;
-        within = room;
-        same = refl;
-        laid = λ x q h. let z = e ∙ h in absurd-eq (cc);
-      }
+pub done : (w : Walked Explained) {y : Truth} {q : ℕ} → at y q ≡ truth_at w → Done w y q
+done (at x e) {y} {q} h =
+    let z : e ≡ q = cc in
+    let u : x.truth ≡ y = cc in
+    record { is = x; there = ap (at x) z; truth = u }
+done (fault f p) h = absurd-eq (cc)
+done astray h = absurd-eq (cc)
+
+stops : (w : Walked Explained) (s : Stop) (f : Explained → ℕ → Walked Explained) → stopped s ≡ truth_at w → stopped s ≡ truth_at (w ▷ f)
+stops (at x e) (Refused g p) f h = absurd-eq (cc)
+stops (at x e) Stray f h = absurd-eq (cc)
+stops (fault g p) s f h = h
+stops astray s f h = h
+
+module _ {n : ℕ} {t t' : List ℕ} where
+  pub stop-noted : {w : Walked Explained} (s : Stop) (f : Explained → ℕ → Walked Explained) → Notes w n t t' (Err s) →
+      Notes (w ▷ f) n t t' (Err s)
+  stop-noted {w} s f h = record { truth = stops w s f h.truth; same = h.same; lays = tt }
+
+pub stray-noted : (w : Walked Explained) (n : ℕ) (t : List ℕ) → astray ≡ w → Notes w n t t (Err Stray)
+stray-noted w n t e = record { truth = ap truth_at e; same = refl; lays = tt }
 
 -- how many rows are laid
-pub rows_are : {w : Walked Explained} {n : ℕ} {t t' : List ℕ} {r : Noted} → Notes w n t t' r → n ≤ length t → (x : Explained) (e : ℕ) →
-    w ≡ at x e → r.rows ≡ n + length x.tests
-rows_are {w} {n} {t} {t'} {r} h room x e i =
-    let a = length-take-le r.rows t' (omega (arith, h.within, h.same)) in
+pub rows_are : {w : Walked Explained} {n : ℕ} {t t' : List ℕ} {a : Noted} → Notes w n t t' (Ok a) → n ≤ length t → (x : Explained) (e : ℕ) →
+    w ≡ at x e → a.rows ≡ n + length x.tests
+rows_are {w} {n} {t} {t'} {a = r} h room x e i =
+    let l = h.lays in
+    let a = length-take-le r.rows t' (omega (arith, l.within, h.same)) in
     let b = length-take-le n t room in
     let c = length-append (take n t) (rows_of x.tests) in
     let d = length-map x.tests packed in
-    let f = ap length (h.laid x e i) in
+    let f = ap length (l.laid x e i) in
     omega (arith, a, b, c, d, f)
 
 -- ---- one test
@@ -77,36 +85,30 @@ module _ (p n : ℕ) (t : List ℕ) (room : n ≤ length t) where
   abbrev tests-at : Walked Truth → Walked Explained
   tests-at m = test_at (ltb n (length t)) p m
 
-  module _ {walk : Tested} where
-    pub full-noted : {x : Truth} {e : Position} → walk ≡ Tested.Is x e → length t ≤ n →
-        Notes (tests-at (tested walk)) n t t (record { tested = Tested.Stray; rows = n })
-    full-noted {x} {e} i h =
-        stray-noted (tests-at (tested walk)) n t room
-        (sym (ap (λ z. tests-at (tested z)) i ∙ ap (λ free. test_at free p (at x e.at)) (le-ltb n (length t) h)))
+  pub test-stopped : (s : Stop) → Notes (tests-at (stopped s)) n t t (Err s)
+  test-stopped (Refused f q) = record { truth = refl; same = refl; lays = tt }
+  test-stopped Stray = record { truth = refl; same = refl; lays = tt }
 
-    pub test-refused : {f : Fault} {q : ℕ} → walk ≡ Tested.Refused f q →
-        Notes (tests-at (tested walk)) n t t (record { tested = Tested.Refused f q; rows = n })
-    test-refused {f} {q} i = fault-noted (tests-at (tested walk)) n t room f q (sym (ap (λ z. tests-at (tested z)) i))
+  module _ (x : Truth) (e : ℕ) where
+    pub full-noted : length t ≤ n → Notes (tests-at (at x e)) n t t (Err Stray)
+    full-noted h = stray-noted (tests-at (at x e)) n t (sym (ap (λ free. test_at free p (at x e)) (le-ltb n (length t) h)))
 
-    pub test-stray : walk ≡ Tested.Stray → Notes (tests-at (tested walk)) n t t (record { tested = Tested.Stray; rows = n })
-    test-stray i = stray-noted (tests-at (tested walk)) n t room (sym (ap (λ z. tests-at (tested z)) i))
-
-    pub test-noted : {x : Truth} {e : Position} {v : ℕ} {t' : List ℕ} → walk ≡ Tested.Is x e → n < length t →
-        v ≡ packed (record { place = p; outcome = x }) → t' ≡ set t n v →
-        Notes (tests-at (tested walk)) n t t' (record { tested = Tested.Is x e; rows = n + 1 })
-    test-noted {x} {e} {v} {t'} i h k put =
-        let is : at (as_test p x) e.at ≡ tests-at (tested walk) =
-        sym (ap (λ z. tests-at (tested z)) i ∙ ap (λ free. test_at free p (at x e.at)) (lt-ltb n (length t) h)) in
+    pub test-noted : {v : ℕ} {t' : List ℕ} → n < length t → v ≡ packed (record { place = p; outcome = x }) → t' ≡ set t n v →
+        Notes (tests-at (at x e)) n t t' (Ok (record { truth = x; end = e; rows = n + 1 }))
+    test-noted {v} {t'} h k put =
+        let is : at (as_test p x) e ≡ tests-at (at x e) = sym (ap (λ free. test_at free p (at x e)) (lt-ltb n (length t) h)) in
         let one : n + 1 ≡ suc n = omega arith in
         record {
           truth = ap truth_at is;
-          no_fewer = omega arith;
-          within = omega (arith, h);
           same = ap length put ∙ length-set t n v;
-          laid = λ y q j.
-              let z : as_test p x ≡ y = cc in
-              ap (λ m. take m t') one ∙ ap (take (suc n)) (put ∙ ap (set t n) k)
-              ∙ take-suc-set t n (packed (record { place = p; outcome = x })) h ∙ ap (λ v. take n t ++ rows_of v.tests) z;
+          lays = record {
+            no_fewer = omega arith;
+            within = omega (arith, h);
+            laid = λ y q j.
+                let z : as_test p x ≡ y = cc in
+                ap (λ m. take m t') one ∙ ap (take (suc n)) (put ∙ ap (set t n) k)
+                ∙ take-suc-set t n (packed (record { place = p; outcome = x })) h ∙ ap (λ v. take n t ++ rows_of v.tests) z;
+          };
         }
 
 -- ---- a boolean at a place
@@ -121,159 +123,150 @@ boolean-inside s p k e =
     let n : length s ≤ p → ⊥ = λ h. let z = ap boolean_class (past s p h) in let y = zero-boolean in absurd-eq (cc) in
     omega (arith, n)
 
-module _ (g : Slices) (rows : ℕ) where
-  node-is : (l n p : ℕ) (k : BooleanCode) →
-      explain_below (sight_of g) g.bindings rows l g.request n p k ≡ under g rows l n p (node_of k)
-  unfolding explain_under
-  node-is l n p (Boolean.Compare c) = refl
-  node-is l n p (Boolean.Search t) = refl
-  node-is l n p Boolean.Between = refl
-  node-is l n p (Boolean.Connect c) = refl
-  node-is l n p Boolean.Not = refl
-  node-is l n p Boolean.Missing = refl
-  node-is l n p (Boolean.Quantify q) = refl
+-- the class of a code by what the code answers
+class-due : (x : Class BooleanCode) {k : BooleanCode} → Ok k ≡ class_of x → due k ≡ x
+class-due (due u) e = cc
+class-due left_out e = absurd cc
+class-due foreign e = absurd cc
 
-  module _ (l n p : ℕ) (t : List ℕ) (room : n ≤ length t) where
-    pub no-level-noted : l ≡ 0 → Notes (explains g rows l n p) n t t (record { tested = Tested.Stray; rows = n })
-    no-level-noted e =
-        stray-noted (explains g rows l n p) n t room
-        (sym (ap (λ z. explains g rows z n p) e ∙ explain-level (sight_of g) g.bindings rows g.request n p))
+class-not : (x : Class BooleanCode) {z : NotDue} (f : BooleanCode → Walked Explained) → Err z ≡ class_of x → astray ≡ on_class x f
+class-not (due u) f e = absurd cc
+class-not left_out f e = refl
+class-not foreign f e = refl
 
-    module _ {b : ℕ} (x : BooleanClass) (level : l ≡ 0 → ⊥) (is : b ≡ byte_at g.request p) (class : boolean_class_of x ≡ boolean_class b) where
-      by-class : explains g rows l n p ≡ on_class (boolean_class_of x) (λ k. explain_below (sight_of g) g.bindings rows l g.request n p k)
-      by-class = explain-by (sight_of g) g.bindings rows g.request l n p (boolean_class_of x) level (class ∙ ap boolean_class is)
+module _ (g : Slices) (rows l n p : ℕ) (t : List ℕ) where
+  pub no-level-noted : l ≡ 0 → Notes (explains g rows l n p) n t t (Err Stray)
+  no-level-noted e =
+      stray-noted (explains g rows l n p) n t
+      (sym (ap (λ z. explains g rows z n p) e ∙ explain-level (sight_of g) g.bindings rows g.request n p))
 
-      pub left-out-noted : x ≡ BooleanClass.LeftOut → Notes (explains g rows l n p) n t t (record { tested = Tested.Stray; rows = n })
-      left-out-noted e = stray-noted (explains g rows l n p) n t room (sym (by-class ∙ rw e))
+  module _ {b : ℕ} (level : l ≡ 0 → ⊥) (is : b ≡ byte_at g.request p) where
+    by-class : (c : Class BooleanCode) → c ≡ boolean_class (byte_at g.request p) →
+        explains g rows l n p ≡ on_class c (λ k. explain_below (sight_of g) g.bindings rows l g.request n p k)
+    by-class c e = explain-by (sight_of g) g.bindings rows g.request l n p c level e
 
-      pub foreign-noted : x ≡ BooleanClass.Foreign → Notes (explains g rows l n p) n t t (record { tested = Tested.Stray; rows = n })
-      foreign-noted e = stray-noted (explains g rows l n p) n t room (sym (by-class ∙ rw e))
+    pub undue-noted : {z : NotDue} → Err z ≡ class_of (boolean_class b) → Notes (explains g rows l n p) n t t (Err Stray)
+    undue-noted e =
+        stray-noted (explains g rows l n p) n t
+        (class-not (boolean_class b) (λ k. explain_below (sight_of g) g.bindings rows l g.request n p k) e
+        ∙ sym (by-class (boolean_class b) (ap boolean_class is)))
 
-      module _ {k : BooleanCode} (e : x ≡ BooleanClass.Due k) where
-        pub due-inside : p < length g.request
-        due-inside = boolean-inside g.request p k (sym (class ∙ ap boolean_class is) ∙ ap boolean_class_of e)
+    module _ {k : BooleanCode} (e : Ok k ≡ class_of (boolean_class b)) where
+      class-is : due k ≡ boolean_class (byte_at g.request p)
+      class-is = class-due (boolean_class b) e ∙ ap boolean_class is
 
-        pub due-noted : {node : Node} {t' : List ℕ} {r : Noted} → node ≡ node_of k → Notes (under g rows l n p node) n t t' r →
-            Notes (explains g rows l n p) n t t' r
-        due-noted {node} {t'} {r} i h =
-            let f : (k : BooleanCode) → Walked Explained = λ k. explain_below (sight_of g) g.bindings rows l g.request n p k in
-            let z : on_class (boolean_class_of x) f ≡ f k = rw e in
-            subst (λ w. Notes w n t t' r) (ap (under g rows l n p) i ∙ sym (by-class ∙ z ∙ node-is l n p k)) h
+      pub due-inside : p < length g.request
+      due-inside = boolean-inside g.request p k (sym class-is)
 
--- ---- under a code
+      pub due-noted : {t' : List ℕ} {r : Result Noted Stop} → Notes (under g rows l n p k) n t t' r → Notes (explains g rows l n p) n t t' r
+      due-noted {t'} {r} h = subst (λ w. Notes w n t t' r) (sym (by-class (due k) class-is)) h
+
+-- ---- a boolean that is one test
+
+-- every code but or, and and not
+abbrev Single : BooleanCode → Type 0
+Single k =
+    ((x : Comparison) × (k ≡ Boolean.Compare x)) ⊎ (((x : TextSearch) × (k ≡ Boolean.Search x)) ⊎
+    ((k ≡ Boolean.Between) ⊎ ((k ≡ Boolean.Missing) ⊎ ((x : Quantifier) × (k ≡ Boolean.Quantify x)))))
+
+single-is : (g : Slices) (rows l n p : ℕ) (k : BooleanCode) → Single k → under g rows l n p k ≡ test_at (ltb n rows) p (booleans_of g l p)
+unfolding explain_under
+single-is g rows l n p k (inl (x, e)) = rw e
+single-is g rows l n p k (inr (inl (x, e))) = rw e
+single-is g rows l n p k (inr (inr (inl e))) = rw e
+single-is g rows l n p k (inr (inr (inr (inl e)))) = rw e
+single-is g rows l n p k (inr (inr (inr (inr (x, e))))) = rw e
+
+pub single-noted : (g : Slices) (rows l n p : ℕ) (k : BooleanCode) {t t' : List ℕ} {r : Result Noted Stop} (walk : Tested) → Single k →
+    tested walk ≡ booleans_of g l p → Notes (test_at (ltb n rows) p (tested walk)) n t t' r → Notes (under g rows l n p k) n t t' r
+single-noted g rows l n p k {t} {t'} {r} walk s e h =
+    subst (λ w. Notes w n t t' r) (ap (test_at (ltb n rows) p) e ∙ sym (single-is g rows l n p k s)) h
+
+-- ---- a not
 
 module _ {n : ℕ} {t t' : List ℕ} where
-  pub node-noted : (g : Slices) (rows l p : ℕ) (node y : Node) {r : Noted} → node ≡ y → Notes (under g rows l n p y) n t t' r →
-      Notes (under g rows l n p node) n t t' r
-  node-noted g rows l p node y {r} e h = subst (λ z. Notes (under g rows l n p z) n t t' r) (sym e) h
-
-  pub turned-noted : (w : Walked Explained) {a : Noted} {u : Tested} → Notes w n t t' a →
-      tested u ≡ (tested a.tested ▷ (λ x e. at (opposite x) e)) →
-      Notes (w ▷ (λ x e. at (turned x) e)) n t t' (record { tested = u; rows = a.rows })
-  turned-noted (at x q) {a} h k =
+  turned-at : (x : Explained) (e : ℕ) {a : Noted} {u : Truth} → Notes (at x e) n t t' (Ok a) → u ≡ opposite a.truth →
+      Notes (at (turned x) e) n t t' (Ok (record { truth = u; end = a.end; rows = a.rows }))
+  turned-at x e {a} h k =
+      let l = h.lays in
       record {
-        truth = k ∙ ap (λ z. z ▷ (λ y e. at (opposite y) e)) h.truth;
-        no_fewer = h.no_fewer;
-        within = h.within;
+        truth = ap (λ z. at z a.end) k ∙ ap (λ z. z ▷ (λ y e. at (opposite y) e)) h.truth;
         same = h.same;
-        laid = λ y e i. let z : turned x ≡ y = cc in h.laid x q refl ∙ ap (λ v. take n t ++ rows_of v.tests) z;
-      }
-  turned-noted (fault f p) h k =
-      record {
-        truth = k ∙ ap (λ z. z ▷ (λ y e. at (opposite y) e)) h.truth;
-        no_fewer = h.no_fewer;
-        within = h.within;
-        same = h.same;
-        laid = λ y e i. absurd-eq (cc);
-      }
-  turned-noted astray h k =
-      record {
-        truth = k ∙ ap (λ z. z ▷ (λ y e. at (opposite y) e)) h.truth;
-        no_fewer = h.no_fewer;
-        within = h.within;
-        same = h.same;
-        laid = λ y e i. absurd-eq (cc);
+        lays = record {
+          no_fewer = l.no_fewer;
+          within = l.within;
+          laid = λ y q i. let z : turned x ≡ y = cc in l.laid x e refl ∙ ap (λ v. take n t ++ rows_of v.tests) z;
+        };
       }
 
-  -- a test, whose outcome the walk gives
-  pub walked-noted : (g : Slices) (rows l p : ℕ) (walk : Tested) {r : Noted} → tested walk ≡ booleans_of g l p →
-      Notes (test_at (ltb n rows) p (tested walk)) n t t' r → Notes (under g rows l n p Node.Test) n t t' r
-  walked-noted g rows l p walk {r} e h = subst (λ m. Notes (test_at (ltb n rows) p m) n t t' r) e h
-
--- ---- the boolean after another
-
-abbrev follows : (ℕ → Walked Explained) → Tested → Walked Explained
-follows after u = tested u ▷ (λ x q. after q)
-
-module _ (after : ℕ → Walked Explained) (n : ℕ) (t : List ℕ) (first : Tested) where
-  pub after-noted : {x : Truth} {p : Position} {t' : List ℕ} {r : Noted} → first ≡ Tested.Is x p → Notes (after p.at) n t t' r →
-      Notes (follows after first) n t t' r
-  after-noted {t' = t'} {r = r} e h = subst (λ u. Notes (follows after u) n t t' r) (sym e) h
-
-  pub after-refused : {f : Fault} {p : ℕ} → n ≤ length t → first ≡ Tested.Refused f p →
-      Notes (follows after first) n t t (record { tested = Tested.Refused f p; rows = n })
-  after-refused {f} {p} room e = fault-noted (follows after first) n t room f p (sym (ap (follows after) e))
-
-  pub after-stray : n ≤ length t → first ≡ Tested.Stray → Notes (follows after first) n t t (record { tested = Tested.Stray; rows = n })
-  after-stray room e = stray-noted (follows after first) n t room (sym (ap (follows after) e))
+  pub turned-noted : {w : Walked Explained} {a : Noted} {u : Truth} → Notes w n t t' (Ok a) → u ≡ opposite a.truth →
+      Notes (w ▷ (λ x e. at (turned x) e)) n t t' (Ok (record { truth = u; end = a.end; rows = a.rows }))
+  turned-noted {w} {a} {u} h k =
+      let d = done w h.truth in
+      let r : Result Noted Stop = Ok (record { truth = u; end = a.end; rows = a.rows }) in
+      subst (λ z. Notes (z ▷ (λ x e. at (turned x) e)) n t t' r) (sym d.there)
+      (turned-at d.is a.end (subst (λ z. Notes z n t t' (Ok a)) d.there h) k)
 
 -- ---- both sides of an and or an or
 
-module _ (c : Connective) (after : ℕ → ℕ → ℕ → Walked Explained) (n j : ℕ) (t₀ t₁ t₂ t₃ : List ℕ) (a b : Noted) (u : Tested) (f g : Bool)
-    (room : n ≤ length t₀) (h₂ : Notes (tested a.tested ▷ (λ x q. after (length t₁) a.rows q)) a.rows t₁ t₂ b)
-    (f-is : f ≡ settles_at c (tested a.tested)) (g-is : g ≡ settles_at c (tested b.tested))
-    (kept : Keeps f g n a.rows b.rows t₂ t₃ j)
-    (v : tested u ≡ (tested a.tested ▷ (λ x q. tested b.tested ▷ (λ y e. at (connected c x y) e)))) where
+module _ (c : Connective) (after : ℕ → ℕ → ℕ → Walked Explained) {n : ℕ} {t₀ t₁ : List ℕ} {w : Walked Explained} {a : Noted}
+    (room : n ≤ length t₀) (h₁ : Notes w n t₀ t₁ (Ok a)) where
   abbrev both : Walked Explained → Walked Explained
   both w = w ▷ (λ x q. after (length t₀) (n + length x.tests) q ▷ (λ y e. at (joined c x y) e))
 
-  made : {w : Walked Explained} (z : Walked Explained) → Notes w n t₀ t₁ a → tested u ≡ truth_at z →
-      ((x : Explained) (e : ℕ) → z ≡ at x e → take j t₃ ≡ take n t₀ ++ rows_of x.tests) → Notes z n t₀ t₃ (record { tested = u; rows = j })
-  made z h₁ truth laid =
-      let k = kept-between f g n a.rows b.rows h₁.no_fewer h₂.no_fewer in
-      let i = kept.count in
-      record {
-        truth = truth;
-        no_fewer = omega (arith, i, k.0);
-        within = omega (arith, i, k.1, h₂.within, h₁.same);
-        same = kept.same ∙ h₂.same ∙ h₁.same;
-        laid = laid;
-      }
+  first : Done w a.truth a.end
+  first = done w h₁.truth
 
-  module _ (x : Explained) (q : ℕ) (h₁ : Notes (at x q) n t₀ t₁ a) where
-    by_first : tested u ≡ (tested b.tested ▷ (λ y e. at (connected c x.truth y) e))
-    by_first = v ∙ ap (λ z. z ▷ (λ x q. tested b.tested ▷ (λ y e. at (connected c x y) e))) h₁.truth
+  -- the second side, where the first has laid its rows
+  abbrev second : Walked Explained
+  second = after (length t₀) (n + length first.is.tests) a.end
 
-    on-second : (w : Walked Explained) → Notes w a.rows t₁ t₂ b →
-        Notes (w ▷ (λ y e. at (joined c x y) e)) n t₀ t₃ (record { tested = u; rows = j })
+  second-here : {t₂ : List ℕ} {r : Result Noted Stop} → Notes (after (length t₁) a.rows a.end) a.rows t₁ t₂ r → Notes second a.rows t₁ t₂ r
+  second-here {t₂} {r} h =
+      let m : a.rows ≡ n + length first.is.tests = rows_are h₁ room first.is a.end first.there in
+      subst (λ z. Notes z a.rows t₁ t₂ r) (ap₂ (λ k l. after k l a.end) h₁.same m) h
+
+  pub second-stops : {t₂ : List ℕ} (s : Stop) → Notes (after (length t₁) a.rows a.end) a.rows t₁ t₂ (Err s) → Notes (both w) n t₀ t₂ (Err s)
+  second-stops {t₂} s h =
+      let k = second-here h in
+      subst (λ z. Notes (both z) n t₀ t₂ (Err s)) (sym first.there)
+      (record { truth = stops second s (λ y e. at (joined c first.is y) e) k.truth; same = k.same ∙ h₁.same; lays = tt })
+
+  module _ {t₂ t₃ : List ℕ} {b : Noted} {f g : Bool} {u : Truth} {j : ℕ} (h : Notes (after (length t₁) a.rows a.end) a.rows t₁ t₂ (Ok b))
+      (f-is : f ≡ settles c a.truth) (g-is : g ≡ settles c b.truth) (kept : Keeps f g n a.rows b.rows t₂ t₃ j)
+      (v : u ≡ connected c a.truth b.truth) where
+    h₂ : Notes second a.rows t₁ t₂ (Ok b)
+    h₂ = second-here h
+
+    last : Done second b.truth b.end
+    last = done second h₂.truth
+
+    sides-at : Notes (at (joined c first.is last.is) b.end) n t₀ t₃ (Ok (record { truth = u; end = b.end; rows = j }))
     unfolding joined
-    on-second (at y e) s =
-        let first : f ≡ settles c x.truth = f-is ∙ ap (settles_at c) h₁.truth in
-        let second : g ≡ settles c y.truth = g-is ∙ ap (settles_at c) s.truth in
-        let i = kept-laid x.tests y.tests n a.rows b.rows t₀ t₁ t₂ room h₁.no_fewer s.no_fewer
-        (omega (arith, h₁.within, h₁.same)) (h₁.laid x q refl) (s.laid y e refl) f g in
-        made (at (joined c x y) e) h₁ (by_first ∙ ap (λ z. z ▷ (λ y e. at (connected c x.truth y) e)) s.truth)
-        (λ r d m. let z : joined c x y ≡ r = cc in
-        kept.table ∙ i
-        ∙ (λ k. take n t₀ ++ rows_of (needed (first k) (second k) x.tests y.tests))
-        ∙ ap (λ v. take n t₀ ++ rows_of v.tests) z)
-    on-second (fault r p) s =
-        made (fault r p) h₁ (by_first ∙ ap (λ z. z ▷ (λ y e. at (connected c x.truth y) e)) s.truth) (λ r d m. absurd-eq (cc))
-    on-second astray s =
-        made astray h₁ (by_first ∙ ap (λ z. z ▷ (λ y e. at (connected c x.truth y) e)) s.truth) (λ r d m. absurd-eq (cc))
+    sides-at =
+        let l = h₁.lays in
+        let m = h₂.lays in
+        let k = kept-between f g n a.rows b.rows l.no_fewer m.no_fewer in
+        let i = kept.count in
+        let fst : f ≡ settles c first.is.truth = f-is ∙ ap (settles c) (sym first.truth) in
+        let snd : g ≡ settles c last.is.truth = g-is ∙ ap (settles c) (sym last.truth) in
+        let rows = kept-laid first.is.tests last.is.tests n a.rows b.rows t₀ t₁ t₂ room l.no_fewer m.no_fewer (omega (arith, l.within, h₁.same))
+        (l.laid first.is a.end first.there) (m.laid last.is b.end last.there) f g in
+        record {
+          truth = ap (λ z. at z b.end) (v ∙ ap₂ (connected c) (sym first.truth) (sym last.truth));
+          same = kept.same ∙ h₂.same ∙ h₁.same;
+          lays = record {
+            no_fewer = omega (arith, i, k.0);
+            within = omega (arith, i, k.1, m.within, h₁.same);
+            laid = λ r d e.
+                let z : joined c first.is last.is ≡ r = cc in
+                kept.table ∙ rows ∙ (λ x. take n t₀ ++ rows_of (needed (fst x) (snd x) first.is.tests last.is.tests))
+                ∙ ap (λ v. take n t₀ ++ rows_of v.tests) z;
+          };
+        }
 
-    second-here : Notes (after (length t₀) (n + length x.tests) q) a.rows t₁ t₂ b
-    second-here =
-        let m : a.rows ≡ n + length x.tests = rows_are h₁ room x q refl in
-        let k : Notes (after (length t₁) a.rows q) a.rows t₁ t₂ b =
-        subst (λ z. Notes (z ▷ (λ x q. after (length t₁) a.rows q)) a.rows t₁ t₂ b) h₁.truth h₂ in
-        let l : Notes (after (length t₀) a.rows q) a.rows t₁ t₂ b =
-        subst (λ z. Notes (after z a.rows q) a.rows t₁ t₂ b) h₁.same k in
-        subst (λ z. Notes (after (length t₀) z q) a.rows t₁ t₂ b) m l
-
-  pub sides-noted : (w : Walked Explained) → Notes w n t₀ t₁ a → Notes (both w) n t₀ t₃ (record { tested = u; rows = j })
-  sides-noted (at x q) h₁ = on-second x q h₁ (after (length t₀) (n + length x.tests) q) (second-here x q h₁)
-  sides-noted (fault r p) h₁ =
-      made (fault r p) h₁ (v ∙ ap (λ z. z ▷ (λ x q. tested b.tested ▷ (λ y e. at (connected c x y) e))) h₁.truth) (λ r d m. absurd-eq (cc))
-  sides-noted astray h₁ =
-      made astray h₁ (v ∙ ap (λ z. z ▷ (λ x q. tested b.tested ▷ (λ y e. at (connected c x y) e))) h₁.truth) (λ r d m. absurd-eq (cc))
+    pub sides-noted : Notes (both w) n t₀ t₃ (Ok (record { truth = u; end = b.end; rows = j }))
+    sides-noted =
+        let r : Result Noted Stop = Ok (record { truth = u; end = b.end; rows = j }) in
+        subst (λ z. Notes (both z) n t₀ t₃ r) (sym first.there)
+        (subst (λ z. Notes (z ▷ (λ y e. at (joined c first.is y) e)) n t₀ t₃ r) (sym last.there) sides-at)

@@ -9,6 +9,9 @@ use lib.Dec.{leb}
 use lib.ListN.{length, get_or, take, replicate, length-map, length-take, length-replicate}
 use lib.Seq.{sets}
 use borrow.Author.Tests.{leb-true}
+use Rattle.std.specs.Prelude.{Ok, Err, Result as RustResult}
+use Rattle.wire.specs.Options.{refused_at}
+use Rattle.wire.specs.declared.refused.Refused.{Refused}
 use Rattle.wire.specs.Limits.{max_depth}
 use Rattle.grammar.specs.declared.Refusal.{Refusal}
 use Rattle.grammar.specs.declared.Refusal.TheVariants.{TablesTooShort}
@@ -24,28 +27,26 @@ use Rattle.meaning.specs.Runs.{due_runs}
 use Rattle.meaning.specs.Meaning.{boolean_size}
 use Rattle.meaning.specs.Evaluation.{Outcome, answered, refusal, strayed, refusal_of, outcome, on_inputs, evaluation}
 use Rattle.walking.specs.Walk.{Walked, at, fault, astray, ended, Sight}
-use Rattle.values.specs.declared.Position.{Position}
-use Rattle.values.specs.declared.Tested.{Tested}
-use Rattle.values.specs.declared.Tested.TheVariants as Tested
-use Rattle.values.specs.Values.{tested}
+use Rattle.values.specs.declared.Stop.{Stop}
+use Rattle.values.specs.declared.Stop.TheVariants as Stop
+use Rattle.values.specs.Values.{stopped}
 use Rattle.sights.proofs.Conditions.{table_for}
-use Rattle.evaluator.specs.AfterReading.{AfterReading}
-use Rattle.evaluator.specs.declared.prepared.Prepared.{Prepared}
-use Rattle.evaluator.specs.Slices.{Slices, binding_numbers}
-use Rattle.evaluator.specs.Prepared.{Given, Prepares}
+use Rattle.evaluator.specs.AfterReading.{AfterReading, refused_by}
+use Rattle.evaluator.specs.Bound.{Prepared}
+use Rattle.evaluator.specs.Slices.{Slices, slices, binding_numbers}
+use Rattle.evaluator.specs.Prepared.{Given, given, Prepares}
 use Rattle.evaluator.specs.Outside.{PreparesIn}
 use Rattle.evaluator.proofs.OutsideLaws.{table-due}
-use Rattle.evaluator.proofs.Ready.{Question}
-use Rattle.evaluator.proofs.Outcomes.{asked, condition-part, sight_there, condition-seen, place-asked}
-use Rattle.explanation.specs.declared.Explanation.{Explanation}
-use Rattle.explanation.specs.declared.Explanation.TheVariants.{Tests, Refused}
+use Rattle.evaluator.proofs.Ready.{Question, Ready, fits-there, never-there, walk_is}
+use Rattle.evaluator.proofs.Outcomes.{short, asked, condition-part, sight_there, condition-seen, place-asked}
 use Rattle.explanation.specs.declared.rows.Noted.{Noted}
 use Rattle.explanation.specs.Explanation.{Test, Explained, explained, explained_evaluation, in_room, in_table, explanation, test_numbers, test_table}
 use Rattle.explanation.specs.Reason.{most_tests}
-use Rattle.explanation.specs.Promise.{count_of, counted, Listed}
+use Rattle.explanation.specs.Promise.{Explanation, count_of, counted, Listed}
 use Rattle.explanation.specs.Internal.Walk.{explain_at}
-use Rattle.explanation.specs.Internal.Noting.{rows_of, packed, unpacked, truth_at, Notes, RowsListed, settled_in, Lists, RowsEnough, walk_in, Walkable, WalkableIn}
+use Rattle.explanation.specs.Internal.Noting.{rows_of, packed, unpacked, truth_at, Notes, RowsListed, settled_in, Lists, RowsEnough, Room, walk_in, walk_over, Walkable}
 use Rattle.explanation.proofs.Asked.{truth_told, evaluation-told, explained-walks, explained-never}
+use Rattle.explanation.proofs.NotingLaws.{done}
 use Rattle.explanation.proofs.Refused.{refused-too}
 use Rattle.explanation.proofs.RowLaws.{unpacked-rows}
 use Rattle.explanation.proofs.Tables.{numbers-count}
@@ -59,11 +60,6 @@ pub settled-ended : (x : Result Explained) (q : ℕ) → settled_in (ended x q) 
 settled-ended (is a) q = refl
 settled-ended (refused r p) q = refl
 settled-ended stray q = refl
-
-pub was-there : (w : Walked Explained) {y : Truth} {q : ℕ} → at y q ≡ truth_at w → (x : Explained) × (w ≡ at x q)
-was-there (at x e) {q = q} h = (x, let z : e ≡ q = cc in ap (at x) z)
-was-there (fault f p) h = absurd-eq (cc)
-was-there astray h = absurd-eq (cc)
 
 pub was-fault : (w : Walked Explained) {f : Fault} {p : ℕ} → fault f p ≡ truth_at w → settled_in w ≡ refusal (refusal_of f) p
 was-fault (at x e) h = absurd-eq (cc)
@@ -81,16 +77,16 @@ pub same_outcome : {o o' : Outcome Explained} {t t' : List ℕ} {r : Explanation
 same_outcome {t = t} {t' = t'} {r = r} e h = subst (λ o. Lists o t t' r) e h
 
 module _ {t : List ℕ} (zeros : t ≡ replicate (length t) 0) where
-  refused-lists : (o : Outcome Explained) (r : Refusal) (p : ℕ) → in_table (length t) o ≡ refusal r p → Lists o t t (Refused r p)
+  refused-lists : (o : Outcome Explained) (r : Refusal) (p : ℕ) → in_table (length t) o ≡ refusal r p → Lists o t t (Err (refused_at r p))
   unfolding test_table
   refused-lists o r p e = record { counts = sym (ap counted e); filled = zeros ∙ sym (ap (λ z. test_table z (length t)) e) }
 
-  pub outcome-refused : {o : Outcome Explained} {r : Refusal} {p : ℕ} → refusal r p ≡ o → Lists o t t (Refused r p)
+  pub outcome-refused : {o : Outcome Explained} {r : Refusal} {p : ℕ} → refusal r p ≡ o → Lists o t t (Err (refused_at r p))
   outcome-refused {o} {r} {p} e = refused-lists o r p (ap (in_table (length t)) (sym e))
 
   -- where evaluation is refused
   pub evaluation-refused : (s d : List ℕ) (n : ℕ) (images rows runs : List ℕ) (r : Refusal) (p : ℕ) →
-      refusal r p ≡ evaluation s d n images rows runs → Lists (explained_evaluation s d n images rows runs) t t (Refused r p)
+      refusal r p ≡ evaluation s d n images rows runs → Lists (explained_evaluation s d n images rows runs) t t (Err (refused_at r p))
   evaluation-refused s d n images rows runs r p e =
       let o = explained_evaluation s d n images rows runs in
       refused-lists o r p (refused-too (length t) r p o (evaluation-told s d n images rows runs ∙ sym e))
@@ -168,28 +164,48 @@ module _ {s d pa ct nd : List ℕ} {m o : ℕ} (w : AfterReading s d pa ct nd m 
       let k = place-asked w n z in
       (question room enough images rows runs k.0 k.1, k.2)
 
+-- what is prepared there
+module _ {s d pa ct nd : List ℕ} {m o : ℕ} (w : AfterReading s d pa ct nd m o) (n : ℕ) (images rows runs : List ℕ) {p : ℕ} (here : p ≡ get_or nd n 0)
+    (there : p ≡ 0 → ⊥) {numbers : ℕ} {t : List ℕ} {r : Prepared} (prepared : PreparesIn numbers (given s d pa ct m o images rows runs p) t r)
+    (whole : numbers ≡ binding_numbers) where
+  abbrev pub ready-in : (room : ℕ) → RowsEnough s room →
+      Ready w.so images rows runs (explain_walk s room) settled_in (explained_evaluation s d n images rows runs)
+  ready-in room enough =
+      let a = explanation-asked w n room enough images rows runs (λ z. there (here ∙ z)) in
+      record { asked = a.0; place = p; here = here ∙ a.1; table = t; answer = r; prepared = table-whole prepared whole }
+
+  abbrev pub ready : Ready w.so images rows runs (explain_walk s most_tests) settled_in (explained_evaluation s d n images rows runs)
+  ready = ready-in most_tests (omega (arith, short w.so))
+
+  -- what the walk is given
+  pub ready-walks : (k : ℕ) → r ≡ Ok k → Octets runs → {tests : List ℕ} → tests ≡ replicate (length tests) 0 →
+      Walkable (slices s d (take (k * 10) t) (take (m * 6) pa) images rows runs) p tests
+  ready-walks k told o zeros =
+      record {
+        fits = fits-there ready k told o;
+        short = short w.so;
+        never = never-there ready k told;
+        same = λ room enough. walk_is (ready-in room enough) k told ∙ sym (walk_is ready k told);
+        zeros = zeros;
+      }
+
 -- ---- the walk in a table of its own
 
-module _ {w : Walked Explained} {t t₁ : List ℕ} {r : Noted} (h : Notes w 0 t t₁ r) where
-  truth-is : {y : Tested} → r.tested ≡ y → tested y ≡ truth_at w
-  truth-is e = sym (ap tested e) ∙ h.truth
+module _ {w : Walked Explained} {t t₁ : List ℕ} where
+  pub there-listed : {y : Noted} {tests tests' : List ℕ} {a : Explanation} → Notes w 0 t t₁ (Ok y) → tests ≡ replicate (length tests) 0 →
+      RowsListed (take y.rows t₁) tests tests' a → Lists (settled_in w) tests tests' a
+  there-listed {y} h zeros l =
+      let d = done w h.truth in
+      let k = h.lays in
+      walked-lists zeros d.is d.there (k.laid d.is y.end d.there) l
 
-  pub there-listed : {tests tests' : List ℕ} {a : Explanation} {y : Truth} {q : Position} → tests ≡ replicate (length tests) 0 →
-      r.tested ≡ Tested.Is y q → RowsListed (take r.rows t₁) tests tests' a → Lists (settled_in w) tests tests' a
-  there-listed {q = q} zeros e l =
-      let k = was-there w (truth-is e) in
-      walked-lists zeros k.0 k.1 (h.laid k.0 q.at k.1) l
+  pub there-refused : {tests : List ℕ} (x : Stop) → Notes w 0 t t₁ (Err x) → tests ≡ replicate (length tests) 0 → (w ≡ astray → ⊥) →
+      Lists (settled_in w) tests tests (Err (refused_by x))
+  there-refused (Stop.Refused f p) h zeros never = outcome-refused zeros (sym (was-fault w h.truth))
+  there-refused Stop.Stray h zeros never = absurd (never (was-astray w h.truth))
 
-  pub there-refused : {tests : List ℕ} {f : Fault} {p : ℕ} {x : Refusal} → tests ≡ replicate (length tests) 0 →
-      r.tested ≡ Tested.Refused f p → x ≡ refusal_of f → Lists (settled_in w) tests tests (Refused x p)
-  there-refused {p = p} zeros e i =
-      outcome-refused zeros (ap (λ z. refusal z p) i ∙ sym (was-fault w (truth-is e)))
-
-  pub rows_few : (most : ℕ) → length t ≤ most → length (take r.rows t₁) ≤ most
-  rows_few most k = omega (arith, length-take r.rows t₁, h.within, k)
-
-  pub there-astray : r.tested ≡ Tested.Stray → w ≡ astray
-  there-astray e = was-astray w (truth-is e)
+  pub rows_few : {y : Noted} → Notes w 0 t t₁ (Ok y) → (most : ℕ) → length t ≤ most → length (take y.rows t₁) ≤ most
+  rows_few {y} h most k = let l = h.lays in omega (arith, length-take y.rows t₁, l.within, k)
 
 -- ---- a cleared table
 
@@ -213,14 +229,16 @@ module _ (t : List ℕ) {t₁ : List ℕ} (cleared : t₁ ≡ replicate (length 
 
 -- ---- a table of rows that are enough
 
-pub walkable-in : {g : Slices} {p : ℕ} {t : List ℕ} → Walkable g p t → (room : ℕ) → room ≤ most_tests → RowsEnough g.request room →
-    WalkableIn g p (replicate room 0) t
-walkable-in {g} {p} {t} w room few enough =
-    let long : length {A = ℕ} (replicate room 0) ≡ room = length-replicate {A = ℕ} room 0 in
-    record {
-      fits = w.fits;
-      short = w.short;
-      few = omega (arith, long, few);
-      never = λ e. w.never (sym (w.same room enough) ∙ ap (λ k. walk_in g k p) (sym long) ∙ e);
-      zeros = w.zeros;
-    }
+module _ {g : Slices} {p : ℕ} {t : List ℕ} (w : Walkable g p t) (room : ℕ) (enough : RowsEnough g.request room) where
+  long : length {A = ℕ} (replicate room 0) ≡ room
+  long = length-replicate {A = ℕ} room 0
+
+  -- the walk in such a table
+  pub enough-walk : walk_in g (length {A = ℕ} (replicate room 0)) p ≡ walk_over g p
+  enough-walk = ap (λ k. walk_in g k p) long ∙ w.same room enough
+
+  pub enough-room : Room g (replicate room 0) 0
+  enough-room = record { fits = w.fits; short = w.short; rows = omega arith }
+
+  pub enough-few : room ≤ most_tests → length {A = ℕ} (replicate room 0) ≤ most_tests
+  enough-few h = omega (arith, long)

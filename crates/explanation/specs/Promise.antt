@@ -1,15 +1,19 @@
 -- What explanation promises.
-use Rattle.std.specs.Prelude.{ℕ, ◌≡◌, List, length}
+use Rattle.std.specs.Prelude.{ℕ, ◌≡◌, List, length, Result, Ok, Err}
+use Rattle.wire.specs.declared.refused.Refused.{Refused}
+use Rattle.grammar.specs.declared.Refusal.{Refusal}
 use Rattle.grammar.specs.Demands.{Octets}
 use Rattle.meaning.specs.Evaluation.{Outcome, answered, refusal, strayed}
-use Rattle.explanation.specs.declared.Explanation.{Explanation}
-use Rattle.explanation.specs.declared.Explanation.TheVariants.{Tests, Refused}
 use Rattle.explanation.specs.Explanation.{Test, explanation, test_table}
 
--- an answer of the code, as an outcome
+-- what the code answers: how many tests the table lists, or the refusal and its place
+abbrev pub Explanation : Type 0
+Explanation = Result ℕ (Refused Refusal)
+
+-- as an outcome
 abbrev pub count_of : Explanation → Outcome ℕ
-count_of (Tests n) = answered n
-count_of (Refused r p) = refusal r p
+count_of (Ok n) = answered n
+count_of (Err x) = refusal x.refusal x.place
 
 -- how many tests are listed
 abbrev pub counted : Outcome (List Test) → Outcome ℕ

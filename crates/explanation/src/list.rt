@@ -5,6 +5,7 @@ ghost use Rattle.explanation.specs.Internal.Noting.{RowsListed};
 use crate::Explanation;
 use crate::rows::OUTCOMES;
 use grammar::Refusal;
+use wire::refused::Refused;
 use wire::table::put;
 
 // Two numbers a test, place and outcome; 1 at 0 where they do not fit.
@@ -13,14 +14,12 @@ pub(crate) fn list_rows(noted: &[u32], tests: &mut [u32]) -> Explanation
     ensures { RowsListed noted.now tests.old tests.new result }
 {
     if tests.len() < 2 * noted.len() {
-        return Explanation::Refused(Refusal::TablesTooShort, 0);
+        return Err(Refused::new(Refusal::TablesTooShort, 0));
     }
-    let mut i: usize = 0;
-    while i < noted.len() {
+    for i in 0..noted.len() {
         let row = noted[i];
         put(tests, 2 * i, row / OUTCOMES);
         put(tests, 2 * i + 1, row % OUTCOMES);
-        i += 1;
     }
-    Explanation::Tests(noted.len())
+    Ok(noted.len())
 }

@@ -6,8 +6,8 @@ ghost use Rattle.explanation.specs.Internal.Walk.{test_at};
 ghost use Rattle.explanation.specs.Internal.Noting.{packed as packedIn, Notes, Moved, Keeps};
 
 use meaning::Truth;
-use values::Tested;
-use wire::table::{number_at, put};
+use values::{Stop, Tested};
+use wire::table::put;
 
 // How many rows there are: a condition of an accepted request has no more tests.
 pub(crate) const MAX_TESTS: usize = 10922;
@@ -20,13 +20,15 @@ pub(crate) const SHORT_REQUEST: usize = 3072;
 // A row is the place times this, and the number of the outcome.
 pub(crate) const OUTCOMES: u32 = 4;
 
-// What a boolean comes out as, and how many rows are laid up to its end.
+// What a boolean comes out as, the place after it, and how many rows are laid up to its end.
 #[derive(Clone, Copy)]
 pub(crate) struct Noted {
-    pub tested: Tested,
+    pub truth: Truth,
+    pub end: usize,
     pub rows: usize,
 }
 
+// Kept: the number is that of the table that C reads (outcome_number of specs); From<Truth> can stand in meaning alone.
 // The outcome as C has it.
 fn outcome_number(truth: Truth) -> u32
     ensures { (result ≡ outcome_number truth) × (result ≤ 2) }
@@ -43,54 +45,43 @@ fn packed(place: usize, truth: Truth) -> u32
     requires { place < 65536 }
     ensures { result ≡ packedIn (record { place = place; outcome = truth }) }
 {
-    (place as u32) * OUTCOMES + outcome_number(truth)
+    place as u32 * OUTCOMES + outcome_number(truth)
 }
 
-// Lays the test at a place in the next row, if one is free; a refusal passes through.
-pub(crate) fn note_test(walk: Tested, place: usize, noted: &mut [u32], n: usize) -> Noted
+// Kept: rows are numbers in a table of fixed size, since nothing allocates; a row is one number, so that the greatest table is 43 KB.
+// Lays the test at a place in the next row, if one is free.
+pub(crate) fn note_test(
+    walk: Tested,
+    place: usize,
+    noted: &mut [u32],
+    n: usize,
+) -> Result<Noted, Stop>
     requires { (place < 65536) × (n ≤ length noted.old) }
     ensures { Notes (test_at (ltb n (length noted.old)) place (tested walk)) n noted.old noted.new result }
 {
-    match walk {
-        Tested::Is(t, end) => {
-            if noted.len() <= n {
-                return Noted {
-                    tested: Tested::Stray,
-                    rows: n,
-                };
-            }
-            put(noted, n, packed(place, t));
-            Noted {
-                tested: Tested::Is(t, end),
-                rows: n + 1,
-            }
-        }
-        Tested::Refused(f, p) => Noted {
-            tested: Tested::Refused(f, p),
-            rows: n,
-        },
-        Tested::Stray => Noted {
-            tested: Tested::Stray,
-            rows: n,
-        },
+    let (truth, end) = walk?;
+    if noted.len() <= n {
+        return Err(Stop::Stray);
     }
+    put(noted, n, packed(place, truth));
+    Ok(Noted {
+        truth,
+        end,
+        rows: n + 1,
+    })
 }
 
+// Kept: a table of numbers, as above; std does the copying.
 // Moves the rows of a part down to a place before it, and says where they end then.
 fn move_down(noted: &mut [u32], to: usize, start: usize, end: usize) -> usize
     requires { (to ≤ start) × (start ≤ end) × (end ≤ length noted.old) }
     ensures { Moved to start end noted.old noted.new result }
 {
-    let mut i = start;
-    let mut j = to;
-    while i < end {
-        put(noted, j, number_at(noted, i));
-        i += 1;
-        j += 1;
-    }
-    j
+    noted.copy_within(start..end, to);
+    to + (end - start)
 }
 
+// Kept: a table of numbers, as above; each flag says whether a side settles the answer, which settles works out of a truth value.
 // Of two sides, whose rows start at n and m and end at k: those of the first that settles the answer, or those of both; where they end.
 pub(crate) fn keep_needed(
     noted: &mut [u32],

@@ -1,25 +1,20 @@
 -- The values of a sort, and the clauses of an rse.
 use Prim.Native.Nat.{ℕ, zero, suc, ◌+◌, ◌-◌}
 use mathlib.Core.Path.{◌≡◌, refl, sym, ◌∙◌, subst}
-use mathlib.Core.Bool.{Bool, true, false, not as negation}
-use mathlib.Core.List.{List, [], ◌∷◌, ◌++◌, append-nil}
+use mathlib.Core.Bool.{Bool, true, false, not as negation, false≢true}
+use mathlib.Core.List.{List, ◌∷◌, ◌++◌, append-nil}
 use native.Mathlib.Numerals.{sub-one}
 use native.Mathlib.Omega.{arith}
-use lib.Dec.{eqb}
 use lib.ListN.{length}
-use borrow.Author.Tests.{eqb-true, ne_eqb, not-true, not-false}
+use Rattle.std.specs.Prelude.{Result, Ok, Err, None, Some, is_some}
+use Rattle.std.specs.Prelude as std
 use Rattle.wire.specs.Classes.{direction_class, clause_class}
+use Rattle.wire.specs.declared.refused.Refused.{Refused}
 use Rattle.wire.specs.declared.codes.Direction.{Direction}
 use Rattle.wire.specs.declared.codes.ClauseCode.{ClauseCode}
 use Rattle.wire.specs.declared.codes.ClauseCode.TheVariants as Clause
 use Rattle.grammar.specs.declared.Cursor.{Cursor}
 use Rattle.grammar.specs.declared.Refusal.{Refusal}
-use Rattle.grammar.specs.declared.Fit.{Fit}
-use Rattle.grammar.specs.declared.Fit.TheVariants as Fit
-use Rattle.grammar.specs.declared.Step.{Step}
-use Rattle.grammar.specs.declared.Step.TheVariants as Step
-use Rattle.grammar.specs.declared.ByteStep.{ByteStep}
-use Rattle.grammar.specs.declared.ByteStep.TheVariants as ByteStep
 use Rattle.grammar.specs.Tree.{Value, Boolean, no_keys, key, Clauses, no_clauses, such, sorted}
 use Rattle.grammar.specs.Bytes.{value_bytes, boolean_bytes, keys_bytes, key_count}
 use Rattle.grammar.specs.Sizes.{keys_contexts}
@@ -29,34 +24,30 @@ use Rattle.grammar.specs.Conditions.{clauses_conditions}
 use Rattle.grammar.specs.Reader.{Read, read, refused, on_read, Reader, coded}
 use Rattle.grammar.specs.Values.{read_value, read_boolean}
 use Rattle.grammar.specs.Rses.{count_byte, keys, sort, clauses_under, clauses}
-use Rattle.grammar.specs.Internal.Steps.{step_of, byte_step, no_kind}
+use Rattle.grammar.specs.declared.Kind.{Kind}
 use Rattle.grammar.specs.Demands.{Octets}
-use Rattle.grammar.proofs.StepLaws.{step-read, step-refused, byte-read, byte-refused}
 use Rattle.grammar.proofs.Went.{never, undo, same}
 use Rattle.grammar.proofs.SoundValues.{value-sound, boolean-sound}
 use Rattle.grammar.proofs.SoundRses.{ClausesSound, sort-sound, clauses-sound, count-went}
 use Rattle.grammar.proofs.RowCounts.{keys-rows}
 use Rattle.grammar.proofs.Codes.{direction-due, coded-went}
-use Rattle.tables.specs.Tables.{Tables, contexts_alone, Wrote}
+use Rattle.tables.specs.Tables.{Tables, contexts_alone, cursor_after, Wrote}
 use Rattle.tables.specs.Written.{listed}
-use Rattle.tables.proofs.Chains.{by_read, stop, fill, likewise, wrote-moved, stopped}
-use Rattle.expressions.specs.declared.heads.ClauseHead.{ClauseHead}
-use Rattle.expressions.specs.declared.heads.ClauseHead.TheVariants as ClauseHead
-use Rattle.expressions.specs.declared.clauses.Clauses.{Clauses as Answer}
-use Rattle.expressions.specs.Promises.{keys_tables, clauses_places, clause_due, clause_coded, clause_head, MoreClauses}
-use Rattle.expressions.proofs.Codes.{Stands, clause-is, clause-not, clause-stood, clause-stands, clause-twice, clause-refused}
-use Rattle.expressions.proofs.Parts.{Bytes, octets, counted, moved, reached-on, Part, part-read, stops, made_of}
-use Rattle.expressions.proofs.ValueLaws.{ValueWrote, ValuePart, value-part}
+use Rattle.tables.proofs.Chains.{by_read, stop, fill, likewise, wrote-moved, stopped, on-cursor}
+use Rattle.expressions.specs.Promises.{ValueAnswer, Answer, PlaceAnswer, keys_tables, clauses_places, clause_due, clause_coded, MoreClauses}
+use Rattle.expressions.proofs.Codes.{Stands, clause-stood, clause-stands, clause-twice, clause-refused}
+use Rattle.expressions.proofs.Parts.{counted, moved, reached-on, Part, part-read, stops, made_of}
+use Rattle.expressions.proofs.ValueLaws.{ValueWrote, value-part}
 use Rattle.expressions.proofs.BooleanLaws.{BooleanWrote, boolean-part}
 
 -- ---- the values of a sort
 
 module _ (s : List ℕ) (e : Environment) (sc : Scope) (l : ℕ) where
-  abbrev pub KeysWrote : ℕ → Cursor → Tables → Tables → Step → Type 0
-  KeysWrote n c = Wrote (keys n (read_value l e sc) s c) no_kind c (keys_tables e sc c.at)
+  abbrev pub KeysWrote : ℕ → Cursor → Tables → Tables → Answer → Type 0
+  KeysWrote n c = Wrote (keys n (read_value l e sc) s c) cursor_after c (keys_tables e sc c.at)
 
-  abbrev pub SortWrote : Cursor → Tables → Tables → Step → Type 0
-  SortWrote c = Wrote (sort (read_value l e sc) s c) no_kind c (keys_tables e sc (c.at + 1))
+  abbrev pub SortWrote : Cursor → Tables → Tables → Answer → Type 0
+  SortWrote c = Wrote (sort (read_value l e sc) s c) cursor_after c (keys_tables e sc (c.at + 1))
 
   keys-at : (n : ℕ) (c : Cursor) → (n ≡ 0 → ⊥) → keys n (read_value l e sc) s c ≡
       on_read (coded direction_class s c) (λ d q. on_read (read_value l e sc s q) (λ v q₁.
@@ -66,56 +57,51 @@ module _ (s : List ℕ) (e : Environment) (sc : Scope) (l : ℕ) where
   keys-at (suc n) c z = rw (keys, sub-one (suc n))
 
   module _ {n : ℕ} {c : Cursor} {t : Tables} where
-    pub keys_none : n ≡ 0 → KeysWrote n c t t (Step.Next Fit.NoKind c)
+    pub keys_none : n ≡ 0 → KeysWrote n c t t (Ok c)
     unfolding keys keys_rows
     keys_none z = fill {a = no_keys} (rw (z, keys)) refl refl
 
-    module _ (some : n ≡ 0 → ⊥) {d : Step} (i : d ≡ step_of no_kind (coded direction_class s c)) where
-      pub direction-stopped : {m : Refusal} {p : ℕ} → d ≡ Step.Refused m p → KeysWrote n c t t d
-      direction-stopped j = rw j (stop (keys-at n c some ∙ rw (step-refused no_kind (coded direction_class s c) (sym j ∙ i))))
+    module _ (some : n ≡ 0 → ⊥) where
+      pub direction-stopped : {y : Refused Refusal} → coded direction_class s c ≡ refused y.refusal y.place → KeysWrote n c t t (Err y)
+      direction-stopped i = stop (keys-at n c some ∙ rw i)
 
-      module _ {f : Fit} {q : Cursor} (j : d ≡ Step.Next f q) {a : Step} {t₁ : Tables} (w : ValueWrote s e sc l q t t₁ a) where
-        pub key-stopped : {m : Refusal} {p : ℕ} → a ≡ Step.Refused m p → KeysWrote n c t t₁ a
-        key-stopped y = stops w y (λ z. keys-at n c some ∙ rw ((step-read no_kind (coded direction_class s c) (sym j ∙ i)).1, z))
+      module _ {o : Direction} {q : Cursor} (i : coded direction_class s c ≡ read o q) {a : ValueAnswer} {t₁ : Tables}
+          (w : ValueWrote s e sc l q t t₁ a) where
+        pub key-stopped : {y : Refused Refusal} → a ≡ Err y → KeysWrote n c t t₁ (Err y)
+        key-stopped y = stops w y (λ z. keys-at n c some ∙ rw (i, z))
 
-        pub keys-wrote : Bytes s → {x : Fit} {q₁ : Cursor} {t₂ : Tables} {r : Step} → a ≡ Step.Next x q₁ → KeysWrote (n - 1) q₁ t₁ t₂ r →
-            KeysWrote n c t t₂ r
+        pub keys-wrote : Octets s → {x : std.Option Kind} {q₁ : Cursor} {t₂ : Tables} {r : Answer} → a ≡ Ok (x, q₁) →
+            KeysWrote (n - 1) q₁ t₁ t₂ r → KeysWrote n c t t₂ r
         unfolding keys_rows
-        keys-wrote known {x} {q₁} {t₂} {r} y w₁ =
-            value-part s e sc l known w y (λ v. after v _ (step-read no_kind (coded direction_class s c) (sym j ∙ i)).1)
-          where
-            after : ValuePart s e sc l q t t₁ x q₁ → (o : Direction) → coded direction_class s c ≡ read o q → KeysWrote n c t t₂ r
-            after v o z =
-                let g = coded-went direction-due s c z in
-                let first : q.at ≡ c.at + 1 = g.place in
-                let there : q₁.at ≡ c.at + 1 + length (value_bytes v.part) = omega (arith, first, v.place) in
-                likewise (keys-at n c some ∙ rw (z, v.is)) (made_of (reached-on (moved (counted g)) v.reached) (key o v.part)
-                (λ ks. refl) (λ ks. rw (first, there)) w₁)
+        keys-wrote known {x} {q₁} y w₁ = value-part s e sc l known w y (λ v fit.
+            let g = coded-went direction-due s c i in
+            let first : q.at ≡ c.at + 1 = g.place in
+            let there : q₁.at ≡ c.at + 1 + length (value_bytes v.part) = omega (arith, first, v.place) in
+            likewise (keys-at n c some ∙ rw (i, v.is)) (made_of (reached-on (moved (counted g)) v.reached) (key o v.part)
+            (λ ks q. refl) (λ ks. rw (first, there)) w₁))
 
   -- the count before them
-  module _ {c : Cursor} {o : ByteStep} (i : o ≡ byte_step (count_byte s c)) {t t' : Tables} where
-    pub sort-wrote : {n : ℕ} {q : Cursor} {r : Step} → o ≡ ByteStep.Is n q → KeysWrote n q t t' r → SortWrote c t t' r
+  module _ {c : Cursor} {t t' : Tables} where
+    pub sort-wrote : {n : ℕ} {q : Cursor} {r : Answer} → count_byte s c ≡ read n q → KeysWrote n q t t' r → SortWrote c t t' r
     unfolding sort
-    sort-wrote {n} {q} {r} j w =
-        let h = byte-read (count_byte s c) (sym j ∙ i) in
+    sort-wrote {n} {q} {r} h w =
         let g = (count-went s c h).0 in
         let there : q.at ≡ c.at + 1 = g.place in
         likewise (rw h) (wrote-moved (counted g)
-        (subst (λ p. Wrote (keys n (read_value l e sc) s q) no_kind q (keys_tables e sc p) t t' r) there w))
+        (subst (λ p. Wrote (keys n (read_value l e sc) s q) cursor_after q (keys_tables e sc p) t t' r) there w))
 
-    pub sort-stopped : {m : Refusal} {p : ℕ} → o ≡ ByteStep.Refused m p → SortWrote c t t' (Step.Refused m p)
+    pub sort-stopped : {y : Refused Refusal} → count_byte s c ≡ refused y.refusal y.place → SortWrote c t t' (Err y)
     unfolding sort
-    sort-stopped j = stop (rw (byte-refused (count_byte s c) (sym j ∙ i)))
+    sort-stopped i = stop (rw i)
 
-  abbrev SortPart : Cursor → Tables → Tables → Fit → Cursor → Type 0
-  SortPart c =
-      Part (sort (read_value l e sc) s c) no_kind (λ ks. key_count ks ∷ keys_bytes ks) (λ ks. keys_rows e.relations sc ks (c.at + 1)) c
+  abbrev SortPart : Cursor → Tables → Tables → Cursor → Type 0
+  SortPart c = Part (sort (read_value l e sc) s c) (λ ks. key_count ks ∷ keys_bytes ks) (λ ks. keys_rows e.relations sc ks (c.at + 1)) c
 
-  sort-part : Bytes s → {c q : Cursor} {t t' : Tables} {r : Step} {f : Fit} → SortWrote c t t' r → r ≡ Step.Next f q →
-      {G : Type 0} → (SortPart c t t' f q → G) → G
-  sort-part known {c} {q} = part-read keys_contexts
-      (λ ks i. (sort-sound l e sc s (read_value l e sc) (value-sound s (octets s known) e sc l) c ks q i).went)
-      (λ ks. keys-rows e.relations sc ks (c.at + 1))
+  sort-part : Octets s → {c q : Cursor} {t t' : Tables} {r : Answer} → SortWrote c t t' r → r ≡ Ok q →
+      {G : Type 0} → (SortPart c t t' q → G) → G
+  sort-part known {c} {q} w i g = on-cursor w i (λ a u j.
+      g (part-read keys_contexts a u (sort-sound l e sc s (read_value l e sc) (value-sound s known e sc l) c a q u).went
+      (keys-rows e.relations sc a (c.at + 1)) j))
 
 -- ---- clauses
 
@@ -147,108 +133,103 @@ pub reads-sound : (s : List ℕ) → Octets s → (e : Environment) (sc : Scope)
 reads-sound s known e sc l c = clauses-sound l e sc s (read_boolean l e sc) (read_value l e sc) (boolean-sound s known e sc l)
     (value-sound s known e sc l) 3 false false c
 
--- a place that is not 0
-there-is : (p : ℕ) → (p ≡ 0 → ⊥) → listed p ≡ p ∷ []
-there-is zero h = absurd (h refl)
-there-is (suc p) h = refl
-
 -- clauses that were refused
-more-stopped : {x : Read Clauses} {place : ℕ} {e : Environment} {sc : Scope} {c : Cursor} {ct ct' : List ℕ} {m : Refusal} {p : ℕ} {a : Step}
-    {r : Answer} →
-    x ≡ refused m p → a ≡ Step.Refused m p → r ≡ record { step = a; such = 0 } → MoreClauses x place e sc c ct ct' r
-more-stopped h i j = rw (j, i) (record { wrote = stop h; told = λ cs q y. never (sym h ∙ y) })
+more-stopped : {x : Read Clauses} {such : std.Option ℕ} {e : Environment} {sc : Scope} {c : Cursor} {ct ct' : List ℕ} {y : Refused Refusal} →
+    x ≡ refused y.refusal y.place → MoreClauses x such e sc c ct ct' (Err y)
+more-stopped h = record { place = None; wrote = stop h; told = λ cs q i. never (sym h ∙ i) }
 
--- after a boolean at a place, or 0, and after a sort or none, by the code of the next clause
-module _ (s : List ℕ) (e : Environment) (sc : Scope) (l n place : ℕ) (t : Bool) (c : Cursor) where
-  abbrev more : ℕ → ℕ → Bool → Cursor → Read Clauses
-  more n place t c = clauses n (read_boolean l e sc) (read_value l e sc) (negation (eqb place 0)) t s c
+-- after a boolean at a place, or none, and after a sort or none, by what was read of the code of the next clause
+module _ (s : List ℕ) (e : Environment) (sc : Scope) (l n : ℕ) (place : std.Option ℕ) (t : Bool) (c : Cursor) where
+  abbrev more : ℕ → std.Option ℕ → Bool → Cursor → Read Clauses
+  more n place t c = clauses n (read_boolean l e sc) (read_value l e sc) (is_some place) t s c
 
   abbrev under : ClauseCode → Cursor → Read Clauses
   under k q = clauses_under (λ b t. clauses (n - 1) (read_boolean l e sc) (read_value l e sc) b t) (read_boolean l e sc) (read_value l e sc)
-      (negation (eqb place 0)) t c.at k s q
+      (is_some place) t c.at k s q
 
-  module _ {h : ClauseHead} (u : h ≡ clause_head (clause_coded n (negation (eqb place 0)) t s c)) where
-    pub more-refused : {m : Refusal} {p : ℕ} {ct ct' : List ℕ} {r : Answer} → h ≡ ClauseHead.Refused m p →
-        r ≡ record { step = Step.Refused m p; such = 0 } → MoreClauses (more n place t c) place e sc c ct ct' r
-    more-refused i j = more-stopped (clauses-coded (read_boolean l e sc) (read_value l e sc) s c n (negation (eqb place 0)) t ∙
-        rw (clause-not (clause_coded n (negation (eqb place 0)) t s c) (sym u ∙ i))) refl j
+  pub more-refused : {y : Refused Refusal} {ct ct' : List ℕ} → clause_coded n (is_some place) t s c ≡ refused y.refusal y.place →
+      MoreClauses (more n place t c) place e sc c ct ct' (Err y)
+  more-refused i = more-stopped (clauses-coded (read_boolean l e sc) (read_value l e sc) s c n (is_some place) t ∙ rw i)
 
-    module _ {k : ClauseCode} {q : Cursor} (i : h ≡ ClauseHead.Is k q) where
-      stood : Stands n s c q × (clause_due k (negation (eqb place 0)) t ≡ true)
-      stood = clause-stood n (negation (eqb place 0)) t s c u i
+  module _ {k : ClauseCode} {q : Cursor} (i : clause_coded n (is_some place) t s c ≡ read k q) where
+    stood : Stands n s c q × (clause_due k (is_some place) t ≡ true)
+    stood = clause-stood n (is_some place) t s c i
 
-      more-at : (k' : ClauseCode) → k ≡ k' → more n place t c ≡ under k' q
-      more-at k' ke = clauses-coded (read_boolean l e sc) (read_value l e sc) s c n (negation (eqb place 0)) t ∙
-          rw (clause-is (clause_coded n (negation (eqb place 0)) t s c) (sym u ∙ i), ke)
+    more-at : (k' : ClauseCode) → k ≡ k' → more n place t c ≡ under k' q
+    more-at k' ke = clauses-coded (read_boolean l e sc) (read_value l e sc) s c n (is_some place) t ∙ rw (i, ke)
 
-      pub more-end : {ct : List ℕ} {r : Answer} → k ≡ Clause.End → r ≡ record { step = Step.Next Fit.NoKind q; such = place } →
-          MoreClauses (more n place t c) place e sc c ct ct r
-      unfolding clauses_under clauses_rows clauses_conditions
-      more-end ke j = rw j (record {
-        wrote = fill {a = no_clauses} (more-at Clause.End ke) refl refl;
-        told = λ cs q y. same (sym (more-at Clause.End ke) ∙ y) (λ cs q. listed place ≡ listed place ++ clauses_places sc cs c.at)
-            (sym (append-nil (listed place)));
-      })
+    pub more-end : {ct : List ℕ} → k ≡ Clause.End → MoreClauses (more n place t c) place e sc c ct ct (Ok (place, q))
+    unfolding clauses_under clauses_rows clauses_conditions
+    more-end ke = record {
+      place = place;
+      wrote = fill {a = no_clauses} (more-at Clause.End ke) refl refl;
+      told = λ cs q y. same (sym (more-at Clause.End ke) ∙ y) (λ cs q. listed place ≡ listed place ++ clauses_places sc cs c.at)
+          (sym (append-nil (listed place)));
+    }
 
-      module _ (ke : k ≡ Clause.Boolean) where
-        boolean-due : negation (negation (eqb place 0)) ≡ true
-        boolean-due = rw ke at stood.1
+    module _ (ke : k ≡ Clause.Boolean) where
+      boolean-due : negation (is_some place) ≡ true
+      boolean-due = rw ke at stood.1
 
-        boolean-at : more n place t c ≡ on_read (read_boolean l e sc s q) (λ b q₁.
-            on_read (clauses (n - 1) (read_boolean l e sc) (read_value l e sc) true t s q₁) (λ cs q₂. read (such b cs) q₂))
-        unfolding clauses_under
-        boolean-at = more-at Clause.Boolean ke ∙ rw boolean-due
+      none-stood : place ≡ None
+      none-stood = by place boolean-due
+        where
+          by : (o : std.Option ℕ) → negation (is_some o) ≡ true → o ≡ None
+          by None h = refl
+          by (Some p) h = absurd (false≢true h)
 
-        module _ {ct ct₁ : List ℕ} {a : Step} (w : BooleanWrote s e sc l q (contexts_alone ct) (contexts_alone ct₁) a) where
-          pub boolean-stops : {m : Refusal} {p : ℕ} {r : Answer} → a ≡ Step.Refused m p → r ≡ record { step = a; such = 0 } →
-              MoreClauses (more n place t c) place e sc c ct ct₁ r
-          boolean-stops y j = more-stopped (boolean-at ∙ rw (stopped w y)) y j
+      boolean-at : more n place t c ≡ on_read (read_boolean l e sc s q) (λ b q₁.
+          on_read (clauses (n - 1) (read_boolean l e sc) (read_value l e sc) true t s q₁) (λ cs q₂. read (such b cs) q₂))
+      unfolding clauses_under
+      boolean-at = more-at Clause.Boolean ke ∙ rw boolean-due
 
-          pub more-boolean : Bytes s → {f : Fit} {q₁ : Cursor} {ct₂ : List ℕ} {r : Answer} → a ≡ Step.Next f q₁ →
-              MoreClauses (more (n - 1) q.at t q₁) q.at e sc q₁ ct₁ ct₂ r → MoreClauses (more n place t c) place e sc c ct ct₂ r
-          unfolding clauses_rows clauses_conditions
-          more-boolean known {f} {q₁} {ct₂} {r} y w₁ = boolean-part s e sc l known w y (λ v.
-              let first = stood.0.place in
-              let there : q₁.at ≡ c.at + 1 + length (boolean_bytes v.part) = omega (arith, first, v.place) in
-              let some : q.at ≡ 0 → ⊥ = λ z. absurd (omega (arith, z, first)) in
-              let none : place ≡ 0 = eqb-true place 0 (not-false (eqb place 0) (not-true (negation (eqb place 0)) boolean-due)) in
-              let w₂ = rw (ne_eqb q.at 0 some) at w₁ in
-              let whole : more n place t c ≡
-              on_read (clauses (n - 1) (read_boolean l e sc) (read_value l e sc) true t s q₁) (λ cs q₂. read (such v.part cs) q₂) =
-              boolean-at ∙ rw v.is in
-              record {
-                wrote = likewise whole (made_of (reached-on (moved stood.0.counts) v.reached) (such v.part) (λ cs. refl)
-                    (λ cs. rw (first, there)) w₂.wrote);
-                told = λ cs q y. undo (clauses (n - 1) (read_boolean l e sc) (read_value l e sc) true t s q₁) _ (sym whole ∙ y) (λ cs₁ q₂ o k.
-                    same k (λ cs q. listed r.such ≡ listed place ++ clauses_places sc cs c.at)
-                    (w₂.told cs₁ q₂ o ∙ rw (there-is _ some, none, first, there)));
-              })
+      module _ {ct ct₁ : List ℕ} {a : Answer} (w : BooleanWrote s e sc l q (contexts_alone ct) (contexts_alone ct₁) a) where
+        pub boolean-stops : {y : Refused Refusal} → a ≡ Err y → MoreClauses (more n place t c) place e sc c ct ct₁ (Err y)
+        boolean-stops y = more-stopped (boolean-at ∙ rw (stopped w y))
 
-      module _ (ke : k ≡ Clause.Sort) where
-        sort-due : negation t ≡ true
-        sort-due = rw ke at stood.1
+        pub more-boolean : Octets s → {q₁ : Cursor} {ct₂ : List ℕ} {r : PlaceAnswer} → a ≡ Ok q₁ →
+            MoreClauses (more (n - 1) (Some q.at) t q₁) (Some q.at) e sc q₁ ct₁ ct₂ r → MoreClauses (more n place t c) place e sc c ct ct₂ r
+        unfolding clauses_rows clauses_conditions
+        more-boolean known {q₁} {ct₂} {r} y w₁ = boolean-part s e sc l known w y (λ v.
+            let first = stood.0.place in
+            let there : q₁.at ≡ c.at + 1 + length (boolean_bytes v.part) = omega (arith, first, v.place) in
+            let whole : more n place t c ≡
+            on_read (clauses (n - 1) (read_boolean l e sc) (read_value l e sc) true t s q₁) (λ cs q₂. read (such v.part cs) q₂) =
+            boolean-at ∙ rw v.is in
+            record {
+              place = w₁.place;
+              wrote = likewise whole (made_of (reached-on (moved stood.0.counts) v.reached) (such v.part) (λ cs q. refl)
+                  (λ cs. rw (first, there)) w₁.wrote);
+              told = λ cs q y. undo (clauses (n - 1) (read_boolean l e sc) (read_value l e sc) true t s q₁) _ (sym whole ∙ y) (λ cs₁ q₂ o k.
+                  same k (λ cs q. listed w₁.place ≡ listed place ++ clauses_places sc cs c.at)
+                  (w₁.told cs₁ q₂ o ∙ rw (none-stood, first, there)));
+            })
 
-        sort-at : more n place t c ≡ on_read (sort (read_value l e sc) s q) (λ ks q₁.
-            on_read (more (n - 1) place true q₁) (λ cs q₂. read (sorted ks cs) q₂))
-        unfolding clauses_under
-        sort-at = more-at Clause.Sort ke ∙ rw sort-due
+    module _ (ke : k ≡ Clause.Sort) where
+      sort-due : negation t ≡ true
+      sort-due = rw ke at stood.1
 
-        module _ {ct ct₁ : List ℕ} {a : Step} (w : SortWrote s e sc l q (contexts_alone ct) (contexts_alone ct₁) a) where
-          pub sort-stops : {m : Refusal} {p : ℕ} {r : Answer} → a ≡ Step.Refused m p → r ≡ record { step = a; such = 0 } →
-              MoreClauses (more n place t c) place e sc c ct ct₁ r
-          sort-stops y j = more-stopped (sort-at ∙ rw (stopped w y)) y j
+      sort-at : more n place t c ≡ on_read (sort (read_value l e sc) s q) (λ ks q₁.
+          on_read (more (n - 1) place true q₁) (λ cs q₂. read (sorted ks cs) q₂))
+      unfolding clauses_under
+      sort-at = more-at Clause.Sort ke ∙ rw sort-due
 
-          pub more-sort : Bytes s → {f : Fit} {q₁ : Cursor} {ct₂ : List ℕ} {r : Answer} → a ≡ Step.Next f q₁ →
-              MoreClauses (more (n - 1) place true q₁) place e sc q₁ ct₁ ct₂ r → MoreClauses (more n place t c) place e sc c ct ct₂ r
-          unfolding clauses_rows clauses_conditions
-          more-sort known {f} {q₁} {ct₂} {r} y w₁ = sort-part s e sc l known w y (λ v.
-              let first : q.at + 1 ≡ c.at + 2 = omega (arith, stood.0.place) in
-              let there : q₁.at ≡ c.at + 2 + length (keys_bytes v.part) = omega (arith, first, v.place) in
-              let whole : more n place t c ≡ on_read (more (n - 1) place true q₁) (λ cs q₂. read (sorted v.part cs) q₂) =
-              sort-at ∙ rw v.is in
-              record {
-                wrote = likewise whole (made_of (reached-on (moved stood.0.counts) v.reached) (sorted v.part) (λ cs. refl)
-                    (λ cs. rw (first, there)) w₁.wrote);
-                told = λ cs q y. undo (more (n - 1) place true q₁) _ (sym whole ∙ y) (λ cs₁ q₂ o k.
-                    same k (λ cs q. listed r.such ≡ listed place ++ clauses_places sc cs c.at) (w₁.told cs₁ q₂ o ∙ rw there));
-              })
+      module _ {ct ct₁ : List ℕ} {a : Answer} (w : SortWrote s e sc l q (contexts_alone ct) (contexts_alone ct₁) a) where
+        pub sort-stops : {y : Refused Refusal} → a ≡ Err y → MoreClauses (more n place t c) place e sc c ct ct₁ (Err y)
+        sort-stops y = more-stopped (sort-at ∙ rw (stopped w y))
+
+        pub more-sort : Octets s → {q₁ : Cursor} {ct₂ : List ℕ} {r : PlaceAnswer} → a ≡ Ok q₁ →
+            MoreClauses (more (n - 1) place true q₁) place e sc q₁ ct₁ ct₂ r → MoreClauses (more n place t c) place e sc c ct ct₂ r
+        unfolding clauses_rows clauses_conditions
+        more-sort known {q₁} {ct₂} {r} y w₁ = sort-part s e sc l known w y (λ v.
+            let first : q.at + 1 ≡ c.at + 2 = omega (arith, stood.0.place) in
+            let there : q₁.at ≡ c.at + 2 + length (keys_bytes v.part) = omega (arith, first, v.place) in
+            let whole : more n place t c ≡ on_read (more (n - 1) place true q₁) (λ cs q₂. read (sorted v.part cs) q₂) =
+            sort-at ∙ rw v.is in
+            record {
+              place = w₁.place;
+              wrote = likewise whole (made_of (reached-on (moved stood.0.counts) v.reached) (sorted v.part) (λ cs q. refl)
+                  (λ cs. rw (first, there)) w₁.wrote);
+              told = λ cs q y. undo (clauses (n - 1) (read_boolean l e sc) (read_value l e sc) (is_some place) true s q₁) _ (sym whole ∙ y)
+                  (λ cs₁ q₂ o k. same k (λ cs q. listed w₁.place ≡ listed place ++ clauses_places sc cs c.at) (w₁.told cs₁ q₂ o ∙ rw there));
+            })

@@ -4,31 +4,19 @@ use mathlib.Core.Path.{◌≡◌, refl, sym, ap, ap₂, ◌∙◌}
 use mathlib.Core.Bool.{Bool, true, false}
 use mathlib.Core.List.{List, [], ◌++◌}
 use native.Mathlib.Omega.{arith}
-use lib.ListN.{length, get_or, length-append}
+use lib.ListN.{length, length-append}
 use lib.Seq.{sets}
-use mir.Syntax.{w8}
-use mir.Val.{Fits}
+use Rattle.std.specs.Prelude.{Result, Err}
 use Rattle.wire.specs.Limits.{context_row_numbers}
+use Rattle.wire.specs.declared.refused.Refused.{Refused}
 use Rattle.grammar.specs.declared.Cursor.{Cursor}
-use Rattle.grammar.specs.declared.Fit.{Fit}
 use Rattle.grammar.specs.declared.Refusal.{Refusal}
-use Rattle.grammar.specs.declared.Step.{Step}
-use Rattle.grammar.specs.declared.Step.TheVariants as Step
 use Rattle.grammar.specs.Reader.{Read, read, refused, on_read, need}
-use Rattle.grammar.specs.Internal.Steps.{step_of}
-use Rattle.grammar.specs.Demands.{Octets}
 use Rattle.grammar.proofs.Went.{Went, Passed}
-use Rattle.tables.specs.Tables.{Tables, contexts_alone, laid, Wrote}
+use Rattle.tables.specs.Tables.{Tables, contexts_alone, laid, result_of, Wrote}
 use Rattle.tables.proofs.Stores.{sets-append}
 use Rattle.tables.proofs.Laid.{Follows, laid-laid}
-use Rattle.tables.proofs.Chains.{by_read, stop, Counts, on-next, stopped}
-
--- what the check tells of a slice of bytes
-abbrev pub Bytes : List ℕ → Type 0
-Bytes s = (i : ℕ) → Fits w8 (get_or s i 0)
-
-pub octets : (s : List ℕ) → Bytes s → Octets s
-octets s h p = omega (arith, h p)
+use Rattle.tables.proofs.Chains.{by_read, stop, Counts, stopped}
 
 -- ---- rows laid
 
@@ -73,58 +61,53 @@ rows-after own rest l i e h k = k ∙ ap₂ (λ z n. sets z n rest) e h ∙ sym 
 -- ---- parts
 
 -- a part that was read from a cursor on, and its rows
-pub record Part {A : Type 0} (x : Read A) (k : A → Fit) (bytes rows : A → List ℕ) (c : Cursor) (t t' : Tables) (f : Fit) (q : Cursor)
-    : Type 0 where
+pub record Part {A : Type 0} (x : Read A) (bytes rows : A → List ℕ) (c : Cursor) (t t' : Tables) (q : Cursor) : Type 0 where
   pub part : A
   pub is : x ≡ read part q
-  pub fit : f ≡ k part
   pub place : q.at ≡ c.at + length (bytes part)
   pub reached : Reached c q (rows part) t t'
 
-pub part-read : {A : Type 0} {x : Read A} {k : A → Fit} {bytes rows : A → List ℕ} {s : List ℕ} {c q : Cursor} {t t' : Tables} {r : Step}
-    {f : Fit} (many : A → ℕ) → ((a : A) → x ≡ read a q → Went s c (bytes a) 0 (many a) 0 q) →
-    ((a : A) → length (rows a) ≡ many a * context_row_numbers) → Wrote x k c (λ a. contexts_alone (rows a)) t t' r → r ≡ Step.Next f q →
-    {G : Type 0} → (Part x k bytes rows c t t' f q → G) → G
-part-read many went count w e g = on-next w e (λ a i j h.
-    let o = went a i in
-    g (record {
-      part = a;
-      is = i;
-      fit = j;
-      place = o.place;
-      reached = record {
-        filled = h;
-        follows = record {
-          statements = omega (arith, o.counted);
-          contexts = omega (arith, o.declared, count a);
-          conditions = omega (arith, o.noted);
-        };
-      };
-    }))
+abbrev pub part-read : {A : Type 0} {x : Read A} {bytes rows : A → List ℕ} {s : List ℕ} {c q : Cursor} {t t' : Tables} (many : A → ℕ) (a : A) →
+    x ≡ read a q → Went s c (bytes a) 0 (many a) 0 q → length (rows a) ≡ many a * context_row_numbers →
+    t' ≡ laid t c (contexts_alone (rows a)) → Part x bytes rows c t t' q
+part-read many a i o count h = record {
+  part = a;
+  is = i;
+  place = o.place;
+  reached = record {
+    filled = h;
+    follows = record {
+      statements = omega (arith, o.counted);
+      contexts = omega (arith, o.declared, count);
+      conditions = omega (arith, o.noted);
+    };
+  };
+}
 
 -- a part that was refused: the whole is
-pub stops : {A C : Type 0} {x : Read A} {y : Read C} {k : A → Fit} {k' : C → Fit} {c c' : Cursor} {rows : A → Tables} {rows' : C → Tables}
-    {t t₁ t₂ t₃ : Tables} {r : Step} {n : Refusal} {i : ℕ} → Wrote x k c rows t t₁ r → r ≡ Step.Refused n i →
-    (x ≡ refused n i → y ≡ refused n i) → Wrote y k' c' rows' t₂ t₃ r
-stops w e f = rw e (stop (f (stopped w e)))
+pub stops : {A C R Q : Type 0} {x : Read A} {y : Read C} {k : A → Cursor → R} {k' : C → Cursor → Q} {c c' : Cursor} {rows : A → Tables}
+    {rows' : C → Tables} {t t₁ t₂ t₃ : Tables} {r : Result R (Refused Refusal)} {z : Refused Refusal} → Wrote x k c rows t t₁ r → r ≡ Err z →
+    (x ≡ refused z.refusal z.place → y ≡ refused z.refusal z.place) → Wrote y k' c' rows' t₂ t₃ (Err z)
+stops w e f = stop (f (stopped w e))
 
-module _ {C : Type 0} {k : C → Fit} {rows : C → List ℕ} {c q : Cursor} {before : List ℕ} {t t₁ : Tables} (i : Reached c q before t t₁) where
+module _ {C R : Type 0} {k : C → Cursor → R} {rows : C → List ℕ} {c q : Cursor} {before : List ℕ} {t t₁ : Tables}
+    (i : Reached c q before t t₁) where
   -- the whole is made of the last part, read or refused
-  pub made_of : {A : Type 0} {x : Read A} {ka : A → Fit} {one : A → List ℕ} {t₂ : Tables} {r : Step} (made : A → C) →
-      ((a : A) → ka a ≡ k (made a)) → ((a : A) → before ++ one a ≡ rows (made a)) →
+  pub made_of : {A : Type 0} {x : Read A} {ka : A → Cursor → R} {one : A → List ℕ} {t₂ : Tables} {r : Result R (Refused Refusal)}
+      (made : A → C) → ((a : A) (q₁ : Cursor) → ka a q₁ ≡ k (made a) q₁) → ((a : A) → before ++ one a ≡ rows (made a)) →
       Wrote x ka q (λ a. contexts_alone (one a)) t₁ t₂ r →
       Wrote (on_read x (λ a q₁. read (made a) q₁)) k c (λ b. contexts_alone (rows b)) t t₂ r
   made_of {A} {x} {ka} {one} made kinds both w = by_read x
       (λ a q₁ e. record {
-        answer = w.answer ∙ rw (e, kinds a);
+        answer = w.answer ∙ rw (e, kinds a q₁);
         filled = rw e (rw e at w.filled ∙ ap (λ z. laid z q (contexts_alone (one a))) i.filled ∙
             laid-laid t c q (contexts_alone before) (contexts_alone (one a)) i.follows ∙ ap (λ z. laid t c (contexts_alone z)) (both a));
       })
       (λ n p e. record { answer = w.answer ∙ rw e; filled = rw e })
 
   -- the whole is made after a test
-  pub made-if : (n : Refusal) (p : ℕ) (s : List ℕ) {r : Step} (test : Bool) (v : C) →
-      r ≡ step_of k (on_read (need test n p s q) (λ u q. read v q)) → before ≡ rows v →
+  pub made-if : (n : Refusal) (p : ℕ) (s : List ℕ) {r : Result R (Refused Refusal)} (test : Bool) (v : C) →
+      r ≡ result_of k (on_read (need test n p s q) (λ u q. read v q)) → before ≡ rows v →
       Wrote (on_read (need test n p s q) (λ u q. read v q)) k c (λ b. contexts_alone (rows b)) t t₁ r
   made-if n p s true v e h = record { answer = e; filled = i.filled ∙ ap (λ z. laid t c (contexts_alone z)) h }
   made-if n p s false v e h = record { answer = e; filled = refl }

@@ -1,30 +1,27 @@
 -- What a reader that may open contexts is given stays so along its way, and what it promises under it.
-use Prim.Native.Nat.{ℕ, suc, ◌+◌, ◌-◌, ◌≤◌}
-use mathlib.Core.Path.{◌≡◌, refl, sym, ◌∙◌}
+use Prim.Native.Nat.{ℕ, suc, ◌+◌, ◌≤◌}
+use mathlib.Core.Path.{◌≡◌, refl}
 use mathlib.Core.List.{List}
 use native.Mathlib.Omega.{arith}
 use lib.ListN.{length}
+use Rattle.std.specs.Prelude.{Result, Ok}
+use Rattle.std.specs.Prelude as std
 use Rattle.wire.specs.Limits.{max_contexts}
 use Rattle.grammar.specs.declared.Cursor.{Cursor}
-use Rattle.grammar.specs.declared.Fit.{Fit}
-use Rattle.grammar.specs.declared.Refusal.{Refusal}
-use Rattle.grammar.specs.declared.Step.{Step}
-use Rattle.grammar.specs.declared.Step.TheVariants as Step
 use Rattle.grammar.specs.Environment.{Environment, Scope}
 use Rattle.grammar.specs.Reader.{Read, read}
-use Rattle.grammar.specs.Rses.{sort}
-use Rattle.grammar.specs.Values.{read_value, read_boolean}
-use Rattle.grammar.specs.Internal.Steps.{no_kind}
-use Rattle.grammar.proofs.StepLaws.{step-read}
+use Rattle.grammar.specs.Values.{read_value}
+use Rattle.grammar.specs.declared.Kind.{Kind}
+use Rattle.grammar.specs.Demands.{Octets}
 use Rattle.grammar.proofs.Went.{Went, Passed, inside}
 use Rattle.grammar.proofs.SoundValues.{value-sound, boolean-sound}
 use Rattle.grammar.proofs.SoundRses.{sort-sound}
-use Rattle.scopes.specs.Scopes.{contexts_held, scope_of}
+use Rattle.scopes.specs.Scopes.{contexts_held}
 use Rattle.references.specs.Promises.{environment_of}
 use Rattle.openings.specs.Streams.{relations}
 use Rattle.openings.specs.Openings.{Prepared, Opens}
-use Rattle.expressions.specs.Promises.{Ready, value_fit, ValueRead, BooleanRead, SortRead}
-use Rattle.expressions.proofs.Parts.{Bytes, octets}
+use Rattle.tables.proofs.Chains.{on-cursor, on-part}
+use Rattle.expressions.specs.Promises.{Ready, ValueAnswer, Answer, ValueRead, BooleanRead, SortRead}
 use Rattle.expressions.proofs.Codes.{Stands}
 
 -- the relations are those of the dictionary
@@ -59,24 +56,16 @@ module _ {s d sc : List ℕ} {c : Cursor} {l : ℕ} (g : Ready s d sc c l) where
   pub ready-passed : {bs : List ℕ} {q : Cursor} → Passed s c bs q → Ready s d sc q l
   ready-passed w = ready-went w (λ f. omega (arith, w.declared))
 
-  module _ (known : Bytes s) (e : Environment) (sc' : Scope) (l' : ℕ) {ct ct' : List ℕ} {r : Step} {f : Fit} {q : Cursor} where
-    pub ready-value : ValueRead l' e sc' s c ct ct' r → r ≡ Step.Next f q → Ready s d sc q l
-    ready-value w i =
-        let u = step-read (value_fit e sc') (read_value l' e sc' s c) (sym i ∙ w.answer) in
-        let o = value-sound s (octets s known) e sc' l' c u.0 q u.1 in
-        ready-went o.went o.few
+  module _ (known : Octets s) (e : Environment) (sc' : Scope) (l' : ℕ) {ct ct' : List ℕ} {q : Cursor} where
+    pub ready-value : {r : ValueAnswer} {f : std.Option Kind} → ValueRead l' e sc' s c ct ct' r → r ≡ Ok (f, q) → Ready s d sc q l
+    ready-value w i = on-part w i (λ a u h j. let o = value-sound s known e sc' l' c a q u in ready-went o.went o.few)
 
-    pub ready-boolean : BooleanRead l' e sc' s c ct ct' r → r ≡ Step.Next f q → Ready s d sc q l
-    ready-boolean w i =
-        let u = step-read no_kind (read_boolean l' e sc' s c) (sym i ∙ w.answer) in
-        let o = boolean-sound s (octets s known) e sc' l' c u.0 q u.1 in
-        ready-went o.went o.few
+    pub ready-boolean : {r : Answer} → BooleanRead l' e sc' s c ct ct' r → r ≡ Ok q → Ready s d sc q l
+    ready-boolean w i = on-cursor w i (λ a u j. let o = boolean-sound s known e sc' l' c a q u in ready-went o.went o.few)
 
-    pub ready-sort : SortRead l' e sc' s c ct ct' r → r ≡ Step.Next f q → Ready s d sc q l
-    ready-sort w i =
-        let u = step-read no_kind (sort (read_value l' e sc') s c) (sym i ∙ w.answer) in
-        let o = sort-sound l' e sc' s (read_value l' e sc') (value-sound s (octets s known) e sc' l') c u.0 q u.1 in
-        ready-went o.went o.few
+    pub ready-sort : {r : Answer} → SortRead l' e sc' s c ct ct' r → r ≡ Ok q → Ready s d sc q l
+    ready-sort w i = on-cursor w i (λ a u j.
+        let o = sort-sound l' e sc' s (read_value l' e sc') (value-sound s known e sc' l') c a q u in ready-went o.went o.few)
 
   pub ready-prepared : Prepared s d sc c
   ready-prepared = record {
@@ -91,7 +80,7 @@ module _ {s d sc : List ℕ} {c : Cursor} {l : ℕ} (g : Ready s d sc c l) where
 
   -- under a scope that was opened
   pub ready-opened : {A : Type 0} {x : Read A} {ct ct' sc' bs : List ℕ} {row : ℕ} {rows : A → List ℕ} {below : A → Scope} {opened : A → ℕ}
-      {r : Step} {a : A} {q : Cursor} {l' : ℕ} → Opens x d ct row rows below opened ct' sc sc' r → x ≡ read a q →
+      {r : Answer} {a : A} {q : Cursor} {l' : ℕ} → Opens x d ct row rows below opened ct' sc sc' r → x ≡ read a q →
       Went s c bs 0 (opened a) 0 q → (c.contexts ≤ max_contexts → q.contexts ≤ max_contexts) → suc l' ≤ l → Ready s d sc' q l'
   ready-opened {sc'} {opened} {a} w e o few h =
       let held : contexts_held sc' ≡ contexts_held sc + opened a = rw e at w.count_below in

@@ -1,18 +1,16 @@
 -- An rse of one stream: its stream, its clauses, and the scope of its context.
 use Prim.Native.Nat.{ℕ, ◌+◌, ◌*◌, ◌≤◌}
 use mathlib.Core.Path.{◌≡◌, refl, sym, ap, ◌∙◌}
-use mathlib.Core.Bool.{false}
 use mathlib.Core.List.{List, ◌++◌}
 use native.Mathlib.Omega.{arith}
 use lib.ListN.{length, length-append}
 use lib.Seq.{sets}
+use Rattle.std.specs.Prelude.{Result, Ok, Err}
+use Rattle.std.specs.Prelude as std
 use Rattle.wire.specs.Limits.{context_row_numbers}
+use Rattle.wire.specs.declared.refused.Refused.{Refused}
 use Rattle.grammar.specs.declared.Cursor.{Cursor}
-use Rattle.grammar.specs.declared.Fit.{Fit}
-use Rattle.grammar.specs.declared.Fit.TheVariants as Fit
 use Rattle.grammar.specs.declared.Refusal.{Refusal}
-use Rattle.grammar.specs.declared.Step.{Step}
-use Rattle.grammar.specs.declared.Step.TheVariants as Step
 use Rattle.grammar.specs.Tree.{Stream, Clauses, Rse, rse}
 use Rattle.grammar.specs.Bytes.{head_bytes, clauses_bytes, rse_bytes}
 use Rattle.grammar.specs.Environment.{Environment, Scope, under_streams}
@@ -20,8 +18,8 @@ use Rattle.grammar.specs.Rows.{stream_rows, clauses_rows, rse_rows}
 use Rattle.grammar.specs.Reader.{Read, read, refused}
 use Rattle.grammar.specs.Rses.{rse_head}
 use Rattle.grammar.specs.Values.{one_stream_rse}
-use Rattle.grammar.specs.Internal.Steps.{step_of, no_kind}
-use Rattle.grammar.proofs.StepLaws.{step-read, step-refused}
+use Rattle.grammar.specs.Demands.{Octets}
+use Rattle.grammar.proofs.StepLaws.{cursor-read, cursor-refused}
 use Rattle.grammar.proofs.Went.{inside}
 use Rattle.grammar.proofs.SoundRses.{head-sound}
 use Rattle.grammar.proofs.RowCounts.{stream-rows}
@@ -29,12 +27,11 @@ use Rattle.scopes.specs.Scopes.{scope_of}
 use Rattle.tables.specs.Tables.{Tables, contexts_alone}
 use Rattle.tables.specs.Written.{closed_after}
 use Rattle.tables.proofs.Closed.{streams-closed}
-use Rattle.tables.proofs.Chains.{by_read, fill, stop}
+use Rattle.tables.proofs.Chains.{on-next, stopped, fill, stop}
 use Rattle.openings.specs.Streams.{relations}
 use Rattle.openings.specs.Openings.{Prepared, OpensHead}
-use Rattle.expressions.specs.declared.clauses.Clauses.{Clauses as Answer}
-use Rattle.expressions.specs.Promises.{Ready, operands_at, RseRead, ClausesRead}
-use Rattle.expressions.proofs.Parts.{Bytes, octets, rows-after}
+use Rattle.expressions.specs.Promises.{Answer, PlaceAnswer, Ready, operands_at, RseRead, ClausesRead}
+use Rattle.expressions.proofs.Parts.{rows-after}
 use Rattle.expressions.proofs.ClauseLaws.{reads_clauses, reads-sound}
 use Rattle.expressions.proofs.ReadyLaws.{ready-prepared, ready-opened}
 
@@ -60,6 +57,14 @@ module _ (s : List ℕ) (e : Environment) (sc : Scope) (l o : ℕ) (c : Cursor) 
     unfolding one_stream_rse
     rse-not z = rw (one_stream_rse, y, z)
 
+-- its clauses, which were read up to a cursor
+pub clauses-read : (s : List ℕ) {e : Environment} {sc : Scope} (l : ℕ) {c q : Cursor} {ct ct' : List ℕ} {b : PlaceAnswer} {such : std.Option ℕ}
+    {G : Type 0} → ClausesRead l e sc s c ct ct' b → b ≡ Ok (such, q) →
+    ((t : Clauses) → reads_clauses s e sc l c ≡ read t q →
+    ct' ≡ sets ct (c.contexts * context_row_numbers) (clauses_rows e.relations sc t c.at) → G) → G
+clauses-read s l w i g = on-next w.wrote i (λ t q z h j.
+    g t (rw (ap (λ (z : std.Option ℕ × Cursor). z.1) h) z) (ap (λ (z : Tables). z.contexts) j))
+
 -- ---- its head, which opened a context
 
 -- the streams were read up to a cursor: their rows have no scope yet, and they are in scope
@@ -75,18 +80,18 @@ pub record HeadOpened (s d scope scope' : List ℕ) (e : Environment) (l o : ℕ
 
 -- their scope is from the end of the head to a place, and other rows stand after theirs
 pub rse-closed : {s d scope scope' : List ℕ} {e : Environment} {l o : ℕ} {c first : Cursor} {ss : List Stream} {ct ct₁ ct₂ ct₃ : List ℕ} →
-    HeadOpened s d scope scope' e l o c first ss ct ct₁ → (rest : List ℕ) (f : Fit) (end : Cursor) {r : Step} → end.at ≤ length s →
-    ct₂ ≡ sets ct₁ (first.contexts * context_row_numbers) rest → r ≡ Step.Next f end → ct₃ ≡ closed_after ct₂ c.contexts first r →
+    HeadOpened s d scope scope' e l o c first ss ct ct₁ → (rest : List ℕ) (end : Cursor) → end.at ≤ length s →
+    ct₂ ≡ sets ct₁ (first.contexts * context_row_numbers) rest → ct₃ ≡ closed_after ct₂ c.contexts first (Ok end) →
     ct₃ ≡ sets ct (c.contexts * context_row_numbers) (stream_rows e.relations o ss (c.at + 2) first.at end.at ++ rest)
-rse-closed {s} {d} {scope} {scope'} {e} {l} {o} {c} {first} {ss} {ct} {ct₁} {ct₂} {ct₃} h rest f end within filled answer ce =
+rse-closed {s} {d} {scope} {scope'} {e} {l} {o} {c} {first} {ss} {ct} {ct₁} {ct₂} {ct₃} h rest end within filled ce =
     let own = stream_rows e.relations o ss (c.at + 2) 0 0 in
     let whole : ct₂ ≡ sets ct (c.contexts * context_row_numbers) (own ++ rest) =
     rows-after own rest ct (c.contexts * context_row_numbers) h.filled h.row filled in
-    ce ∙ rw (answer, whole) (streams-closed ct rest c.contexts first end f (omega (arith, h.ready.inside, h.ready.short))
+    ce ∙ rw whole (streams-closed ct rest c.contexts first end (omega (arith, h.ready.inside, h.ready.short))
     (omega (arith, within, h.ready.short)) h.ready.contexts_few e.relations o ss (c.at + 2) h.counted)
 
 module _ (s d scope : List ℕ) (e : Environment) (known : e.relations ≡ relations d) (l o : ℕ) (c : Cursor)
-    {ct ct₁ scope' : List ℕ} {a : Step}
+    {ct ct₁ scope' : List ℕ} {a : Answer}
     (v : Prepared s d scope c → OpensHead o (rse_head 1 (relations d) o (scope_of d scope) s c) d c ct ct₁ scope scope' a) where
   abbrev heading : Read (List Stream)
   heading = rse_head 1 e.relations o (scope_of d scope) s c
@@ -94,19 +99,19 @@ module _ (s d scope : List ℕ) (e : Environment) (known : e.relations ≡ relat
   opens : Ready s d scope c (l + 1) → OpensHead o heading d c ct ct₁ scope scope' a
   opens g = rw known (v (ready-prepared g))
 
-  pub head-stopped : {n : Refusal} {i : ℕ} → a ≡ Step.Refused n i → Ready s d scope c (l + 1) → heading ≡ refused n i
-  head-stopped j g = step-refused no_kind heading (sym j ∙ (opens g).answer)
+  pub head-stopped : {y : Refused Refusal} → a ≡ Err y → Ready s d scope c (l + 1) → heading ≡ refused y.refusal y.place
+  head-stopped j g = cursor-refused heading (sym j ∙ (opens g).answer)
 
   -- by its streams
-  pub head_read : Bytes s → {f : Fit} {first : Cursor} → a ≡ Step.Next f first → Ready s d scope c (l + 1) → {G : Type 0} →
+  pub head_read : Octets s → {first : Cursor} → a ≡ Ok first → Ready s d scope c (l + 1) → {G : Type 0} →
       ((ss : List Stream) → heading ≡ read ss first → HeadOpened s d scope scope' e l o c first ss ct ct₁ → G) → G
-  head_read bytes {f} {first} j g next =
-      let u = step-read no_kind heading (sym j ∙ (opens g).answer) in next u.0 u.1 (opened u.0 u.1)
+  head_read bytes {first} j g next =
+      let u = cursor-read heading (sym j ∙ (opens g).answer) in next u.0 u.1 (opened u.0 u.1)
     where
       opened : (ss : List Stream) → heading ≡ read ss first → HeadOpened s d scope scope' e l o c first ss ct ct₁
       opened ss y =
           let w = opens g in
-          let i = head-sound s (octets s bytes) e.relations 1 o (scope_of d scope) c ss first y in
+          let i = head-sound s bytes e.relations 1 o (scope_of d scope) c ss first y in
           record {
             ready = ready-opened g w y i.went i.few (omega arith);
             below = rw y at w.scope_below ∙ rw known;
@@ -118,31 +123,27 @@ module _ (s d scope : List ℕ) (e : Environment) (known : e.relations ≡ relat
 
   -- ---- the whole, whose scope ends with it
 
-  pub rse-stopped : {n : Refusal} {i : ℕ} → a ≡ Step.Refused n i → Ready s d scope c (l + 1) →
-      RseRead l e (scope_of d scope) o s c ct ct₁ a
-  rse-stopped j g = rw j (stop (rse-head-not s e (scope_of d scope) l o c (head-stopped j g)))
+  pub rse-stopped : {y : Refused Refusal} → a ≡ Err y → Ready s d scope c (l + 1) → RseRead l e (scope_of d scope) o s c ct ct₁ (Err y)
+  rse-stopped j g = stop (rse-head-not s e (scope_of d scope) l o c (head-stopped j g))
 
-  pub rse-read : Bytes s → {f : Fit} {first : Cursor} {ct₂ ct₃ : List ℕ} {cs : Answer} {r : Step} →
-      a ≡ Step.Next f first → (Ready s d scope' first l → ClausesRead l e (scope_of d scope') s first ct₁ ct₂ cs) →
-      r ≡ cs.step → ct₃ ≡ closed_after ct₂ c.contexts first r → Ready s d scope c (l + 1) →
-      RseRead l e (scope_of d scope) o s c ct ct₃ r
-  unfolding rse_rows rse_bytes
-  rse-read bytes {f} {first} {ct₂} {ct₃} {cs} {r} j w₁ re ce g = head_read bytes j g (λ ss y h.
-      let sc = under_streams e.relations o (scope_of d scope) ss in
-      let w₂ = rw h.below at (w₁ h.ready) in
-      by_read (reads_clauses s e sc l first)
-      (λ t q z.
-      let m = (reads-sound s (octets s bytes) e sc l first t q z).went in
-      let answer : r ≡ Step.Next Fit.NoKind q = re ∙ w₂.wrote.answer ∙ rw z in
-      let end : q.at ≡ c.at + (length (head_bytes ss) + length (clauses_bytes t)) = omega (arith, m.place, h.place) in
-      let rest = clauses_rows e.relations sc t first.at in
-      let filled : ct₂ ≡ sets ct₁ (first.contexts * context_row_numbers) rest =
-      ap (λ (z : Tables). z.contexts) (rw z at w₂.wrote.filled) in
-      let rows : ct₃ ≡ sets ct (c.contexts * context_row_numbers)
-      (rse_rows e.relations o (scope_of d scope) (rse ss t) c.at (c.at + length (rse_bytes (rse ss t)))) =
-      rse-closed h rest Fit.NoKind q (inside m h.ready.inside) filled answer ce ∙
-      rw (h.place, end, length-append (head_bytes ss) (clauses_bytes t)) in
-      rw answer (fill {a = rse ss t} (rse-is s e (scope_of d scope) l o c y z) refl (ap contexts_alone rows)))
-      (λ n i z.
-      let answer : r ≡ Step.Refused n i = re ∙ w₂.wrote.answer ∙ rw z in
-      rw answer (stop (rse-not s e (scope_of d scope) l o c y z))))
+  module _ (bytes : Octets s) {first : Cursor} {ct₂ : List ℕ} {b : PlaceAnswer} (j : a ≡ Ok first)
+      (w₁ : Ready s d scope' first l → ClausesRead l e (scope_of d scope') s first ct₁ ct₂ b) where
+    pub rse-clauses-stopped : {y : Refused Refusal} → b ≡ Err y → Ready s d scope c (l + 1) →
+        RseRead l e (scope_of d scope) o s c ct ct₂ (Err y)
+    rse-clauses-stopped y₁ g = head_read bytes j g (λ ss y h.
+        stop (rse-not s e (scope_of d scope) l o c y (stopped (rw h.below at (w₁ h.ready)).wrote y₁)))
+
+    pub rse-read : {such : std.Option ℕ} {q : Cursor} {ct₃ : List ℕ} → b ≡ Ok (such, q) → ct₃ ≡ closed_after ct₂ c.contexts first (Ok q) →
+        Ready s d scope c (l + 1) → RseRead l e (scope_of d scope) o s c ct ct₃ (Ok q)
+    unfolding rse_rows rse_bytes
+    rse-read {such} {q} {ct₃} y₁ ce g = head_read bytes j g (λ ss y h.
+        let sc = under_streams e.relations o (scope_of d scope) ss in
+        clauses-read s l (rw h.below at (w₁ h.ready)) y₁ (λ t z filled.
+        let m = (reads-sound s bytes e sc l first t q z).went in
+        let end : q.at ≡ c.at + (length (head_bytes ss) + length (clauses_bytes t)) = omega (arith, m.place, h.place) in
+        let rest = clauses_rows e.relations sc t first.at in
+        let rows : ct₃ ≡ sets ct (c.contexts * context_row_numbers)
+        (rse_rows e.relations o (scope_of d scope) (rse ss t) c.at (c.at + length (rse_bytes (rse ss t)))) =
+        rse-closed h rest q (inside m h.ready.inside) filled ce ∙
+        rw (h.place, end, length-append (head_bytes ss) (clauses_bytes t)) in
+        fill {a = rse ss t} (rse-is s e (scope_of d scope) l o c y z) refl (ap contexts_alone rows)))

@@ -1,4 +1,5 @@
 // Values.
+// Kept, here and below: scope and contexts are parameters as in booleans.
 ghost use Rattle.std.specs.Prelude.{◌≡◌, ◌+◌};
 ghost use Rattle.grammar.specs.Bytes.{statistic_code};
 ghost use Rattle.references.specs.Promises.{environment_of};
@@ -7,10 +8,11 @@ ghost use Rattle.expressions.specs.Promises.{Ready, StatisticRead, ValueRead};
 
 use crate::clauses::read_clauses;
 use crate::fits::{arithmetic, counted, negation};
-use crate::heads::{ValueHead, value_at};
+use crate::heads::code_at;
 use crate::rses::read_rse;
-use grammar::{Cursor, Role, Step};
-use messages::declared::{AROUND, version};
+use grammar::{Cursor, Kind, Read, Role};
+use messages::declared::version;
+use openings::beside::Beside;
 use openings::opening::read_head;
 use references::literal::read_literal;
 use references::reference::read_reference;
@@ -19,6 +21,7 @@ use tables::contexts::close;
 use wire::blr::{AVERAGE, COUNT, MAXIMUM, MINIMUM, TOTAL};
 use wire::codes::{Statistic, ValueCode};
 
+// Kept: no `From` for u8, as quantifier_code of booleans.
 fn statistic_code(k: Statistic) -> u8
     ensures { result ≡ statistic_code k }
 {
@@ -33,126 +36,69 @@ fn statistic_code(k: Statistic) -> u8
 // A statistic after its code at a place: an rse of one stream and a number, and its context is in scope in both.
 #[cycle(reading)]
 fn read_statistic(
-    request: &[u8],
-    dictionary: &[u8],
-    around: &[u32; AROUND],
+    beside: Beside,
     scope: &[u16; SCOPE],
     contexts: &mut [u32],
     k: Statistic,
     at: usize,
     c: Cursor,
     levels: usize,
-) -> Step
+) -> Read<Option<Kind>>
     requires { c.at ≡ at + 1 }
-    ensures { Ready request.now dictionary.now scope.now c (levels + 1) →
-        StatisticRead levels (environment_of dictionary.now around.now)
-        (scope_of dictionary.now scope.now) at k request.now c
+    ensures { Ready beside.entry.request.now beside.entry.dictionary.now scope.now c (levels + 1) →
+        StatisticRead levels (environment_of beside.entry.dictionary.now beside.entry.around.now)
+        (scope_of beside.entry.dictionary.now scope.now) at k beside.entry.request.now c
         contexts.old contexts.new result }
 {
     let mut inside = *scope;
-    let head = read_head(
-        request,
-        dictionary,
-        contexts,
-        &mut inside,
-        1,
-        statistic_code(k),
-        c,
-    );
-    let Step::Next(_, first) = head else {
-        return head;
-    };
-    let cs = read_clauses(
-        request, dictionary, around, &inside, contexts, first, levels,
-    );
-    let clauses = cs.step;
-    let Step::Next(_, second) = clauses else {
-        return clauses;
-    };
-    let v = read_value(
-        request, dictionary, around, &inside, contexts, second, levels,
-    );
-    let Step::Next(x, after) = v else {
-        return v;
-    };
-    let number = negation(x, at, after);
-    close(contexts, c.contexts as usize, first, number);
-    number
+    let first = read_head(beside, contexts, &mut inside, 1, statistic_code(k), c)?;
+    let (_, second) = read_clauses(beside, &inside, contexts, first, levels)?;
+    let (x, after) = read_value(beside, &inside, contexts, second, levels)?;
+    let (number, end) = negation(x, at, after)?;
+    close(contexts, c.contexts as usize, first, Ok(end));
+    Ok((number, end))
 }
 
 // A value, with so many levels left for it.
 #[cycle(reading)]
 pub fn read_value(
-    request: &[u8],
-    dictionary: &[u8],
-    around: &[u32; AROUND],
+    beside: Beside,
     scope: &[u16; SCOPE],
     contexts: &mut [u32],
     c: Cursor,
     levels: usize,
-) -> Step
-    ensures { Ready request.now dictionary.now scope.now c levels →
-        ValueRead levels (environment_of dictionary.now around.now)
-        (scope_of dictionary.now scope.now) request.now c
+) -> Read<Option<Kind>>
+    ensures { Ready beside.entry.request.now beside.entry.dictionary.now scope.now c levels →
+        ValueRead levels (environment_of beside.entry.dictionary.now beside.entry.around.now)
+        (scope_of beside.entry.dictionary.now scope.now) beside.entry.request.now c
         contexts.old contexts.new result }
 {
-    match value_at(request, c, levels) {
-        ValueHead::Is(k, first) => match k {
-            ValueCode::Literal => {
-                return read_literal(request, version(around), first);
-            }
-            ValueCode::Reference(code) => {
-                return read_reference(
-                    request,
-                    dictionary,
-                    around,
-                    scope,
-                    Role::AsValue,
-                    c.at,
-                    code,
-                    first,
-                );
-            }
-            ValueCode::Arithmetic(o) => {
-                let below = levels - 1;
-                let a = read_value(request, dictionary, around, scope, contexts, first, below);
-                let Step::Next(x, second) = a else {
-                    return a;
-                };
-                let b = read_value(request, dictionary, around, scope, contexts, second, below);
-                let Step::Next(y, after) = b else {
-                    return b;
-                };
-                return arithmetic(version(around), o, x, y, c.at, after);
-            }
-            ValueCode::Negate => {
-                let below = levels - 1;
-                let a = read_value(request, dictionary, around, scope, contexts, first, below);
-                let Step::Next(x, after) = a else {
-                    return a;
-                };
-                return negation(x, c.at, after);
-            }
-            ValueCode::Statistic(k) => {
-                return read_statistic(
-                    request,
-                    dictionary,
-                    around,
-                    scope,
-                    contexts,
-                    k,
-                    c.at,
-                    first,
-                    levels - 1,
-                );
-            }
-            ValueCode::Count => {
-                let below = levels - 1;
-                return counted(read_rse(
-                    request, dictionary, around, scope, contexts, COUNT, first, below,
-                ));
-            }
-        },
-        ValueHead::Refused(r, p) => Step::Refused(r, p),
+    let (k, first) = code_at::<ValueCode>(beside.request, c, levels)?;
+    let below = levels - 1;
+    match k {
+        ValueCode::Literal => read_literal(beside.request, version(beside.around), first),
+        ValueCode::Reference(code) => read_reference(
+            beside.request,
+            beside.dictionary,
+            beside.around,
+            scope,
+            Role::AsValue,
+            c.at,
+            code,
+            first,
+        ),
+        ValueCode::Arithmetic(o) => {
+            let (x, second) = read_value(beside, scope, contexts, first, below)?;
+            let (y, after) = read_value(beside, scope, contexts, second, below)?;
+            arithmetic(version(beside.around), o, x, y, c.at, after)
+        }
+        ValueCode::Negate => {
+            let (x, after) = read_value(beside, scope, contexts, first, below)?;
+            negation(x, c.at, after)
+        }
+        ValueCode::Statistic(s) => {
+            read_statistic(beside, scope, contexts, s, c.at, first, below)
+        }
+        ValueCode::Count => counted(read_rse(beside, scope, contexts, COUNT, first, below)),
     }
 }

@@ -7,11 +7,13 @@ use native.Mathlib.Omega.{arith}
 use lib.Dec.{leb}
 use lib.ListN.{length}
 use borrow.Author.Tests.{le-leb, leb-true}
+use Rattle.std.specs.Prelude.{Result, Ok, Err}
+use Rattle.wire.specs.Options.{refused_at}
+use Rattle.wire.specs.declared.refused.Refused.{Refused}
 use Rattle.dictionary.specs.Dictionary.{Relation, proper, dictionary}
 use Rattle.grammar.specs.declared.Refusal.{Refusal}
 use Rattle.grammar.specs.declared.Cursor.{Cursor}
-use Rattle.grammar.specs.declared.ReadAnswer.{ReadAnswer}
-use Rattle.grammar.specs.declared.ReadAnswer.TheVariants.{Accepted, Refused}
+use Rattle.grammar.specs.declared.Counts.{Counts}
 use Rattle.grammar.specs.Tree.{Request}
 use Rattle.grammar.specs.Sizes.{statements_count, parameter_count, contexts_count}
 use Rattle.grammar.specs.Rows.{request_context_rows}
@@ -28,11 +30,24 @@ use Rattle.grammar.proofs.Complete.{reading-complete, one-tree}
 
 -- ---- answers taken apart
 
-was-refused : (y : Read Request) (x : Refusal) (p : ℕ) → Refused x p ≡ reading_of y → y ≡ refused x p
-was-refused (read t c) x p e = absurd-eq (cc)
-was-refused (refused z q) x p e = cc
+-- the counts of rows in an answer, and its refusal
+abbrev counts_in : Result Counts (Refused Refusal) → Counts
+counts_in (Ok c) = c
+counts_in (Err y) = record { statements = 0; parameters = 0; contexts = 0 }
 
-was-accepted : (y : Read Request) (n m k : ℕ) → Accepted n m k ≡ reading_of y → (t : Request) × (c : Cursor) × (y ≡ read t c)
+abbrev refusal_in : Result Counts (Refused Refusal) → Read Request → Read Request
+refusal_in (Ok c) x = x
+refusal_in (Err y) x = refused y.refusal y.place
+
+-- acceptance with the counts of rows
+abbrev accepted : ℕ → ℕ → ℕ → Result Counts (Refused Refusal)
+accepted n m k = Ok (record { statements = n; parameters = m; contexts = k })
+
+was-refused : (y : Read Request) (x : Refusal) (p : ℕ) → Err (refused_at x p) ≡ reading_of y → y ≡ refused x p
+was-refused (read t c) x p e = absurd-eq (cc)
+was-refused (refused z q) x p e = sym (ap (λ y. refusal_in y (refused z q)) e)
+
+was-accepted : (y : Read Request) (n m k : ℕ) → accepted n m k ≡ reading_of y → (t : Request) × (c : Cursor) × (y ≡ read t c)
 was-accepted (read t c) n m k e = (t, c, refl)
 was-accepted (refused z q) n m k e = absurd-eq (cc)
 
@@ -54,15 +69,15 @@ with-room s d st pa ct h =
 
 module _ {s d st pa ct st' pa' ct' : List ℕ} where
   -- the tables of a tree that was read
-  filled : {r : ReadAnswer} → Answered s d st pa ct st' pa' ct' r → (rs : List Relation) → dictionary d ≡ proper rs → (t : Request) (c : Cursor) →
-      answer s d (length st) (length pa) (length ct) ≡ read t c → (n m k : ℕ) → r ≡ Accepted n m k →
+  filled : {r : Result Counts (Refused Refusal)} → Answered s d st pa ct st' pa' ct' r → (rs : List Relation) → dictionary d ≡ proper rs → (t : Request) (c : Cursor) →
+      answer s d (length st) (length pa) (length ct) ≡ read t c → (n m k : ℕ) → r ≡ accepted n m k →
       Filled rs t st pa ct st' pa' ct' n m k
   unfolding statement_table parameter_table context_table
   filled h rs e t c w n m k g =
-      let f : Accepted n m k ≡ reading_of (read t c) = sym g ∙ h.answered ∙ ap reading_of w in
-      let i : n ≡ suc (statements_count t.statements) = cc in
-      let j : m ≡ parameter_count t.messages = cc in
-      let l : k ≡ contexts_count t.statements = cc in
+      let f : accepted n m k ≡ reading_of (read t c) = sym g ∙ h.answered ∙ ap reading_of w in
+      let i : n ≡ suc (statements_count t.statements) = ap (λ z. (counts_in z).statements) f in
+      let j : m ≡ parameter_count t.messages = ap (λ z. (counts_in z).parameters) f in
+      let l : k ≡ contexts_count t.statements = ap (λ z. (counts_in z).contexts) f in
       record {
         statement_count = omega (arith, request-rows t, i);
         parameter_count = omega (arith, parameter_rows_lem t.messages, j);
@@ -74,7 +89,7 @@ module _ {s d st pa ct st' pa' ct' : List ℕ} where
 
   -- ---- demand 1
 
-  pub read-refused : {x : Refusal} {p : ℕ} → Answered s d st pa ct st' pa' ct' (Refused x p) → RefusedReading s d st pa ct st' pa' ct' x p
+  pub read-refused : {x : Refusal} {p : ℕ} → Answered s d st pa ct st' pa' ct' (Err (refused_at x p)) → RefusedReading s d st pa ct st' pa' ct' x p
   unfolding statement_table parameter_table context_table
   read-refused {x} {p} h =
       let w = was-refused (answer s d (length st) (length pa) (length ct)) x p h.answered in
@@ -87,7 +102,7 @@ module _ {s d st pa ct st' pa' ct' : List ℕ} where
 
   -- ---- demand 2
 
-  pub read-sound : {n m k : ℕ} → Answered s d st pa ct st' pa' ct' (Accepted n m k) → Soundness s d st pa ct st' pa' ct' n m k
+  pub read-sound : {n m k : ℕ} → Answered s d st pa ct st' pa' ct' (accepted n m k) → Soundness s d st pa ct st' pa' ct' n m k
   unfolding answer
   read-sound {n} {m} {k} h =
       let w = was-accepted (answer s d (length st) (length pa) (length ct)) n m k h.answered in
@@ -107,7 +122,7 @@ module _ {s d st pa ct st' pa' ct' : List ℕ} where
         filled = filled h i.relations i.checked t w.1 w.2 n m k refl;
       }
 
-  pub read-complete : {r : ReadAnswer} → Answered s d st pa ct st' pa' ct' r → Completeness s d st pa ct st' pa' ct' r
+  pub read-complete : {r : Result Counts (Refused Refusal)} → Answered s d st pa ct st' pa' ct' r → Completeness s d st pa ct st' pa' ct' r
   read-complete h = record {
     accepted = λ rs t a.
         let w = reading-complete s d rs a.checked t a.allowed a.whole in

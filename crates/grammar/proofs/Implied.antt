@@ -9,7 +9,7 @@ use borrow.Author.Tests.{leb-true}
 use Rattle.wire.specs.Lists.{is_some, ◌and_then◌}
 use Rattle.dictionary.specs.Format.{size_in_range}
 use Rattle.dictionary.specs.Naming.{Name}
-use Rattle.grammar.specs.Kind.{Kind}
+use Rattle.grammar.specs.declared.Kind.{Kind}
 use Rattle.grammar.specs.Environment.{Environment, Context, Scope, context_of, relation_in, message_of, relation_of_context, parameter_format, field_format}
 use Rattle.grammar.specs.Scope.{in_scope, declared, opened_by_for, of_for}
 use Rattle.grammar.specs.Kinds.{one_kind}

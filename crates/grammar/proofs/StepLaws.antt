@@ -7,103 +7,87 @@ use mathlib.Core.Option.{Option, none, some}
 use lib.Dec.{leb}
 use lib.ListN.{length}
 use native.Mathlib.Omega.{arith}
+use Rattle.std.specs.Prelude.{Result, Ok, Err}
 use Rattle.wire.specs.Words.{byte_at}
+use Rattle.wire.specs.Options.{refused_at}
+use Rattle.wire.specs.declared.refused.Refused.{Refused}
 use Rattle.wire.specs.declared.numbers.ContextNumber.{ContextNumber}
 use Rattle.wire.specs.declared.numbers.MessageNumber.{MessageNumber}
 use Rattle.wire.specs.declared.numbers.LabelNumber.{LabelNumber}
-use Rattle.grammar.specs.Kind.{Kind}
-use Rattle.grammar.specs.Kind as Kind
 use Rattle.grammar.specs.declared.Refusal.{Refusal}
 use Rattle.grammar.specs.declared.Refusal.TheVariants.{EndsEarly}
 use Rattle.grammar.specs.declared.Cursor.{Cursor}
-use Rattle.grammar.specs.declared.Fit.{Fit}
-use Rattle.grammar.specs.declared.Fit.TheVariants as Fit
-use Rattle.grammar.specs.declared.Step.{Step}
-use Rattle.grammar.specs.declared.Step.TheVariants as Step
-use Rattle.grammar.specs.declared.ByteStep.{ByteStep}
-use Rattle.grammar.specs.declared.ByteStep.TheVariants as ByteStep
-use Rattle.grammar.specs.declared.ContextStep.{ContextStep}
-use Rattle.grammar.specs.declared.ContextStep.TheVariants as ContextStep
-use Rattle.grammar.specs.declared.MessageStep.{MessageStep}
-use Rattle.grammar.specs.declared.MessageStep.TheVariants as MessageStep
-use Rattle.grammar.specs.declared.LabelStep.{LabelStep}
-use Rattle.grammar.specs.declared.LabelStep.TheVariants as LabelStep
-use Rattle.grammar.specs.declared.WordStep.{WordStep}
-use Rattle.grammar.specs.declared.WordStep.TheVariants as WordStep
 use Rattle.grammar.specs.Reader.{Read, read, refused, on, taken, peek}
-use Rattle.grammar.specs.Internal.Steps.{fit_of, kind_in, step_of, byte_step, context_step, message_step, label_step, word_step}
+use Rattle.grammar.specs.Internal.Steps.{answer_of, cursor_of, same}
 
 pub absurd-eq : {A : Type 0} → ◌≡◌ {A = ℕ} 0 1 → A
 absurd-eq z = absurd (omega arith)
 
--- ---- a step
+-- ---- an answer
 
-pub step-read : {A : Type 0} (f : A → Fit) (x : Read A) {k : Fit} {q : Cursor} → Step.Next k q ≡ step_of f x → (a : A) × (x ≡ read a q) × (k ≡ f a)
-step-read f (read a c) e = (a, cc, cc)
-step-read f (refused r p) e = absurd-eq (cc)
+-- an answer back to the reading
+abbrev pub read_of : {A : Type 0} → Result (A × Cursor) (Refused Refusal) → Read A
+read_of (Ok y) = read y.0 y.1
+read_of (Err y) = refused y.refusal y.place
 
-pub step-refused : {A : Type 0} (f : A → Fit) (x : Read A) {r : Refusal} {p : ℕ} → Step.Refused r p ≡ step_of f x → x ≡ refused r p
-step-refused f (read a c) e = absurd-eq (cc)
-step-refused f (refused r p) e = cc
+abbrev pub passed_of : Result Cursor (Refused Refusal) → Read (Unit {0})
+passed_of (Ok q) = read tt q
+passed_of (Err y) = refused y.refusal y.place
 
-pub byte-read : (x : Read ℕ) {n : ℕ} {q : Cursor} → ByteStep.Is n q ≡ byte_step x → x ≡ read n q
-byte-read (read a c) e = cc
-byte-read (refused r p) e = absurd-eq (cc)
+-- an answer without its thing
+abbrev pub passed_in : {A : Type 0} → Result (A × Cursor) (Refused Refusal) → Result Cursor (Refused Refusal)
+passed_in (Ok y) = Ok y.1
+passed_in (Err y) = Err y
 
-pub byte-refused : (x : Read ℕ) {r : Refusal} {p : ℕ} → ByteStep.Refused r p ≡ byte_step x → x ≡ refused r p
-byte-refused (read a c) e = absurd-eq (cc)
-byte-refused (refused r p) e = cc
+module _ {A B : Type 0} (f : A → B) where
+  pub answer-read : (x : Read A) {b : B} {q : Cursor} → Ok (b, q) ≡ answer_of f x → (a : A) × (x ≡ read a q) × (b ≡ f a)
+  answer-read (read a c) {b} {q} e =
+      let w : read b q ≡ read (f a) c = ap read_of e in
+      (a, cc, cc)
+  answer-read (refused r p) e = absurd-eq (cc)
 
--- a step back to the reading: what was read is the byte of the number
-abbrev context_back : ContextStep → Read ℕ
-context_back (ContextStep.Is n q) = read n.0 q
-context_back (ContextStep.Refused r p) = refused r p
+  pub answer-refused : (x : Read A) {y : Refused Refusal} → Err y ≡ answer_of f x → x ≡ refused y.refusal y.place
+  answer-refused (read a c) e = absurd-eq (cc)
+  answer-refused (refused r p) {y} e =
+      let w : refused r p ≡ refused y.refusal y.place = ap passed_of (ap passed_in (sym e)) in
+      cc
 
-context-back : (x : Read ℕ) → x ≡ context_back (context_step x)
-context-back (read n c) = refl
-context-back (refused r p) = refl
+module _ {A : Type 0} where
+  pub cursor-read : (x : Read A) {q : Cursor} → Ok q ≡ cursor_of x → (a : A) × (x ≡ read a q)
+  cursor-read (read a c) e = (a, cc)
+  cursor-read (refused r p) e = absurd-eq (cc)
 
-pub context-read : (x : Read ℕ) {n : ContextNumber} {q : Cursor} → ContextStep.Is n q ≡ context_step x → x ≡ read n.0 q
-context-read x e = context-back x ∙ ap context_back (sym e)
+  pub cursor-refused : (x : Read A) {y : Refused Refusal} → Err y ≡ cursor_of x → x ≡ refused y.refusal y.place
+  cursor-refused (read a c) e = absurd-eq (cc)
+  cursor-refused (refused r p) {y} e =
+      let w : refused r p ≡ refused y.refusal y.place = ap passed_of (sym e) in
+      cc
 
-pub context-refused : (x : Read ℕ) {r : Refusal} {p : ℕ} → ContextStep.Refused r p ≡ context_step x → x ≡ refused r p
-context-refused x e = context-back x ∙ ap context_back (sym e)
+  same-back : (x : Read A) → x ≡ read_of (answer_of same x)
+  same-back (read a c) = refl
+  same-back (refused r p) = refl
 
-abbrev message_back : MessageStep → Read ℕ
-message_back (MessageStep.Is n q) = read n.0 q
-message_back (MessageStep.Refused r p) = refused r p
+  pub same-read : (x : Read A) {a : A} {q : Cursor} → Ok (a, q) ≡ answer_of same x → x ≡ read a q
+  same-read x e = same-back x ∙ ap read_of (sym e)
 
-message-back : (x : Read ℕ) → x ≡ message_back (message_step x)
-message-back (read n c) = refl
-message-back (refused r p) = refl
+-- what was read is the byte of the number
+module _ {N : Type 0} (f : ℕ → N) (g : N → ℕ) (back : (n : ℕ) → n ≡ g (f n)) where
+  number-back : (x : Read ℕ) {n : N} {q : Cursor} → Ok (n, q) ≡ answer_of f x → x ≡ read (g n) q
+  number-back (read k c) {n} {q} e =
+      let w : read n q ≡ read (f k) c = ap read_of e in
+      let h : n ≡ f k = cc in
+      let l : k ≡ g n = back k ∙ ap g (sym h) in
+      cc
+  number-back (refused r p) e = absurd-eq (cc)
 
-pub message-read : (x : Read ℕ) {n : MessageNumber} {q : Cursor} → MessageStep.Is n q ≡ message_step x → x ≡ read n.0 q
-message-read x e = message-back x ∙ ap message_back (sym e)
+pub context-read : (x : Read ℕ) {n : ContextNumber} {q : Cursor} → Ok (n, q) ≡ answer_of (λ k. record { 0 = k }) x → x ≡ read n.0 q
+context-read x e = number-back (λ k. record { 0 = k }) (λ n. n.0) (λ n. refl) x e
 
-pub message-refused : (x : Read ℕ) {r : Refusal} {p : ℕ} → MessageStep.Refused r p ≡ message_step x → x ≡ refused r p
-message-refused x e = message-back x ∙ ap message_back (sym e)
+pub message-read : (x : Read ℕ) {n : MessageNumber} {q : Cursor} → Ok (n, q) ≡ answer_of (λ k. record { 0 = k }) x → x ≡ read n.0 q
+message-read x e = number-back (λ k. record { 0 = k }) (λ n. n.0) (λ n. refl) x e
 
-abbrev label_back : LabelStep → Read ℕ
-label_back (LabelStep.Is n q) = read n.0 q
-label_back (LabelStep.Refused r p) = refused r p
-
-label-back : (x : Read ℕ) → x ≡ label_back (label_step x)
-label-back (read n c) = refl
-label-back (refused r p) = refl
-
-pub label-read : (x : Read ℕ) {n : LabelNumber} {q : Cursor} → LabelStep.Is n q ≡ label_step x → x ≡ read n.0 q
-label-read x e = label-back x ∙ ap label_back (sym e)
-
-pub label-refused : (x : Read ℕ) {r : Refusal} {p : ℕ} → LabelStep.Refused r p ≡ label_step x → x ≡ refused r p
-label-refused x e = label-back x ∙ ap label_back (sym e)
-
-pub word_read : (x : Read ℕ) {n : ℕ} {q : Cursor} → WordStep.Is n q ≡ word_step x → x ≡ read n q
-word_read (read a c) e = cc
-word_read (refused r p) e = absurd-eq (cc)
-
-pub word-refused : (x : Read ℕ) {r : Refusal} {p : ℕ} → WordStep.Refused r p ≡ word_step x → x ≡ refused r p
-word-refused (read a c) e = absurd-eq (cc)
-word-refused (refused r p) e = cc
+pub label-read : (x : Read ℕ) {n : LabelNumber} {q : Cursor} → Ok (n, q) ≡ answer_of (λ k. record { 0 = k }) x → x ≡ read n.0 q
+label-read x e = number-back (λ k. record { 0 = k }) (λ n. n.0) (λ n. refl) x e
 
 -- ---- a field that stands whole, and one that does not
 

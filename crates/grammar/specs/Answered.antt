@@ -1,7 +1,9 @@
 -- What reading promises.
-use Rattle.std.specs.Prelude.{ℕ, suc, ◌≡◌, List, length}
-use Rattle.grammar.specs.declared.ReadAnswer.{ReadAnswer}
-use Rattle.grammar.specs.declared.ReadAnswer.TheVariants as ReadAnswer
+use Rattle.std.specs.Prelude.{ℕ, suc, ◌≡◌, List, length, Result, Ok, Err}
+use Rattle.wire.specs.Options.{refused_at}
+use Rattle.wire.specs.declared.refused.Refused.{Refused}
+use Rattle.grammar.specs.declared.Refusal.{Refusal}
+use Rattle.grammar.specs.declared.Counts.{Counts}
 use Rattle.grammar.specs.Tree.{Request}
 use Rattle.grammar.specs.Sizes.{statements_count, parameter_count, contexts_count}
 use Rattle.grammar.specs.Reader.{Read, read, refused}
@@ -9,13 +11,13 @@ use Rattle.grammar.specs.Reading.{answer, statement_table, parameter_table, cont
 use Rattle.grammar.specs.Demands.{Octets}
 
 -- 01: "Acceptance gives the counts of rows"
-abbrev pub reading_of : Read Request → ReadAnswer
+abbrev pub reading_of : Read Request → Result Counts (Refused Refusal)
 reading_of (read r c) =
-    ReadAnswer.Accepted (suc (statements_count r.statements)) (parameter_count r.messages) (contexts_count r.statements)
-reading_of (refused x p) = ReadAnswer.Refused x p
+    Ok (record { statements = suc (statements_count r.statements); parameters = parameter_count r.messages; contexts = contexts_count r.statements })
+reading_of (refused x p) = Err (refused_at x p)
 
 -- what a reading answers, and what it leaves in the three tables; the request and the dictionary are bytes
-pub record Answered (s d st pa ct st' pa' ct' : List ℕ) (r : ReadAnswer) : Type 0 where
+pub record Answered (s d st pa ct st' pa' ct' : List ℕ) (r : Result Counts (Refused Refusal)) : Type 0 where
   pub request_octets : Octets s
   pub dictionary_octets : Octets d
   pub answered : r ≡ reading_of (answer s d (length st) (length pa) (length ct))

@@ -1,14 +1,14 @@
 -- Demands 1 and 2 of reading: the records `RefusedReading`, and `Soundness` with `Completeness`. A reading has a request s, a dictionary d,
 -- the tables st, pa and ct as they were lent (of statements, parameters and contexts), the same tables st', pa' and ct' as they were left,
 -- and an answer.
-use Rattle.std.specs.Prelude.{ℕ, ◌*◌, ◌≤◌, ◌<◌, ◌≡◌, cond, List, eqb, length, replicate}
+use Rattle.std.specs.Prelude.{ℕ, ◌*◌, ◌≤◌, ◌<◌, ◌≡◌, cond, List, eqb, length, replicate, Result, Ok}
 use Rattle.wire.specs.Words.{byte_at}
+use Rattle.wire.specs.declared.refused.Refused.{Refused}
 use Rattle.wire.specs.Limits.{max_request_bytes, statement_row_numbers, parameter_row_numbers, context_row_numbers, statement_table_numbers, parameter_table_numbers, context_table_numbers}
 use Rattle.dictionary.specs.Dictionary.{Relation, proper, dictionary}
 use Rattle.grammar.specs.declared.Refusal.{Refusal}
 use Rattle.grammar.specs.declared.Refusal.TheVariants.{BadDictionary}
-use Rattle.grammar.specs.declared.ReadAnswer.{ReadAnswer}
-use Rattle.grammar.specs.declared.ReadAnswer.TheVariants.{Accepted}
+use Rattle.grammar.specs.declared.Counts.{Counts}
 use Rattle.grammar.specs.Refusals.{number}
 use Rattle.grammar.specs.Tree.{Request}
 use Rattle.grammar.specs.Bytes.{request_bytes}
@@ -82,6 +82,6 @@ pub record Soundness (s d st pa ct st' pa' ct' : List ℕ) (n m k : ℕ) : Type 
   pub filled : Filled relations tree st pa ct st' pa' ct' n m k
 
 -- demand 2, accepted if allowed: the answer r is acceptance with the counts of rows
-pub record Completeness (s d st pa ct st' pa' ct' : List ℕ) (r : ReadAnswer) : Type 0 where
+pub record Completeness (s d st pa ct st' pa' ct' : List ℕ) (r : Result Counts (Refused Refusal)) : Type 0 where
   pub accepted : (rs : List Relation) (t : Request) → Acceptable s d st pa ct rs t →
-      (n : ℕ) × (m : ℕ) × (k : ℕ) × (r ≡ Accepted n m k) × Filled rs t st pa ct st' pa' ct' n m k
+      (n : ℕ) × (m : ℕ) × (k : ℕ) × (r ≡ Ok (record { statements = n; parameters = m; contexts = k })) × Filled rs t st pa ct st' pa' ct' n m k

@@ -14,7 +14,8 @@ use Rattle.wire.specs.declared.codes.DataType.TheVariants as Data
 use Rattle.wire.specs.declared.codes.FieldType.{FieldType}
 use Rattle.wire.specs.declared.codes.FieldType.TheVariants.{Plain, Reading}
 use Rattle.dictionary.specs.Format.{Format}
-use Rattle.grammar.specs.Kind.{Kind, Number, Text, Date}
+use Rattle.grammar.specs.declared.Kind.{Kind}
+use Rattle.grammar.specs.declared.Kind.TheVariants.{Number, Text, Date}
 use Rattle.grammar.specs.Tree.{Literal, Reference, field, parameter, parameter2, Value, literal, reference, arithmetic, negate, statistic, count}
 use Rattle.grammar.specs.Bytes.{statistic_code}
 use Rattle.grammar.specs.Environment.{Environment, Scope, under_rse_of, parameter_format, field_format}

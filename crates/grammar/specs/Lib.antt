@@ -4,7 +4,6 @@ pub mod Tree
 pub mod Bytes
 pub mod Environment
 pub mod Scope
-pub mod Kind
 pub mod Kinds
 pub mod Sizes
 pub mod Rules

@@ -4,10 +4,10 @@
 ghost use Rattle.std.specs.Prelude.{◌≡◌};
 ghost use Rattle.grammar.specs.Refusals.{number};
 
-use wire::numbers::{ContextNumber, LabelNumber, MessageNumber};
+use wire::refused::Refused;
 
 // The refusals of document 01, named by what went wrong. The definition `number` has 01's number for each.
-#[derive(Clone, Copy)]
+#[derive(Clone, Copy, PartialEq, Eq)]
 pub enum Refusal {
     TablesTooShort,
     RequestTooLong,
@@ -35,38 +35,41 @@ pub enum Refusal {
 }
 
 // Document 01's number of a refusal.
-pub fn number_of(refusal: Refusal) -> u32
-    ensures { result ≡ number refusal }
-{
-    match refusal {
-        Refusal::TablesTooShort => 1,
-        Refusal::RequestTooLong => 2,
-        Refusal::BadDictionary => 3,
-        Refusal::EndsEarly => 4,
-        Refusal::BadVersion => 5,
-        Refusal::NotDue => 6,
-        Refusal::LeftOut => 7,
-        Refusal::TooGreat => 8,
-        Refusal::BadMessage => 9,
-        Refusal::NoParameter => 10,
-        Refusal::BadContext => 11,
-        Refusal::Unknown => 12,
-        Refusal::Unfit => 13,
-        Refusal::Misplaced => 14,
-        Refusal::BytesAfterEnd => 15,
-        Refusal::OutOfRange => 16,
-        Refusal::NoBoolean => 20,
-        Refusal::BadMessageBytes => 21,
-        Refusal::BadRecords => 22,
-        Refusal::MalformedText => 23,
-        Refusal::Overflow => 24,
-        Refusal::ZeroDivisor => 25,
-        Refusal::BadRuns => 26,
+impl From<Refusal> for u32 {
+    #[tactic(auto, unfolding(crate::specs::Refusals::number))]
+    fn from(refusal: Refusal) -> u32
+        ensures { result ≡ number refusal }
+    {
+        match refusal {
+            Refusal::TablesTooShort => 1,
+            Refusal::RequestTooLong => 2,
+            Refusal::BadDictionary => 3,
+            Refusal::EndsEarly => 4,
+            Refusal::BadVersion => 5,
+            Refusal::NotDue => 6,
+            Refusal::LeftOut => 7,
+            Refusal::TooGreat => 8,
+            Refusal::BadMessage => 9,
+            Refusal::NoParameter => 10,
+            Refusal::BadContext => 11,
+            Refusal::Unknown => 12,
+            Refusal::Unfit => 13,
+            Refusal::Misplaced => 14,
+            Refusal::BytesAfterEnd => 15,
+            Refusal::OutOfRange => 16,
+            Refusal::NoBoolean => 20,
+            Refusal::BadMessageBytes => 21,
+            Refusal::BadRecords => 22,
+            Refusal::MalformedText => 23,
+            Refusal::Overflow => 24,
+            Refusal::ZeroDivisor => 25,
+            Refusal::BadRuns => 26,
+        }
     }
 }
 
 // How far a reading has come: the place of the next byte, and the statements, contexts and conditions met, of which there are 512 at most.
-#[derive(Clone, Copy)]
+#[derive(Clone, Copy, PartialEq, Eq)]
 pub struct Cursor {
     pub at: usize,
     pub statements: u16,
@@ -74,65 +77,31 @@ pub struct Cursor {
     pub conditions: u16,
 }
 
+// A thing that was read and the cursor after it; or the refusal and its place.
+pub type Read<T> = Result<(T, Cursor), Refused<Refusal>>;
+
+// The cursor after what was read; or the refusal and its place.
+pub type Passed = Result<Cursor, Refused<Refusal>>;
+
 // What a reference is read as: a value, or the target of the assignment at a place.
-#[derive(Clone, Copy)]
+#[derive(Clone, Copy, PartialEq, Eq)]
 pub enum Role {
     AsValue,
     AsTarget(usize),
 }
 
-// The kind of a value that was read, or that it has none.
-#[derive(Clone, Copy)]
-pub enum Fit {
+// The kind of a value; a number with its scale.
+#[derive(Clone, Copy, PartialEq, Eq)]
+pub enum Kind {
     Number(i8),
     Text,
     Date,
-    NoKind,
 }
 
-// What a reader answers: the kind of what was read, if it is a value, and the cursor after it; or the refusal and its place.
-#[derive(Clone, Copy)]
-pub enum Step {
-    Next(Fit, Cursor),
-    Refused(Refusal, usize),
-}
-
-// A byte that was read.
-#[derive(Clone, Copy)]
-pub enum ByteStep {
-    Is(u8, Cursor),
-    Refused(Refusal, usize),
-}
-
-// The number of a context, a message or a label that was read.
-#[derive(Clone, Copy)]
-pub enum ContextStep {
-    Is(ContextNumber, Cursor),
-    Refused(Refusal, usize),
-}
-
-#[derive(Clone, Copy)]
-pub enum MessageStep {
-    Is(MessageNumber, Cursor),
-    Refused(Refusal, usize),
-}
-
-#[derive(Clone, Copy)]
-pub enum LabelStep {
-    Is(LabelNumber, Cursor),
-    Refused(Refusal, usize),
-}
-
-// A word that was read.
-#[derive(Clone, Copy)]
-pub enum WordStep {
-    Is(u32, Cursor),
-    Refused(Refusal, usize),
-}
-
-// The answer of reading: the rows of statements, parameters and contexts; or the refusal and its place.
-#[derive(Clone, Copy)]
-pub enum ReadAnswer {
-    Accepted(usize, usize, usize),
-    Refused(Refusal, usize),
+// The rows of statements, parameters and contexts of a request that was read.
+#[derive(Clone, Copy, PartialEq, Eq)]
+pub struct Counts {
+    pub statements: usize,
+    pub parameters: usize,
+    pub contexts: usize,
 }

@@ -6,10 +6,8 @@ use native.Mathlib.Omega.{arith}
 use lib.ListN.{length, take, drop, length-drop}
 use lib.Seq.{take_all, take-nil, drop-nil, drop-length}
 use Rattle.meaning.specs.declared.Source.{Source}
-use Rattle.meaning.specs.declared.ValueEvaluation.{ValueEvaluation}
-use Rattle.meaning.specs.declared.ValueEvaluation.TheVariants as Value
-use Rattle.meaning.specs.ValueEvaluated.{slice_of}
-use Rattle.greenblr.specs.Inside.{TextIn, PutInside}
+use Rattle.meaning.specs.declared.ValueAnswer.TheVariants as Value
+use Rattle.greenblr.specs.Inside.{TextIn}
 
 drop_past : (n : ℕ) (l : List ℕ) → length l ≤ n → drop n l ≡ []
 drop_past n [] h = drop-nil n
@@ -59,16 +57,6 @@ module _ (l : List ℕ) (source : Source) (start end : ℕ) where
 
   pub text-whole : start ≤ end → end ≤ length l → TextIn l source start end (Value.Text source start end)
   text-whole h e = record { first = start; last = end; is = refl; ordered = h; within = e; same = refl }
-
--- a text that was brought inside the slice it stands in
-pub text-inside :
-    (s images rows runs slice : List ℕ) (v r : ValueEvaluation) (source : Source) (start end : ℕ) → v ≡ Value.Text source start end →
-    slice_of s images rows runs source ≡ slice → TextIn slice source start end r → PutInside s images rows runs v r
-text-inside s images rows runs slice v r source start end e q t =
-    record {
-      same = rw (e, t.is, q, t.same);
-      inside = rw (t.is, q) (t.ordered, t.within);
-    }
 
 -- the four ways of a text's places
 pub ruleset places = (text-past, text-empty, text-cut, text-whole)

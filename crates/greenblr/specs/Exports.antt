@@ -1,5 +1,5 @@
 -- What the functions for C give back.
-use Rattle.std.specs.Prelude.{ℕ, suc, ◌+◌, ◌*◌, min, ◌≡◌, List, [], ◌∷◌, ℤ, pos, length}
+use Rattle.std.specs.Prelude.{ℕ, suc, ◌+◌, ◌*◌, min, ◌≡◌, List, [], ◌∷◌, ℤ, pos, length, Ok, Err}
 use Rattle.grammar.specs.declared.Refusal.{Refusal}
 use Rattle.grammar.specs.Refusals.{number}
 use Rattle.grammar.specs.Tree.{Request}
@@ -12,10 +12,9 @@ use Rattle.meaning.specs.declared.Truth.{Truth}
 use Rattle.meaning.specs.declared.Truth.TheVariants.{True, False, Missing}
 use Rattle.meaning.specs.declared.Source.{Source}
 use Rattle.meaning.specs.declared.Source.TheVariants as Source
-use Rattle.meaning.specs.declared.ValueEvaluation.{ValueEvaluation}
-use Rattle.meaning.specs.declared.ValueEvaluation.TheVariants as Value
+use Rattle.meaning.specs.declared.ValueAnswer.TheVariants as Value
 use Rattle.meaning.specs.Evaluation.{Outcome, answered, refusal, strayed}
-use Rattle.meaning.specs.ValueEvaluated.{ValueEvaluates}
+use Rattle.meaning.specs.ValueEvaluated.{ValueEvaluation, ValueEvaluates}
 use Rattle.greenblr.specs.Inside.{Inside}
 
 -- 0 for an accepted request, or 01's number of the refusal
@@ -110,19 +109,19 @@ abbrev pub place_given : ℕ → ℤ
 place_given p = pos (min p greatest_place)
 
 abbrev pub value_given : ValueEvaluation → ℕ
-value_given (Value.Number a) = number_byte
-value_given (Value.Text source start end) = text_byte
-value_given (Value.Date day fraction) = date_byte
-value_given (Value.Missing w) = truth_given (Missing w)
-value_given (Value.Refused x p) = refusal_given x p
+value_given (Ok (Value.Number a)) = number_byte
+value_given (Ok (Value.Text source start end)) = text_byte
+value_given (Ok (Value.Date day fraction)) = date_byte
+value_given (Ok (Value.Missing w)) = truth_given (Missing w)
+value_given (Err x) = refusal_given x.refusal x.place
 
 -- value and scale; what the text stands in, where it starts and where it ends; day and fraction
 abbrev pub value_numbers : ValueEvaluation → List ℤ
-value_numbers (Value.Number a) = a.value ∷ a.scale ∷ pos 0 ∷ []
-value_numbers (Value.Text source start end) = source_given source ∷ place_given start ∷ place_given end ∷ []
-value_numbers (Value.Date day fraction) = day ∷ pos fraction ∷ pos 0 ∷ []
-value_numbers (Value.Missing w) = pos 0 ∷ pos 0 ∷ pos 0 ∷ []
-value_numbers (Value.Refused x p) = pos 0 ∷ pos 0 ∷ pos 0 ∷ []
+value_numbers (Ok (Value.Number a)) = a.value ∷ a.scale ∷ pos 0 ∷ []
+value_numbers (Ok (Value.Text source start end)) = source_given source ∷ place_given start ∷ place_given end ∷ []
+value_numbers (Ok (Value.Date day fraction)) = day ∷ pos fraction ∷ pos 0 ∷ []
+value_numbers (Ok (Value.Missing w)) = pos 0 ∷ pos 0 ∷ pos 0 ∷ []
+value_numbers (Err x) = pos 0 ∷ pos 0 ∷ pos 0 ∷ []
 
 -- what is given, and what is left in the answer, tell the answer to the from-value; a text stands inside what was lent
 pub record ValueExported (s d : List ℕ) (k : ℕ) (images rows runs : List ℕ) (an' : List ℤ) (r : ℕ) : Type 0 where

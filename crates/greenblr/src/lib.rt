@@ -12,9 +12,11 @@ pub mod stores;
 mod texts;
 
 use explanation::Explanation;
-use grammar::{ReadAnswer, Refusal, number_of};
-use meaning::{Evaluation, Source, Truth, ValueEvaluation};
+use grammar::Refusal;
+use meaning::{Source, Truth, ValueAnswer, ValueEvaluation};
 use records::missing::Cause;
+use values::Lent;
+use wire::refused::Refused;
 
 // The library's version (the file VERSION), in three numbers.
 const MAJOR: u32 = 0;
@@ -31,7 +33,7 @@ pub extern "C" fn greenblr_version() -> u32
     1000000 * MAJOR + 1000 * MINOR + PATCH
 }
 
-// Reads a request: 0 and the counts of rows, or the number of the refusal and its place.
+// Reads a request: 0 and the counts of rows, or the number of the refusal and its place. Kept: C gives these parameters, here and below.
 #[unsafe(no_mangle)]
 pub extern "C" fn greenblr_read(
     request: &[u8],
@@ -44,18 +46,18 @@ pub extern "C" fn greenblr_read(
     ensures { Exported request.now dictionary.now statements.old parameters.old contexts.old statements.new parameters.new contexts.new answer.new result }
 {
     match reader::read(request, dictionary, statements, parameters, contexts) {
-        ReadAnswer::Accepted(n, m, k) => {
-            *answer = [n, m, k];
+        Ok(counts) => {
+            *answer = [counts.statements, counts.parameters, counts.contexts];
             0
         }
-        ReadAnswer::Refused(r, p) => {
-            *answer = [p, 0, 0];
-            number_of(r)
+        Err(e) => {
+            *answer = [e.place, 0, 0];
+            u32::from(e.refusal)
         }
     }
 }
 
-// A cause as a number.
+// A cause as a number. Kept, here and below: C reads these numbers (include/greenblr.h), and no type of them is of this crate: no From.
 fn cause_number(cause: Cause) -> u64
     ensures { result ≡ cause_given cause }
 {
@@ -95,7 +97,7 @@ const PLACE_BITS: u64 = 65536;
 // The greatest place that those bits hold, which are 48.
 const GREATEST_PLACE: usize = 281474976710655;
 
-// A truth value as a number; of missing, with the cause.
+// A truth value as a number; of missing, with the cause. Kept: as above.
 fn truth_number(truth: Truth) -> u64
     ensures { result ≡ truth_given truth }
 {
@@ -117,15 +119,19 @@ fn held_place(place: usize) -> u64
     }
 }
 
-// A refusal and its place as a number.
-fn refusal_number(refusal: Refusal, place: usize) -> u64
-    ensures { result ≡ refusal_given refusal place }
+// A refusal and its place as a number. Kept: as above.
+#[tactic(auto, using(crate::proofs::Numbers::number_few))]
+fn refusal_number(refused: Refused<Refusal>) -> u64
+    ensures { result ≡ refusal_given refused.refusal refused.place }
 {
-    REFUSED + SECOND_BYTE * number_of(refusal) as u64 + PLACE_BITS * held_place(place)
+    REFUSED
+        + SECOND_BYTE * u32::from(refused.refusal) as u64
+        + PLACE_BITS * held_place(refused.place)
 }
 
 // Evaluates a condition by its number: what it comes out as, or the refusal and its place, in one number (include/greenblr.h).
 #[unsafe(no_mangle)]
+#[tactic(auto, unfolding(crate::specs::Exports::outcome_given))]
 pub extern "C" fn greenblr_evaluate<'a>(
     request: &'a [u8],
     dictionary: &[u8],
@@ -138,12 +144,12 @@ pub extern "C" fn greenblr_evaluate<'a>(
         (evaluation request.now dictionary.now number images.now records.now runs.now) }
 {
     match evaluator::evaluate(request, dictionary, number, images, records, runs) {
-        Evaluation::Is(t) => truth_number(t),
-        Evaluation::Refused(r, p) => refusal_number(r, p),
+        Ok(t) => truth_number(t),
+        Err(e) => refusal_number(e),
     }
 }
 
-// What a text stands in, as a number.
+// What a text stands in, as a number. Kept: as above; another enum and other numbers than those of a cause.
 fn source_number(source: Source) -> i64
     ensures { result ≡ source_given source }
 {
@@ -155,16 +161,16 @@ fn source_number(source: Source) -> i64
     }
 }
 
-// What a from-value comes out as, as a number, with three more in the answer.
+// What a from-value comes out as, as a number, with three more in the answer. Kept: the number and the three are what C reads.
 fn value_number(value: ValueEvaluation, answer: &mut [i64; 3]) -> u64
     ensures { (result ≡ value_given value) × (answer.new ≡ value_numbers value) }
 {
     match value {
-        ValueEvaluation::Number(n) => {
+        Ok(ValueAnswer::Number(n)) => {
             *answer = [n.value, n.scale as i64, 0];
             NUMBER
         }
-        ValueEvaluation::Text(source, start, end) => {
+        Ok(ValueAnswer::Text(source, start, end)) => {
             *answer = [
                 source_number(source),
                 held_place(start) as i64,
@@ -172,17 +178,17 @@ fn value_number(value: ValueEvaluation, answer: &mut [i64; 3]) -> u64
             ];
             TEXT
         }
-        ValueEvaluation::Date(day, fraction) => {
+        Ok(ValueAnswer::Date(day, fraction)) => {
             *answer = [day, fraction as i64, 0];
             DATE
         }
-        ValueEvaluation::Missing(w) => {
+        Ok(ValueAnswer::Missing(w)) => {
             *answer = [0, 0, 0];
             truth_number(Truth::Missing(w))
         }
-        ValueEvaluation::Refused(r, p) => {
+        Err(e) => {
             *answer = [0, 0, 0];
-            refusal_number(r, p)
+            refusal_number(e)
         }
     }
 }
@@ -202,16 +208,23 @@ pub extern "C" fn greenblr_evaluate_value<'a>(
         runs.now answer.new result }
 {
     let value = evaluator::evaluate_value(request, dictionary, row, images, records, runs);
-    value_number(texts::inside(request, images, records, runs, value), answer)
+    let lent = Lent {
+        request,
+        images,
+        records,
+        runs,
+    };
+    value_number(texts::inside(lent, value), answer)
 }
 
-// How many tests are listed, or a refusal and its place, as a number.
+// How many tests are listed, or a refusal and its place, as a number. Kept: as above.
+#[tactic(auto, unfolding(crate::specs::Explained::count_given))]
 fn explanation_number(explanation: Explanation) -> u64
     ensures { result ≡ count_given (count_of explanation) }
 {
     match explanation {
-        Explanation::Tests(n) => EXPLAINED + PLACE_BITS * held_place(n),
-        Explanation::Refused(r, p) => refusal_number(r, p),
+        Ok(n) => EXPLAINED + PLACE_BITS * held_place(n),
+        Err(e) => refusal_number(e),
     }
 }
 

@@ -4,25 +4,25 @@ ghost use Rattle.std.specs.Prelude.{◌≡◌};
 ghost use Rattle.store.specs.Calls.{make, change, add, erase, replace};
 ghost use Rattle.greenblr.specs.Stores.{call_number, call_numbers, StoreCalled, StoreRead, StorePlaced};
 
-use store::{Answer, Reading, RecordPlace, number_of};
+use store::Answer;
 
 // The number of an answer, and its place in the answer.
-fn told(a: Answer, answer: &mut [usize; 3]) -> u32
+fn told(a: Answer<()>, answer: &mut [usize; 3]) -> u32
     ensures { (result ≡ call_number a) × (answer.new ≡ call_numbers a) }
 {
     match a {
-        Answer::Done => {
+        Ok(()) => {
             *answer = [0, 0, 0];
             0
         }
-        Answer::Refused(x, p) => {
-            *answer = [p, 0, 0];
-            number_of(x)
+        Err(e) => {
+            *answer = [e.place, 0, 0];
+            u32::from(e.refusal)
         }
     }
 }
 
-// Makes an empty store of the relation of an id.
+// Makes an empty store of the relation of an id. Kept: C gives these parameters, here and below.
 #[unsafe(no_mangle)]
 pub extern "C" fn greenblr_store_make(
     dictionary: &[u8],
@@ -85,14 +85,13 @@ pub extern "C" fn greenblr_store_read(
     ensures { StoreRead dictionary.now buffer.now answer.new result }
 {
     match store::read(dictionary, buffer) {
-        Reading::Holds(relation, count, missing) => {
-            let id = relation as usize;
-            *answer = [id, count, missing];
+        Ok(counts) => {
+            *answer = [counts.relation as usize, counts.records, counts.missing];
             0
         }
-        Reading::Refused(x, p) => {
-            *answer = [p, 0, 0];
-            number_of(x)
+        Err(e) => {
+            *answer = [e.place, 0, 0];
+            u32::from(e.refusal)
         }
     }
 }
@@ -108,13 +107,13 @@ pub extern "C" fn greenblr_store_find(
     ensures { StorePlaced dictionary.now buffer.now position answer.new result }
 {
     match store::find(dictionary, buffer, position) {
-        RecordPlace::At(p, n) => {
-            *answer = [p, n, 0];
+        Ok((place, length)) => {
+            *answer = [place, length, 0];
             0
         }
-        RecordPlace::Refused(x, p) => {
-            *answer = [p, 0, 0];
-            number_of(x)
+        Err(e) => {
+            *answer = [e.place, 0, 0];
+            u32::from(e.refusal)
         }
     }
 }

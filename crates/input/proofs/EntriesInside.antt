@@ -1,6 +1,6 @@
 -- The entries of an evaluation's input stand inside it, one after another.
 use Prim.Native.Nat.{ℕ, ◌+◌, ◌≤◌}
-use mathlib.Core.Path.{◌≡◌, refl}
+use mathlib.Core.Path.{◌≡◌, refl, subst}
 use mathlib.Core.Bool.{Bool, true, false, cond}
 use mathlib.Core.List.{List}
 use native.Mathlib.Omega.{arith}
@@ -9,7 +9,8 @@ use lib.ListN.{length}
 use borrow.Author.Tests.{leb-true, eqb-true}
 use Rattle.input.specs.Input.{whole}
 use Rattle.input.specs.Evaluation.{after_entries, whole_number, request_at, number_at, messages_at, records_at, runs_at, whole_input, evaluation_input}
-use Rattle.input.specs.declared.EvaluationInput.TheVariants as EvaluationInput
+use Rattle.std.specs.Prelude.{Some, None}
+use Rattle.input.specs.declared.Entries.{Entries}
 use Rattle.input.proofs.Inside.{both, whole-inside}
 use Rattle.input.proofs.Runs.{after-grows}
 
@@ -37,21 +38,13 @@ whole-input-inside s h =
       short = leb-true (length s) 3000000 first.0;
     }
 
-pub evaluation-inside :
-    (s : List ℕ) (request number records runs : ℕ) → EvaluationInput.Entries request number records runs ≡ evaluation_input s →
-    EntriesInside s request number records runs
+pub evaluation-inside : (s : List ℕ) (x : Entries) → Some x ≡ evaluation_input s → EntriesInside s x.request x.number x.records x.runs
 unfolding evaluation_input
-evaluation-inside s request number records runs e = by (whole_input s) refl e
+evaluation-inside s x e = by (whole_input s) refl e
   where
-    by :
-        (b : Bool) → whole_input s ≡ b →
-        EvaluationInput.Entries request number records runs ≡
-        cond b (EvaluationInput.Entries (request_at s) (number_at s) (records_at s) (runs_at s)) EvaluationInput.Bad →
-        EntriesInside s request number records runs
+    by : (b : Bool) → whole_input s ≡ b →
+        Some x ≡ cond b (Some (record { request = request_at s; number = number_at s; records = records_at s; runs = runs_at s })) None → EntriesInside s x.request x.number x.records x.runs
     by true i h =
-        let r : request_at s ≡ request = cc in
-        let n : number_at s ≡ number = cc in
-        let k : records_at s ≡ records = cc in
-        let u : runs_at s ≡ runs = cc in
-        rw (← r, ← n, ← k, ← u) (whole-input-inside s i)
+        let same : record { request = request_at s; number = number_at s; records = records_at s; runs = runs_at s } ≡ x = cc in
+        subst (λ (x : Entries). EntriesInside s x.request x.number x.records x.runs) same (whole-input-inside s i)
     by false i h = let z : ◌≡◌ {A = ℕ} 0 1 = cc in absurd (omega arith)

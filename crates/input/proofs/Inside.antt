@@ -1,17 +1,17 @@
 -- The entries of an input stand inside it.
 use Prim.Native.Nat.{ℕ, ◌+◌, ◌≤◌}
-use mathlib.Core.Path.{◌≡◌, refl, sym, ap, ◌∙◌}
+use mathlib.Core.Path.{◌≡◌, refl}
 use mathlib.Core.Bool.{Bool, true, false, cond, ◌&&◌}
 use mathlib.Core.List.{List}
-use mathlib.Core.Option.{Option, none, some}
+use mathlib.Core.Option.{none, some}
 use native.Mathlib.Omega.{arith}
 use lib.Dec.{eqb, leb}
 use lib.ListN.{length}
-use borrow.Author.Tests.{leb-true, eqb-true}
+use borrow.Author.Tests.{leb-true}
 use Rattle.wire.specs.Words.{word_at}
-use Rattle.input.specs.Input.{whole, request_entry, input_answer}
-use Rattle.input.specs.declared.Input.{Input}
-use Rattle.input.specs.declared.Input.TheVariants as Input
+use Rattle.std.specs.Prelude.{Some, None}
+use Rattle.wire.specs.Options.{option_of}
+use Rattle.input.specs.Input.{whole, entry_end, request_entry}
 
 pub both : (a b : Bool) → a && b ≡ true → (a ≡ true) × (b ≡ true)
 both true b e = (refl, e)
@@ -24,14 +24,29 @@ whole-inside s p k h =
     let v = both (leb 4 (word_at s p)) (leb (p + word_at s p) (length s)) u.0 in
     (leb-true 4 (word_at s p) v.0, leb-true (p + word_at s p) (length s) v.1)
 
+-- what the place after an entry tells of it
+pub ended : (s : List ℕ) (p k next : ℕ) → Some next ≡ option_of (entry_end s p k) → (whole s p k ≡ true) × (next ≡ p + word_at s p)
+ended s p k next e = by (whole s p k) e
+  where
+    by : (b : Bool) → Some next ≡ option_of (cond b (some (p + word_at s p)) none) → (b ≡ true) × (next ≡ p + word_at s p)
+    by true h = let same : next ≡ p + word_at s p = cc in (refl, same)
+    by false h = let z : ◌≡◌ {A = ℕ} 0 1 = cc in absurd (omega arith)
+
+pub not-ended : (s : List ℕ) (p k : ℕ) → None ≡ option_of (entry_end s p k) → whole s p k ≡ false
+not-ended s p k e = by (whole s p k) e
+  where
+    by : (b : Bool) → None ≡ option_of (cond b (some (p + word_at s p)) none) → b ≡ false
+    by true h = let z : ◌≡◌ {A = ℕ} 0 1 = cc in absurd (omega arith)
+    by false h = refl
+
 -- the request's entry stands after four bytes or more, and has four bytes or more
-pub request-inside : (s : List ℕ) (p : ℕ) → Input.Request p ≡ input_answer (request_entry s) → (4 ≤ p) × (p + 4 ≤ length s)
+pub request-inside : (s : List ℕ) (p : ℕ) → Some p ≡ option_of (request_entry s) → (4 ≤ p) × (p + 4 ≤ length s)
 unfolding request_entry
 request-inside s p e = by (whole s 0 4) (whole s (word_at s 0) 5) (eqb (word_at s 0 + word_at s (word_at s 0)) (length s)) refl refl refl e
   where
     by :
         (a b t : Bool) → whole s 0 4 ≡ a → whole s (word_at s 0) 5 ≡ b → eqb (word_at s 0 + word_at s (word_at s 0)) (length s) ≡ t →
-        Input.Request p ≡ input_answer (cond (a && b && t) (some (word_at s 0)) none) → (4 ≤ p) × (p + 4 ≤ length s)
+        Some p ≡ option_of (cond (a && b && t) (some (word_at s 0)) none) → (4 ≤ p) × (p + 4 ≤ length s)
     by true true true i j k h =
         let w : p ≡ word_at s 0 = cc in
         let first = whole-inside s 0 4 i in

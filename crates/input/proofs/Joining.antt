@@ -1,11 +1,11 @@
 -- Joined bodies in a space that is long enough.
 use Prim.Native.Nat.{ℕ, zero, suc, ◌+◌, ◌-◌, ◌≤◌}
-use mathlib.Core.Path.{◌≡◌, refl, sym, ap, ◌∙◌}
+use mathlib.Core.Path.{◌≡◌, refl, ap, ◌∙◌}
 use mathlib.Core.Bool.{Bool, true, false}
-use mathlib.Core.List.{List, [], ◌++◌}
+use mathlib.Core.List.{List, ◌++◌}
 use native.Mathlib.Omega.{arith}
 use lib.ListN.{length, take, drop, length-append, length-drop}
-use lib.Seq.{sets, sets-eq, length-sets, take_at, length-take-le}
+use lib.Seq.{sets-eq, length-sets, take_at, length-take-le}
 use Rattle.wire.specs.Words.{word_at}
 use Rattle.input.specs.Input.{whole}
 use Rattle.input.specs.Evaluation.{placed, places, entries_from, body, bodies, joined, Joined}

@@ -1,7 +1,7 @@
 -- The input of the programs `evaluate` and `explain`. 02, No. 6: "It reads entries of kinds 4, 5, 9 (the boolean's number, a word), then
 -- any of kind 10 (message bytes, joined), then of 3, then of 7, in all at most 3,000,000 bytes, else `bad input`." For `evaluate` one of
 -- kind 11 may stand in place of the entry of kind 9: the row of an assignment, a word, whose from-value is asked for (02, No. 9).
-use Rattle.std.specs.Prelude.{ℕ, zero, suc, ◌+◌, ◌-◌, Bool, true, false, cond, ◌&&◌, ◌||◌, ◌≡◌, List, [], ◌∷◌, ◌++◌, eqb, leb, length, take, drop}
+use Rattle.std.specs.Prelude.{ℕ, zero, suc, ◌+◌, ◌-◌, Bool, true, false, cond, ◌&&◌, ◌||◌, ◌≡◌, List, [], ◌∷◌, ◌++◌, eqb, leb, length, take, drop, Option, Some, None}
 use Rattle.std.proofs.lemmas.List.Edits.{sets}
 use Rattle.wire.specs.Words.{word_at}
 use Rattle.wire.specs.Entries.{
@@ -15,8 +15,7 @@ use Rattle.wire.specs.Entries.{
   run_entry_kind,
 }
 use Rattle.input.specs.Input.{whole}
-use Rattle.input.specs.declared.EvaluationInput.{EvaluationInput}
-use Rattle.input.specs.declared.EvaluationInput.TheVariants as EvaluationInput
+use Rattle.input.specs.declared.Entries.{Entries}
 
 -- p and the rest, if an entry stands at p
 abbrev pub placed : Bool → ℕ → List ℕ → List ℕ
@@ -109,5 +108,6 @@ whole_input s =
     leb (length s) max_input_bytes && whole s 0 dictionary_entry_kind && whole s (request_at s) request_entry_kind && whole_number s (number_at s) &&
     eqb (after_entries s (runs_at s) run_entry_kind) (length s)
 
-unfoldable pub evaluation_input : List ℕ → EvaluationInput
-evaluation_input s = cond (whole_input s) (EvaluationInput.Entries (request_at s) (number_at s) (records_at s) (runs_at s)) EvaluationInput.Bad
+unfoldable pub evaluation_input : List ℕ → Option Entries
+evaluation_input s =
+    cond (whole_input s) (Some (record { request = request_at s; number = number_at s; records = records_at s; runs = runs_at s })) None

@@ -10,45 +10,22 @@ use native.Mathlib.Nat.{le_of_suc-le-suc, not-suc-le-zero}
 use lib.Dec.{ltb}
 use lib.ListN.{length, get_elem?}
 use borrow.Author.Tests.{eq-eqb, ne_eqb, ltb-false}
+use Rattle.std.specs.Prelude.{Some, None}
+use Rattle.wire.specs.Options.{option_of}
 use Rattle.wire.specs.Words.{word_at}
 use Rattle.dictionary.specs.Format.{Format}
 use Rattle.dictionary.specs.Dictionary.{Relation}
 use Rattle.dictionary.specs.Naming.{Name, numbered, format_of, field_of, field_format}
 use Rattle.dictionary.specs.Internal.Walk.{fields_of, entry_field, relation_at}
-use Rattle.dictionary.specs.declared.lookup.Place.TheVariants as Place
-use Rattle.dictionary.specs.declared.field.Index.TheVariants as Index
-use Rattle.dictionary.specs.Internal.Answers.{place_answer}
-use Rattle.dictionary.specs.Internal.FieldAnswers.{index_answer}
 use Rattle.records.specs.declared.missing.Cause.{Cause}
-use Rattle.records.specs.declared.missing.Presence.TheVariants.{There, Missing}
 use Rattle.records.specs.Record.{bit_at, reading_missing, field_place, presence_of, field_presence}
 use Rattle.meaning.specs.Data.{absent}
 use Rattle.meaning.specs.Inputs.{Fetched, value, nothing, on_found, kind_held, value_at, field_in}
 use Rattle.surroundings.specs.Around.{slot_field}
 use Rattle.surroundings.specs.Bindings.{cell, rows_in, row_binding, bound_value}
-use Rattle.surroundings.specs.Tables.{bound_answer}
-use Rattle.surroundings.specs.declared.Bound.TheVariants as Bound
 use Rattle.surroundings.proofs.BindingLoops.{bound_some, bound-none, binding-inside}
 use Rattle.inputs.specs.Answers.{clamped, row_field, row_named}
 use Rattle.inputs.proofs.PastEnd.{word-clamped, value-clamped}
-
--- ---- answers taken apart
-
-pub place-some : (o : Option ℕ) (p : ℕ) → Place.At p ≡ place_answer o → o ≡ some p
-place-some none p e = absurd (let z : ◌≡◌ {A = ℕ} 0 1 = cc in omega arith)
-place-some (some q) p e = cc
-
-pub place_none : (o : Option ℕ) → Place.Unknown ≡ place_answer o → o ≡ none
-place_none none e = refl
-place_none (some q) e = absurd (let z : ◌≡◌ {A = ℕ} 0 1 = cc in omega arith)
-
-index-some : (o : Option ℕ) (i : ℕ) → Index.Is i ≡ index_answer o → o ≡ some i
-index-some none i e = absurd (let z : ◌≡◌ {A = ℕ} 0 1 = cc in omega arith)
-index-some (some j) i e = cc
-
-index-none : (o : Option ℕ) → Index.Unknown ≡ index_answer o → o ≡ none
-index-none none e = refl
-index-none (some j) e = absurd (let z : ◌≡◌ {A = ℕ} 0 1 = cc in omega arith)
 
 -- ---- a field by its entry
 
@@ -80,12 +57,12 @@ module _ (d : List ℕ) (r : ℕ) (s : List ℕ) (p i : ℕ) where
         ap₂ (λ (x : Format) (w : ℕ). presence_of (bit_at s p i) (reading_missing x.type w)) g
         (ap (word_at s) c ∙ word-clamped s (field_place (relation_at d r) p i))
 
-    pub field-missing : (w : Cause) → Missing w ≡ presence_of (bit_at s p i) (reading_missing f.type (word_at s z)) →
+    pub field-missing : (w : Cause) → Some w ≡ presence_of (bit_at s p i) (reading_missing f.type (word_at s z)) →
         value (absent (kind_held f) w) ≡ field_in (relation_at d r) s p i
     unfolding field_in
     field-missing w m = let b = m ∙ presence-is in rw (format-at d r i (some q) e, ← b, g)
 
-    pub field-there : There ≡ presence_of (bit_at s p i) (reading_missing f.type (word_at s z)) → value_at f s z ≡ field_in (relation_at d r) s p i
+    pub field-there : None ≡ presence_of (bit_at s p i) (reading_missing f.type (word_at s z)) → value_at f s z ≡ field_in (relation_at d r) s p i
     unfolding field_in
     field-there m =
         let b = m ∙ presence-is in
@@ -94,11 +71,11 @@ module _ (d : List ℕ) (r : ℕ) (s : List ℕ) (p i : ℕ) where
 -- ---- a field by its name, and by its id
 
 module _ (o : Option ℕ) (f : ℕ → Fetched) where
-  pub field_found : (i : ℕ) → Index.Is i ≡ index_answer o → f i ≡ on_found o f
-  field_found i e = rw (index-some o i e)
+  pub field_found : (i : ℕ) → Some i ≡ option_of o → f i ≡ on_found o f
+  field_found i e = rw (bound_some o i e)
 
-  pub field-unknown : Index.Unknown ≡ index_answer o → nothing ≡ on_found o f
-  field-unknown e = rw (index-none o e)
+  pub field-unknown : None ≡ option_of o → nothing ≡ on_found o f
+  field-unknown e = rw (bound-none o e)
 
 no-element : {A : Type 0} (l : List A) (i : ℕ) → length l ≤ i → get_elem? l i ≡ none
 no-element [] i h = refl
@@ -127,17 +104,17 @@ module _ (d t records runs : List ℕ) (row i relation p code : ℕ) (r : relati
 
 -- ---- a field of a context
 
-pub row-bound : (t : List ℕ) (c row : ℕ) → Bound.At row ≡ bound_answer (row_binding t c (rows_in t) 0) → row < rows_in t
+pub row-bound : (t : List ℕ) (c row : ℕ) → Some row ≡ option_of (row_binding t c (rows_in t) 0) → row < rows_in t
 row-bound t c row e =
     let z = binding-inside t c (rows_in t) 0 row (bound_some (row_binding t c (rows_in t) 0) row e) in
     omega (arith, z)
 
 module _ (d t records runs : List ℕ) (c : ℕ) (n : Name) where
-  pub by_row : (row : ℕ) → Bound.At row ≡ bound_answer (row_binding t c (rows_in t) 0) →
+  pub by_row : (row : ℕ) → Some row ≡ option_of (row_binding t c (rows_in t) 0) →
       row_named d t records runs n row ≡ bound_value d t records runs c n
   unfolding bound_value
   by_row row e = rw (bound_some (row_binding t c (rows_in t) 0) row e)
 
-  pub no_row : Bound.Nothing ≡ bound_answer (row_binding t c (rows_in t) 0) → nothing ≡ bound_value d t records runs c n
+  pub no_row : None ≡ option_of (row_binding t c (rows_in t) 0) → nothing ≡ bound_value d t records runs c n
   unfolding bound_value
   no_row e = rw (bound-none (row_binding t c (rows_in t) 0) e)

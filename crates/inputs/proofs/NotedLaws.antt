@@ -5,7 +5,8 @@ use mathlib.Core.Path.{◌≡◌, refl, sym, ap, ap₂, subst, ◌∙◌}
 use mathlib.Core.Logic.{◌≢◌}
 use mathlib.Core.Bool.{Bool, true, false}
 use mathlib.Core.List.{List}
-use mathlib.Core.Option.{Option, some}
+use mathlib.Core.Option.{some}
+use Rattle.std.specs.Prelude.{Option as Maybe, Some, None, IfSome}
 use native.Mathlib.Omega.{arith}
 use lib.Dec.{eqb, ltb}
 use lib.ListN.{length, get_or, set, replicate, length-set, get_or-eq_default}
@@ -13,6 +14,7 @@ use lib.Seq.{get_or-set_same, get_or-set_other}
 use borrow.Author.Tests.{eqb-true, eqb-false, ltb-true, ltb-false}
 use Rattle.records.specs.declared.lengths.Located.{Located}
 use Rattle.records.specs.Internal.Locations.{located_in, located_of}
+use Rattle.records.proofs.Locations.{located-small}
 use Rattle.inputs.specs.Noted.{row_of, row_place, with_row, Noted, StaysNoted}
 
 -- ---- a table of zeros
@@ -113,13 +115,17 @@ unfolding row_of
 row_small r i = omega arith
 
 -- what the code wrote, by what it located
-pub noted-by : (d t u : List ℕ) (r i row : ℕ) (x : Located) → located_of x ≡ located_in d r i → x.is ≡ true → row ≡ row_place r i →
+pub noted-by : (d t u : List ℕ) (r i row : ℕ) (x : Located) → located_of (Some x) ≡ located_in d r i → row ≡ row_place r i →
     u ≡ with_row t row r i x.entry x.offset → StaysNoted d t u
-noted-by d t u r i row x e h k f n =
-    let found : ◌≡◌ {A = Option (ℕ × ℕ)} (some (x.entry, x.offset)) (located_in d r i) = rw h at e in
+noted-by d t u r i row x e k f n =
     let table : with_row t (row_place r i) r i x.entry x.offset ≡ u =
     ap (λ (p : ℕ). with_row t p r i x.entry x.offset) (sym k) ∙ sym f in
-    subst (Noted d) table (row-noted d t r i x.entry x.offset (sym found) n)
+    subst (Noted d) table (row-noted d t r i x.entry x.offset (sym e) n)
+
+-- where the dictionary says that a field stands
+pub located-narrow : (d : List ℕ) (r i : ℕ) (x : Maybe Located) → located_of x ≡ located_in d r i → IfSome x (λ l. l.offset < 4294967296)
+located-narrow d r i None e = tt
+located-narrow d r i (Some l) e = omega (arith, located-small d r i l e)
 
 -- ---- a row that is found
 

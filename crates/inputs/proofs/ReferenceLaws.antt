@@ -1,37 +1,23 @@
--- Flags, parameters by their rows, and references by their code. Assumes nothing.
-use Prim.Native.Nat.{ℕ, zero, suc}
+-- Parameters by their rows, and references by their code. Assumes nothing.
+use Prim.Native.Nat.{ℕ}
 use mathlib.Core.Path.{◌≡◌, refl, sym, ap, ap₂, ◌∙◌}
-use mathlib.Core.Bool.{true, false}
 use mathlib.Core.List.{List}
 use mathlib.Core.Option.{Option}
-use lib.IntN.{ℤ, pos, negsuc}
-use mir.Val.{SFits, of_z}
-use mir.Syntax.{w64}
 use Rattle.wire.specs.declared.codes.ReferenceCode.{ReferenceCode}
 use Rattle.wire.specs.declared.codes.ReferenceCode.TheVariants.{Field, Fid, Parameter, Parameter2}
-use Rattle.decimal.proofs.Bits.{bits-zero}
 use Rattle.dictionary.specs.Format.{Format}
 use Rattle.grammar.specs.Tree.{Reference}
-use Rattle.meaning.specs.Inputs.{Fetched, on_found, is_zero}
+use Rattle.meaning.specs.Inputs.{Fetched, on_found}
 use Rattle.meaning.specs.Meaning.{fetched_at}
 use Rattle.walking.specs.Walk.{ended, reference_at}
-use Rattle.surroundings.specs.declared.Parameter.{Parameter as Row}
+use Rattle.std.specs.Prelude as Rust
+use Rattle.dictionary.specs.declared.field.Description.{Description}
 use Rattle.surroundings.specs.Tables.{parameter_is}
 use Rattle.inputs.specs.Answers.{reference_in, reference_end}
 
--- ---- a flag
-
-pub flag-zero : (z : ℤ) → SFits w64 z → of_z w64 z ≡ 0 → true ≡ is_zero z
-flag-zero z f e = rw (bits-zero z f e)
-
-pub flag-set : (z : ℤ) → (of_z w64 z ≡ 0 → ⊥) → false ≡ is_zero z
-flag-set (pos zero) n = absurd (n refl)
-flag-set (pos (suc k)) n = refl
-flag-set (negsuc k) n = refl
-
 -- ---- a parameter's row
 
-pub row-found : (o : Option (Format × ℕ)) (f : Format × ℕ → Fetched) (r r' : Row) → r ≡ r' → parameter_is r ≡ o →
+pub row-found : (o : Option (Format × ℕ)) (f : Format × ℕ → Fetched) (r r' : Rust.Option (Description × ℕ)) → r ≡ r' → parameter_is r ≡ o →
     on_found (parameter_is r') f ≡ on_found o f
 row-found o f r r' i e = ap (λ x. on_found x f) (ap parameter_is (sym i) ∙ e)
 

@@ -7,7 +7,7 @@ use lib.ListN.{length, take, drop, length-drop, drop_of_length-le}
 use lib.Seq.{take_all, take-nil, drop-length}
 use Rattle.wire.specs.declared.codes.TextType.{TextType}
 use Rattle.wire.specs.declared.codes.TextType.TheVariants.{Text}
-use Rattle.text.specs.declared.TextPart.TheVariants.{Is, Malformed}
+use Rattle.std.specs.Prelude.{Some, None}
 use Rattle.text.specs.Value.{text_part, kept, bytes_of}
 use Rattle.grammar.specs.Tree as Tree
 use Rattle.meaning.specs.Data.{text}
@@ -52,7 +52,7 @@ module _ (source : Source) (t : TextType) (n : ℕ) (s : List ℕ) (p : ℕ) (h 
   unfolding text_in
   text-is = rw (held-is, k.type_is)
 
-  pub text-there : (a b : ℕ) → text_part t (take n (drop p s)) ≡ Is a b → value (text (text_in m h)) ≡ Inputs.text_in (take n (drop p s)) t
+  pub text-there : (a b : ℕ) → text_part t (take n (drop p s)) ≡ Some (a, b) → value (text (text_in m h)) ≡ Inputs.text_in (take n (drop p s)) t
   unfolding bytes_of
   text-there a b i = rw (text-is, i)
 
@@ -63,5 +63,5 @@ module _ (source : Source) (t : TextType) (n : ℕ) (s : List ℕ) (p : ℕ) (h 
       let z : 0 + kept l 0 (length l) ≡ kept l 0 (length l) = omega arith in
       rw (text-is, i, z)
 
-pub text-bad : (t : TextType) (l : List ℕ) → text_part t l ≡ Malformed → malformed ≡ Inputs.text_in l t
+pub text-bad : (t : TextType) (l : List ℕ) → text_part t l ≡ None → malformed ≡ Inputs.text_in l t
 text-bad t l i = rw i

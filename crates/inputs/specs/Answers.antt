@@ -1,5 +1,5 @@
 -- What the code's answers stand for, beside the slices that were lent.
-use Rattle.std.specs.Prelude.{ℕ, ◌+◌, ◌-◌, ◌≤◌, ◌<◌, ◌≡◌, Bool, true, false, cond, List, ltb, ℤ, pos, length, take, drop}
+use Rattle.std.specs.Prelude.{ℕ, ◌+◌, ◌-◌, ◌≤◌, ◌<◌, ◌≡◌, Bool, cond, List, ltb, ℤ, pos, length, take, drop, Option, Some, None, Result, Ok, Err}
 use Rattle.wire.specs.Words.{byte_at, word_at, long_at, signed}
 use Rattle.wire.specs.declared.codes.Width.{Width}
 use Rattle.wire.specs.declared.codes.TextType.{TextType}
@@ -16,22 +16,24 @@ use Rattle.walking.specs.Walk as Walk
 use Rattle.meaning.specs.declared.Source.{Source}
 use Rattle.values.specs.declared.Held.{Held}
 use Rattle.values.specs.declared.Date.{Date}
-use Rattle.values.specs.declared.Valued.{Valued}
-use Rattle.values.specs.declared.Valued.TheVariants as Valued
-use Rattle.values.specs.Values.{Lent, source_in, datum, valued}
+use Rattle.values.specs.declared.Stop.TheVariants.{Stray}
+use Rattle.values.specs.declared.Value.{Value}
+use Rattle.values.specs.Values.{Lent, Valued, source_in, datum, valued}
 use Rattle.surroundings.specs.Parameters.{parameter_from}
 use Rattle.surroundings.specs.Around.{slot_field, row_value}
 use Rattle.surroundings.specs.Bindings.{cell, binding_relation, binding_record, bytes_bound}
-use Rattle.inputs.specs.declared.Fetched.{Fetched}
-use Rattle.inputs.specs.declared.Fetched.TheVariants.{Value, Malformed, Nothing}
-use Rattle.inputs.specs.declared.parameters.Flag.{Flag}
-use Rattle.inputs.specs.declared.parameters.Flag.TheVariants as Flag
+use Rattle.inputs.specs.declared.Unread.{Unread}
+use Rattle.inputs.specs.declared.Unread.TheVariants.{Malformed, Nothing}
+
+-- what the code fetched
+abbrev pub Fetched : Type 0
+Fetched = Result Value Unread
 
 -- what was fetched: a value, a malformed text, or nothing
 abbrev pub fetched_in : Lent → Fetched → Inputs.Fetched
-fetched_in m (Value v) = Inputs.value (datum m v)
-fetched_in m Malformed = Inputs.malformed
-fetched_in m Nothing = Inputs.nothing
+fetched_in m (Ok v) = Inputs.value (datum m v)
+fetched_in m (Err Malformed) = Inputs.malformed
+fetched_in m (Err Nothing) = Inputs.nothing
 
 -- the answer stands for x, whatever is lent beside the bytes s of its source
 abbrev pub Gives : Source → List ℕ → Fetched → Inputs.Fetched → Type 0
@@ -65,10 +67,9 @@ pub record Holds (source : Source) (t : TextType) (n : ℕ) (s : List ℕ) (p : 
   pub bytes : take (h.end - h.start) (drop h.start s) ≡ take n (drop p s)
 
 -- what follows a flag: `f` of whether it is zero
-abbrev pub by_flag : Flag → (Bool → Inputs.Fetched) → Inputs.Fetched
-by_flag Flag.Zero f = f true
-by_flag Flag.Set f = f false
-by_flag Flag.Nothing f = Inputs.nothing
+abbrev pub by_flag : Option Bool → (Bool → Inputs.Fetched) → Inputs.Fetched
+by_flag (Some zero) f = f zero
+by_flag None f = Inputs.nothing
 
 -- a parameter with its flag, by the rows of the table
 abbrev pub flagged_value : List ℕ → ℕ → List ℕ → ℕ → ℕ → ℕ → Inputs.Fetched
@@ -100,4 +101,4 @@ reference_end s p Parameter2 = p + 6
 -- the reference whose code stands at p of the request; past its end no code stands
 pub record Referred (m : Lent) (g : Reference → Inputs.Fetched) (p : ℕ) (c : ReferenceCode) (r : Valued) : Type 0 where
   pub inside : p < length m.request → valued m r ≡ Walk.reference_at g m.request p c
-  pub past : length m.request ≤ p → r ≡ Valued.Stray
+  pub past : length m.request ≤ p → r ≡ Err Stray

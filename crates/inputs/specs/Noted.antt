@@ -1,6 +1,6 @@
 -- The table of fields: rows of four numbers, the entry of a relation, the index of a field, the field's entry and its offset in a
 -- record, which is 0 in an empty row.
-use Rattle.std.specs.Prelude.{ℕ, ◌+◌, ◌*◌, ◌%◌, ◌<◌, ◌≡◌, true, List, get_or, set}
+use Rattle.std.specs.Prelude.{ℕ, ◌+◌, ◌*◌, ◌%◌, ◌<◌, ◌≡◌, List, get_or, set, Option as Maybe, IfSome}
 use Rattle.std.proofs.Math.Option.{some}
 use Rattle.records.specs.declared.lengths.Located.{Located}
 use Rattle.records.specs.Internal.Locations.{located_in, located_of}
@@ -26,6 +26,6 @@ abbrev pub StaysNoted : List ℕ → List ℕ → List ℕ → Type 0
 StaysNoted d t u = Noted d t → Noted d u
 
 -- what the code located for field i of the relation at r, beside a table
-pub record LocatedBy (d t : List ℕ) (r i : ℕ) (x : Located) : Type 0 where
+pub record LocatedBy (d t : List ℕ) (r i : ℕ) (x : Maybe Located) : Type 0 where
   pub so : Noted d t → located_of x ≡ located_in d r i
-  pub narrow : x.is ≡ true → x.offset < 4294967296
+  pub narrow : IfSome x (λ l. l.offset < 4294967296)

@@ -1,5 +1,5 @@
 -- What the code finds of a number without a walk: its value, its scale, and the place after it.
-use Rattle.std.specs.Prelude.{ℕ, suc, ◌≡◌, true, false, List, ℤ}
+use Rattle.std.specs.Prelude.{ℕ, suc, ◌≡◌, false, List, ℤ, Option, IfSome}
 use Rattle.wire.specs.Words.{word_at, signed}
 use Rattle.decimal.specs.declared.Number.{Number}
 use Rattle.dictionary.specs.Format.{Format}
@@ -14,19 +14,19 @@ use Rattle.inputs.specs.declared.singles.Two.{Two}
 
 -- the answer for a value, a scale byte and the place after them
 abbrev pub single_of : ℤ → ℕ → ℕ → Single
-single_of x scale after = record { is = true; value = x; scale = signed 1 scale; after = after }
+single_of x scale after = record { value = x; scale = signed 1 scale; after = after }
 
 -- the number that an answer has
 abbrev pub number_in : Single → Number
 number_in r = record { value = r.value; scale = r.scale }
 
 -- an answer that is a number has what a reference gives and the place after it
-abbrev pub Fetches : Single → ℕ → Inputs.Fetched → Type 0
-Fetches r after x = r.is ≡ true → (x ≡ value (number (number_in r))) × (r.after ≡ after)
+abbrev pub Fetches : Option Single → ℕ → Inputs.Fetched → Type 0
+Fetches r after x = IfSome r (λ n. (x ≡ value (number (number_in n))) × (n.after ≡ after))
 
 -- an answer that is a number is what was walked
-abbrev pub Walks : Single → Walked Datum → Type 0
-Walks r x = r.is ≡ true → x ≡ at (number (number_in r)) r.after
+abbrev pub Walks : Option Single → Walked Datum → Type 0
+Walks r x = IfSome r (λ n. x ≡ at (number (number_in n)) n.after)
 
 -- what a field of a format gives whose bytes stand at p and whose bit is clear
 abbrev pub held_in : Format → List ℕ → ℕ → Inputs.Fetched
@@ -40,11 +40,15 @@ NumberAt s d t records runs p x e =
     value_at (bound_sight d parameters count images records runs) t (suc l) s p ≡ at (number x) e
 
 -- an answer that is a number is the value at p; an answer that is none says nothing of that value
-pub record SingleAt (s d t records runs : List ℕ) (p : ℕ) (r : Single) : Type 0 where
-  pub walked : r.is ≡ true → NumberAt s d t records runs p (number_in r) r.after
+pub record SingleAt (s d t records runs : List ℕ) (p : ℕ) (r : Option Single) : Type 0 where
+  pub walked : IfSome r (λ n. NumberAt s d t records runs p (number_in n) n.after)
 
--- an answer that is two numbers is the value at p and the one after it, which stands at `middle`
-pub record TwoAt (s d t records runs : List ℕ) (p : ℕ) (r : Two) : Type 0 where
+-- two numbers: the value at p and the one after it, which stands at `middle`
+pub record Numbers (s d t records runs : List ℕ) (p : ℕ) (n : Two) : Type 0 where
   pub middle : ℕ
-  pub first : r.is ≡ true → NumberAt s d t records runs p (record { value = r.first; scale = r.first_scale }) middle
-  pub second : r.is ≡ true → NumberAt s d t records runs middle (record { value = r.second; scale = r.second_scale }) r.after
+  pub first : NumberAt s d t records runs p (record { value = n.first; scale = n.first_scale }) middle
+  pub second : NumberAt s d t records runs middle (record { value = n.second; scale = n.second_scale }) n.after
+
+-- an answer that is two numbers is the value at p and the one after it
+abbrev pub TwoAt : List ℕ → List ℕ → List ℕ → List ℕ → List ℕ → ℕ → Option Two → Type 0
+TwoAt s d t records runs p r = IfSome r (Numbers s d t records runs p)

@@ -12,10 +12,12 @@ mod stored;
 
 use values::Value;
 
-// What a reference gives: a value, a malformed text, or that there is no such thing.
-#[derive(Clone, Copy)]
-pub(crate) enum Fetched {
-    Value(Value),
+// Why a reference gives no value: a malformed text, or that there is no such thing.
+#[derive(Clone, Copy, PartialEq, Eq)]
+pub(crate) enum Unread {
     Malformed,
     Nothing,
 }
+
+// What a reference gives.
+pub(crate) type Fetched = Result<Value, Unread>;

@@ -1,8 +1,7 @@
 // The table of fields: where the fields stand that a condition or a from-value with runs names, noted once, so that they are not looked up again
 // for each record. A row is right by itself: its entry and its offset are those of the field of its index in its relation. A field that has no
 // row is looked up.
-ghost use Rattle.std.specs.Prelude.{◌≡◌, ◌<◌, length};
-ghost use Rattle.surroundings.specs.Bindings.{rows_in};
+ghost use Rattle.std.specs.Prelude.{◌≡◌, ◌<◌};
 ghost use Rattle.inputs.specs.Noted.{row_place, with_row, StaysNoted, LocatedBy};
 
 use records::lengths::{Located, locate};
@@ -12,6 +11,7 @@ use wire::bytes::{byte_at, word_at};
 use wire::limits::MAX_DICTIONARY_BYTES;
 use wire::table::{number_at, put};
 
+// Kept as numbers: the table is an array of a fixed size on the stack (no heap), and what note_fields promises speaks of its numbers.
 // The rows, the numbers of a row, and those of the table.
 const NOTED_ROWS: usize = 64;
 
@@ -28,6 +28,7 @@ const NOTED_ENTRY: usize = 2;
 const NOTED_OFFSET: usize = 3;
 
 // Where the row of a field begins.
+#[tactic(auto, unfolding(crate::specs::Noted::row_of))]
 fn row_place(relation: usize, i: usize) -> usize
     ensures { result ≡ row_place relation i }
 {
@@ -35,7 +36,7 @@ fn row_place(relation: usize, i: usize) -> usize
 }
 
 // Field i of a relation, by its row or, where it has none, by the dictionary.
-pub(crate) fn located(d: &[u8], fields: &[u32], relation: usize, i: usize) -> Located
+pub(crate) fn located(d: &[u8], fields: &[u32], relation: usize, i: usize) -> Option<Located>
     ensures { LocatedBy d.now fields.now relation i result }
 {
     let row = row_place(relation, i);
@@ -44,11 +45,7 @@ pub(crate) fn located(d: &[u8], fields: &[u32], relation: usize, i: usize) -> Lo
             let offset = number_at(fields, row + NOTED_OFFSET) as usize;
             if offset != 0 {
                 let entry = number_at(fields, row + NOTED_ENTRY) as usize;
-                return Located {
-                    is: true,
-                    entry,
-                    offset,
-                };
+                return Some(Located { entry, offset });
             }
         }
     }
@@ -70,90 +67,54 @@ fn put_row(fields: &mut [u32], row: usize, relation: u32, i: u32, entry: u32, of
 fn note_row(d: &[u8], fields: &mut [u32], relation: u32, i: u32)
     ensures { StaysNoted d.now fields.old fields.new }
 {
-    let l = locate(d, relation as usize, i as usize);
-    if l.is {
-        if l.entry <= MAX_DICTIONARY_BYTES {
-            let row = row_place(relation as usize, i as usize);
-            put_row(fields, row, relation, i, l.entry as u32, l.offset as u32);
-        }
+    let Some(l) = locate(d, relation as usize, i as usize) else {
+        return;
+    };
+    if l.entry <= MAX_DICTIONARY_BYTES {
+        let row = row_place(relation as usize, i as usize);
+        put_row(fields, row, relation, i, l.entry as u32, l.offset as u32);
     }
 }
 
-// The row of field i of the relation that a row of bindings has, if that binds a context's number.
-fn note_bound(d: &[u8], bindings: &[u32], row: usize, number: u8, i: u32, fields: &mut [u32])
-    requires { row < rows_in bindings.now }
-    ensures { StaysNoted d.now fields.old fields.new }
-{
-    let b = row * BINDING_ROW;
-    if number_at(bindings, b + BINDING_NUMBER) == number as u32 {
-        note_row(d, fields, number_at(bindings, b + BINDING_RELATION), i);
-    }
-}
-
-// The same for each row of bindings.
+// The rows of field i of the relations of the contexts of a number, as the table of bindings has them.
 fn note_field(d: &[u8], bindings: &[u32], number: u8, i: u32, fields: &mut [u32])
     ensures { StaysNoted d.now fields.old fields.new }
 {
-    let rows = bindings.len() / BINDING_ROW;
-    let mut row: usize = 0;
-    while row < rows {
-        note_bound(d, bindings, row, number, i, fields);
-        row += 1;
-    }
-}
-
-// The rows of the field by its id whose code stands at a place, if one does.
-fn note_place(request: &[u8], d: &[u8], bindings: &[u32], at: usize, fields: &mut [u32])
-    requires { at < length request.now }
-    ensures { StaysNoted d.now fields.old fields.new }
-{
-    if request[at] == blr::FID {
-        let number = byte_at(request, at + 1);
-        note_field(d, bindings, number, word_at(request, at + 2), fields);
+    for row in 0..bindings.len() / BINDING_ROW {
+        let at = row * BINDING_ROW;
+        if number_at(bindings, at + BINDING_NUMBER) == u32::from(number) {
+            note_row(d, fields, number_at(bindings, at + BINDING_RELATION), i);
+        }
     }
 }
 
 // How many places from the first on are looked at.
 const NOTED_PLACES: usize = 256;
 
-// The rows of what looks like a field by its id at the places of the request from one on. What looks like one and is none gets rows that are
-// right too.
-fn note_places(request: &[u8], d: &[u8], bindings: &[u32], from: usize, fields: &mut [u32])
-    ensures { StaysNoted d.now fields.old fields.new }
-{
-    let mut at = from;
-    let mut left = NOTED_PLACES;
-    while 0 < left {
-        if request.len() <= at {
-            return;
-        }
-        note_place(request, d, bindings, at, fields);
-        at += 1;
-        left -= 1;
-    }
-}
-
 // Whether the code of a run stands among those places.
 fn runs_among(bindings: &[u32], from: usize) -> bool {
-    let rows = bindings.len() / BINDING_ROW;
-    let mut row: usize = 0;
-    while row < rows {
+    for row in 0..bindings.len() / BINDING_ROW {
         let code = number_at(bindings, row * BINDING_ROW + BINDING_CODE) as usize;
-        if from <= code {
-            if code - from < NOTED_PLACES {
-                return true;
-            }
+        if from <= code && code - from < NOTED_PLACES {
+            return true;
         }
-        row += 1;
     }
     false
 }
 
-// Notes the fields of a condition, a test or a from-value at a place, if it goes over runs: without one each field is looked up once.
+// Kept: a public function, which keeps its parameters.
+// Notes the fields of a condition, a test or a from-value at a place, if it goes over runs: without one each field is looked up once. What looks
+// like a field by its id and is none gets rows that are right too.
 pub fn note_fields(request: &[u8], d: &[u8], bindings: &[u32], at: usize, fields: &mut [u32])
     ensures { StaysNoted d.now fields.old fields.new }
 {
-    if runs_among(bindings, at) {
-        note_places(request, d, bindings, at, fields);
+    if !runs_among(bindings, at) {
+        return;
+    }
+    for p in at..request.len().min(at.saturating_add(NOTED_PLACES)) {
+        if request[p] == blr::FID {
+            let number = byte_at(request, p + 1);
+            note_field(d, bindings, number, word_at(request, p + 2), fields);
+        }
     }
 }

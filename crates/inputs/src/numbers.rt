@@ -34,7 +34,7 @@ pub(crate) fn reading_at(scale: u8, s: &[u8], p: usize) -> Number
     ensures { result ≡ reading_of scale s.now p }
 {
     Number {
-        value: word_at(s, p) as i64,
+        value: i64::from(word_at(s, p)),
         scale: signed_byte(scale),
     }
 }

@@ -1,5 +1,5 @@
 // The parameters of messages.
-ghost use Rattle.std.specs.Prelude.{◌≡◌, Bool, min};
+ghost use Rattle.std.specs.Prelude.{◌≡◌, Bool, min, Ok};
 ghost use Rattle.wire.specs.Limits.{max_parameters};
 ghost use Rattle.dictionary.specs.Internal.FieldAnswers.{format_is};
 ghost use Rattle.meaning.specs.Inputs.{flagged, unless_flagged};
@@ -8,25 +8,17 @@ ghost use Rattle.surroundings.specs.Around.{row_value};
 ghost use Rattle.values.specs.Values.{Lent};
 ghost use Rattle.inputs.specs.Answers.{Gives, fetched_in, by_flag, flagged_value};
 
-use crate::Fetched;
 use crate::stored::{kind_held, value_at};
+use crate::{Fetched, Unread};
 use dictionary::field::Description;
 use meaning::Source;
 use records::missing::Cause;
-use surroundings::Parameter;
 use surroundings::images::parameter_of;
 use values::Value;
 use wire::numbers::MessageNumber;
 
-// What a flag says: whether its value is zero, or that it is no number.
-#[derive(Clone, Copy)]
-enum Flag {
-    Zero,
-    Set,
-    Nothing,
-}
-
 // A parameter of a message.
+#[tactic(auto, unfolding(surroundings::specs::Around::row_value))]
 pub(crate) fn plain(
     parameters: &[u32],
     count: usize,
@@ -37,44 +29,40 @@ pub(crate) fn plain(
     ensures { Gives Source.Images images.now result
         (row_value parameters.now (min count max_parameters) images.now message.0 index) }
 {
-    let found = parameter_of(parameters, count, message, index);
-    match found {
-        Parameter::At(x, p) => value_at(x, Source::Images, images, p),
-        Parameter::Nothing => Fetched::Nothing,
-    }
+    let Some((x, p)) = parameter_of(parameters, count, message, index) else {
+        return Err(Unread::Nothing);
+    };
+    value_at(x, Source::Images, images, p)
 }
 
-// What a value says as a flag.
-fn flag_in(v: Value) -> Flag
-    ensures { (m : Lent) (f : Bool → Inputs.Fetched) → by_flag result f ≡ flagged (fetched_in m (Fetched.Value v)) f }
+// Whether a value is zero, as a flag is looked at; nothing if it is no number.
+fn flag_in(v: Value) -> Option<bool>
+    ensures { (m : Lent) (f : Bool → Inputs.Fetched) → by_flag result f ≡ flagged (fetched_in m (Ok v)) f }
 {
     match v {
-        Value::Number(a) => { if a.value == 0 { Flag::Zero } else { Flag::Set } }
-        Value::Text(_) => Flag::Nothing,
-        Value::Date(_) => Flag::Nothing,
-        Value::Missing(_, _) => Flag::Nothing,
+        Value::Number(a) => Some(a.value == 0),
+        Value::Text(_) | Value::Date(_) | Value::Missing(_, _) => None,
     }
 }
 
-// What was fetched for a flag says.
-fn flag_of(x: Fetched) -> Flag
+// Whether what was fetched for a flag is zero.
+fn flag_of(x: Fetched) -> Option<bool>
     ensures { (m : Lent) (f : Bool → Inputs.Fetched) → by_flag result f ≡ flagged (fetched_in m x) f }
 {
     match x {
-        Fetched::Value(v) => flag_in(v),
-        Fetched::Malformed => Flag::Nothing,
-        Fetched::Nothing => Flag::Nothing,
+        Ok(v) => flag_in(v),
+        Err(_) => None,
     }
 }
 
 // "parameter2 is missing if its flag isn't zero"; its value is not read then.
-fn unless_set(flag: Flag, x: Description, images: &[u8], p: usize) -> Fetched
+fn unless_set(flag: Option<bool>, x: Description, images: &[u8], p: usize) -> Fetched
     ensures { Gives Source.Images images.now result (by_flag flag (unless_flagged (format_is x) images.now p)) }
 {
     match flag {
-        Flag::Zero => value_at(x, Source::Images, images, p),
-        Flag::Set => Fetched::Value(Value::Missing(kind_held(x), Cause::Flag)),
-        Flag::Nothing => Fetched::Nothing,
+        Some(true) => value_at(x, Source::Images, images, p),
+        Some(false) => Ok(Value::Missing(kind_held(x), Cause::Flag)),
+        None => Err(Unread::Nothing),
     }
 }
 
@@ -90,14 +78,9 @@ pub(crate) fn with_flag(
     ensures { Gives Source.Images images.now result
         (flagged_value parameters.now (min count max_parameters) images.now message.0 index flag) }
 {
-    let found = parameter_of(parameters, count, message, index);
-    match found {
-        Parameter::At(x, p) => unless_set(
-            flag_of(plain(parameters, count, images, message, flag)),
-            x,
-            images,
-            p,
-        ),
-        Parameter::Nothing => Fetched::Nothing,
-    }
+    let Some((x, p)) = parameter_of(parameters, count, message, index) else {
+        return Err(Unread::Nothing);
+    };
+    let set = flag_of(plain(parameters, count, images, message, flag));
+    unless_set(set, x, images, p)
 }

@@ -12,13 +12,13 @@ ghost use Rattle.inputs.specs.Answers.{row_field};
 ghost use Rattle.inputs.specs.Noted.{Noted};
 ghost use Rattle.inputs.specs.Singles.{single_of, Fetches, Walks, held_in, SingleAt, TwoAt};
 
+use crate::fields::Bound;
 use crate::noted::located;
 use crate::numbers::integer_at;
-use classes::{LiteralClass, literal_class};
+use classes::Code;
 use dictionary::entries::type_at;
 use dictionary::format::width_bytes;
 use records::missing::missing_bit;
-use surroundings::Bound;
 use surroundings::bindings::{
     BINDING_CODE, BINDING_RECORD, BINDING_RELATION, BINDING_ROW, binding_of,
 };
@@ -30,10 +30,9 @@ use wire::limits::MISSING_READING;
 use wire::numbers::ContextNumber;
 use wire::table::number_at;
 
-// A number and the place after it, or that no such number stands there. A struct of numbers and no enum: an enum would be copied through memory.
+// A number and the place after it.
 #[derive(Clone, Copy)]
 pub struct Single {
-    pub is: bool,
     pub value: i64,
     pub scale: i8,
     pub after: usize,
@@ -42,7 +41,6 @@ pub struct Single {
 // Two of them, and the place after the second.
 #[derive(Clone, Copy)]
 pub struct Two {
-    pub is: bool,
     pub first: i64,
     pub first_scale: i8,
     pub second: i64,
@@ -50,75 +48,57 @@ pub struct Two {
     pub after: usize,
 }
 
-// That there is no such number.
-fn no_single() -> Single
-    ensures { result.is ≡ false }
-{
-    Single {
-        is: false,
-        value: 0,
-        scale: 0,
-        after: 0,
-    }
-}
-
 // The number of a value and a scale byte, which ends before a place.
 fn single_of(value: i64, scale: u8, after: usize) -> Single
     ensures { result ≡ single_of value scale after }
 {
     Single {
-        is: true,
         value,
         scale: signed_byte(scale),
         after,
     }
 }
 
-// The literal whose code stands at a place.
-fn literal_single(request: &[u8], at: usize) -> Single
+// The literal whose code stands at a place. Kept: that the place lies in the request is one test of the caller, and a type for it is no plainer.
+fn literal_single(request: &[u8], at: usize) -> Option<Single>
     requires { at < length request.now }
     ensures { Walks result (literal_at request.now (at + 1)) }
 {
-    match literal_class(byte_at(request, at + 1)) {
-        LiteralClass::Due(t) => match t {
-            LiteralType::NumberLiteral(w) => single_of(
-                integer_at(w, request, at + 3),
-                byte_at(request, at + 2),
-                at + 3 + width_bytes(w),
-            ),
-            LiteralType::TextLiteral => no_single(),
-        },
-        LiteralClass::LeftOut => no_single(),
-        LiteralClass::Foreign => no_single(),
+    match LiteralType::of(byte_at(request, at + 1)) {
+        Ok(LiteralType::NumberLiteral(w)) => {
+            let value = integer_at(w, request, at + 3);
+            let scale = byte_at(request, at + 2);
+            Some(single_of(value, scale, at + 3 + width_bytes(w)))
+        }
+        Ok(LiteralType::TextLiteral) | Err(_) => None,
     }
 }
 
 // A house reading of a scale byte, whose bytes stand at a place.
-fn reading(scale: u8, s: &[u8], at: usize, after: usize) -> Single
+fn reading(scale: u8, s: &[u8], at: usize, after: usize) -> Option<Single>
     ensures { (n : ℕ) → Fetches result after (held_in (record { type = Reading; scale = scale; size = n }) s.now at) }
 {
     let word = word_at(s, at);
     if word == MISSING_READING {
-        return no_single();
+        return None;
     }
-    single_of(word as i64, scale, after)
+    Some(single_of(i64::from(word), scale, after))
 }
 
 // The number of a format whose bytes stand at a place, in a field whose bit is clear.
-fn held(t: FieldType, scale: u8, s: &[u8], at: usize, after: usize) -> Single
+fn held(t: FieldType, scale: u8, s: &[u8], at: usize, after: usize) -> Option<Single>
     ensures { (n : ℕ) → Fetches result after (held_in (record { type = t; scale = scale; size = n }) s.now at) }
 {
     match t {
-        FieldType::Plain(y) => match y {
-            DataType::Number(w) => single_of(integer_at(w, s, at), scale, after),
-            DataType::Date => no_single(),
-            DataType::Chars(_) => no_single(),
-        },
+        FieldType::Plain(DataType::Number(w)) => {
+            Some(single_of(integer_at(w, s, at), scale, after))
+        }
+        FieldType::Plain(DataType::Date | DataType::Chars(_)) => None,
         FieldType::Reading => reading(scale, s, at, after),
     }
 }
 
-// Field i of a relation, in the record at p.
+// Field i of a relation, in the record at p. Kept: its parameters as in fields.rt, and the table of fields as in noted.rt.
 fn field_in(
     d: &[u8],
     fields: &[u32],
@@ -127,70 +107,52 @@ fn field_in(
     p: usize,
     i: usize,
     after: usize,
-) -> Single
+) -> Option<Single>
     requires { p < 4294967296 }
     ensures { Noted d.now fields.now →
         Fetches result after (field_in (relation_at d.now relation) s.now p i) }
 {
     if missing_bit(s, p, i) {
-        return no_single();
+        return None;
     }
-    let l = located(d, fields, relation, i);
-    if l.is {
-        let scale = byte_on(d, l.entry, FIELD_SCALE);
-        return held(type_at(d, l.entry), scale, s, p + l.offset, after);
-    }
-    no_single()
+    let l = located(d, fields, relation, i)?;
+    let scale = byte_on(d, l.entry, FIELD_SCALE);
+    held(type_at(d, l.entry), scale, s, p + l.offset, after)
 }
 
-// The field whose code stands at a place, of the record that a row binds.
-fn field_at(
-    request: &[u8],
-    d: &[u8],
-    bindings: &[u32],
-    fields: &[u32],
-    row: usize,
-    records: &[u8],
-    runs: &[u8],
-    at: usize,
-) -> Single
-    requires { (at < length request.now) × (row < rows_in bindings.now) }
-    ensures { Noted d.now fields.now →
-        Fetches result (at + 4) (row_field d.now bindings.now records.now runs.now row
-        (word_at request.now (at + 2))) }
+// Field i of the record that a row binds.
+fn field_at(x: Bound<'_>, fields: &[u32], row: usize, i: usize, after: usize) -> Option<Single>
+    requires { row < rows_in x.bindings.now }
+    ensures { Noted x.entry.dictionary.now fields.now →
+        Fetches result after
+        (row_field x.entry.dictionary.now x.entry.bindings.now x.entry.records.now x.entry.runs.now row i) }
 {
     let b = row * BINDING_ROW;
-    let relation = number_at(bindings, b + BINDING_RELATION) as usize;
-    let p = number_at(bindings, b + BINDING_RECORD) as usize;
-    let i = word_at(request, at + 2) as usize;
-    if number_at(bindings, b + BINDING_CODE) == 0 {
-        return field_in(d, fields, relation, records, p, i, at + 4);
+    let relation = number_at(x.bindings, b + BINDING_RELATION) as usize;
+    let p = number_at(x.bindings, b + BINDING_RECORD) as usize;
+    if number_at(x.bindings, b + BINDING_CODE) == 0 {
+        return field_in(x.dictionary, fields, relation, x.records, p, i, after);
     }
-    field_in(d, fields, relation, runs, p, i, at + 4)
+    field_in(x.dictionary, fields, relation, x.runs, p, i, after)
 }
 
-// The field whose code stands at a place.
+// The field of an id, of the context of a number.
 fn field_single(
-    request: &[u8],
-    d: &[u8],
-    bindings: &[u32],
+    x: Bound<'_>,
     fields: &[u32],
-    records: &[u8],
-    runs: &[u8],
-    at: usize,
-) -> Single
-    requires { at < length request.now }
-    ensures { Noted d.now fields.now →
-        Fetches result (at + 4) (bound_value d.now bindings.now records.now runs.now
-        (byte_at request.now (at + 1)) (numbered (word_at request.now (at + 2)))) }
+    context: ContextNumber,
+    id: usize,
+    after: usize,
+) -> Option<Single>
+    ensures { Noted x.entry.dictionary.now fields.now →
+        Fetches result after
+        (bound_value x.entry.dictionary.now x.entry.bindings.now x.entry.records.now x.entry.runs.now context.0 (numbered id)) }
 {
-    let bound = binding_of(bindings, ContextNumber(byte_at(request, at + 1)));
-    match bound {
-        Bound::At(row) => field_at(request, d, bindings, fields, row, records, runs, at),
-        Bound::Nothing => no_single(),
-    }
+    let row = binding_of(x.bindings, context)?;
+    field_at(x, fields, row, id, after)
 }
 
+// Kept: a public function, which keeps its parameters.
 // The number at a place. An answer that is a number is what the walk gives there; one that is none leaves it to the walk.
 pub fn single_at(
     request: &[u8],
@@ -200,34 +162,31 @@ pub fn single_at(
     records: &[u8],
     runs: &[u8],
     at: usize,
-) -> Single
+) -> Option<Single>
     ensures { Noted d.now fields.now →
         SingleAt request.now d.now bindings.now records.now runs.now at result }
 {
     if request.len() <= at {
-        return no_single();
+        return None;
     }
     match request[at] {
-        blr::FID => field_single(request, d, bindings, fields, records, runs, at),
+        blr::FID => {
+            let bound = Bound {
+                dictionary: d,
+                bindings,
+                records,
+                runs,
+            };
+            let context = ContextNumber(byte_at(request, at + 1));
+            let id = word_at(request, at + 2) as usize;
+            field_single(bound, fields, context, id, at + 4)
+        }
         blr::LITERAL => literal_single(request, at),
-        _ => no_single(),
+        _ => None,
     }
 }
 
-// That there are no two such numbers.
-pub fn no_two() -> Two
-    ensures { result.is ≡ false }
-{
-    Two {
-        is: false,
-        first: 0,
-        first_scale: 0,
-        second: 0,
-        second_scale: 0,
-        after: 0,
-    }
-}
-
+// Kept: a public function, which keeps its parameters.
 // The two numbers from a place on. An answer that is two numbers is what the walk gives there; one that is not leaves it to the walk.
 pub fn two_at(
     request: &[u8],
@@ -237,21 +196,17 @@ pub fn two_at(
     records: &[u8],
     runs: &[u8],
     at: usize,
-) -> Two
+) -> Option<Two>
     ensures { Noted d.now fields.now →
         TwoAt request.now d.now bindings.now records.now runs.now at result }
 {
-    let x = single_at(request, d, bindings, fields, records, runs, at);
-    if !x.is {
-        return no_two();
-    }
-    let y = single_at(request, d, bindings, fields, records, runs, x.after);
-    Two {
-        is: y.is,
+    let x = single_at(request, d, bindings, fields, records, runs, at)?;
+    let y = single_at(request, d, bindings, fields, records, runs, x.after)?;
+    Some(Two {
         first: x.value,
         first_scale: x.scale,
         second: y.value,
         second_scale: y.scale,
         after: y.after,
-    }
+    })
 }

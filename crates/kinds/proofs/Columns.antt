@@ -14,7 +14,7 @@ use borrow.Author.Tests.{eqb-true, eqb-false, leb-true, le-leb, ne_eqb}
 use Rattle.wire.specs.Limits.{max_depth}
 use Rattle.wire.specs.Words.{byte_at}
 use Rattle.wire.specs.Classes.{value_class}
-use Rattle.grammar.specs.Kind as Kind
+use Rattle.grammar.specs.declared.Kind.TheVariants as Kind
 use Rattle.surroundings.specs.Bindings.{binding_row_numbers, binding_code, binding_after, binding_kind, cell, rows_in, kind_if}
 use Rattle.kinds.specs.Spans.{Span, span_at, spans_from, spans_in}
 use Rattle.kinds.specs.KindAt.{kind_at, scale_number, kind_number, takes_number, row_noted, kinds_noted}

@@ -21,7 +21,7 @@ use Rattle.dictionary.specs.Format.{width_bytes}
 use Rattle.dictionary.specs.Dictionary.{Relation}
 use Rattle.dictionary.specs.Naming.{Name, named, numbered, relation_of, field_of, format_of}
 use Rattle.dictionary.specs.Internal.Walk.{relation_at, relation_place}
-use Rattle.grammar.specs.Kind as Kind
+use Rattle.grammar.specs.declared.Kind.TheVariants as Kind
 use Rattle.grammar.specs.Kinds.{literal_kind, field_kind, flagged, parameter_kind, reference_kind, kind_of, arithmetic_kind, negated_kind}
 use Rattle.grammar.specs.Tree as Tree
 use Rattle.grammar.specs.Tree.{Literal, Reference, field, parameter, parameter2, Value, literal, reference, arithmetic, negate, statistic, count, Rse, rse}

@@ -18,8 +18,8 @@ use Rattle.wire.specs.declared.codes.Version.{Version}
 use Rattle.wire.specs.declared.codes.Operator.{Operator}
 use Rattle.dictionary.specs.Dictionary.{Relation}
 use Rattle.dictionary.specs.Naming.{Name, relation_of, field_of, format_of}
-use Rattle.grammar.specs.Kind.{Kind}
-use Rattle.grammar.specs.Kind as Kind
+use Rattle.grammar.specs.declared.Kind.{Kind}
+use Rattle.grammar.specs.declared.Kind.TheVariants as Kind
 use Rattle.grammar.specs.Kinds.{field_kind, flagged, parameter_kind, reference_kind, literal_kind, result_scale, arithmetic_range, arithmetic_kind, negated_kind, kind_of}
 use Rattle.grammar.specs.Tree as Tree
 use Rattle.grammar.specs.Tree.{Literal, Reference, field, parameter, parameter2, Value, literal, reference, arithmetic, negate, statistic, count, Rse, rse}

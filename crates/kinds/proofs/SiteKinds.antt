@@ -14,8 +14,8 @@ use Rattle.wire.specs.Classes.{classify, value_class}
 use Rattle.wire.specs.declared.codes.Statistic.{Statistic}
 use Rattle.wire.specs.declared.codes.Quantifier.{Quantifier}
 use Rattle.wire.specs.declared.codes.Quantifier.TheVariants.{Any, Unique}
-use Rattle.grammar.specs.Kind.{Kind}
-use Rattle.grammar.specs.Kind as Kind
+use Rattle.grammar.specs.declared.Kind.{Kind}
+use Rattle.grammar.specs.declared.Kind.TheVariants as Kind
 use Rattle.grammar.specs.Kinds.{negated_kind, kind_of}
 use Rattle.grammar.specs.Tree.{Value, literal, reference, arithmetic, negate, statistic, count, Boolean, compare, search, between, connect, not, missing, quantify, Clauses, no_clauses, such, sorted, Rse, rse}
 use Rattle.grammar.specs.Bytes.{operator_code, statistic_code, comparison_code, search_code, connective_code, quantifier_code, key_count, value_bytes, boolean_bytes, keys_bytes, clauses_bytes, head_bytes, rse_bytes}

@@ -7,7 +7,10 @@ use native.Mathlib.Omega.{arith}
 use lib.ListN.{length}
 use Rattle.wire.specs.Lists.{among, any_of}
 use Rattle.wire.specs.Words.{byte_at}
-use Rattle.wire.specs.Classes.{Class, classify, value_class}
+use Rattle.std.specs.Prelude.{Ok, Err}
+use Rattle.wire.specs.Classes.{Class, due, left_out, foreign, classify, value_class}
+use Rattle.classes.specs.declared.NotDue.{NotDue}
+use Rattle.classes.specs.Classes.{class_of}
 use Rattle.wire.specs.declared.codes.Version.{Version}
 use Rattle.wire.specs.declared.codes.Operator.{Operator}
 use Rattle.wire.specs.declared.codes.ValueCode.{ValueCode}
@@ -18,9 +21,9 @@ use Rattle.kinds.specs.KindAt.{Kinded, kinded, on_class, joined_kinds, operands,
 use Rattle.kinds.specs.Promises.{kind_inside}
 
 module _ (d ps : List ℕ) (count : ℕ) (xs : List Span) (s : List ℕ) (l p : ℕ) where
-  pub no-level : l ≡ 0 → kinded none p ≡ kind_at d ps count xs l s p
+  pub no_level : l ≡ 0 → kinded none p ≡ kind_at d ps count xs l s p
   unfolding kind_at
-  no-level e = rw e
+  no_level e = rw e
 
 pub no_code : (d ps : List ℕ) (count : ℕ) (xs : List Span) (s : List ℕ) (l p : ℕ) → length s ≤ p → kinded none p ≡ kind_at d ps count xs l s p
 unfolding kind_at value_class classify among any_of
@@ -28,13 +31,30 @@ no_code d ps count xs s zero p h = refl
 no_code d ps count xs s (suc l) p h = rw (← past s p h)
 
 -- the class of the byte at p
-pub class-kind : (d ps : List ℕ) (count : ℕ) (xs : List Span) (s : List ℕ) (l p : ℕ) → (l ≡ 0 → ⊥) → (k : Class ValueCode) (c : ℕ) →
-    k ≡ value_class c → c ≡ byte_at s p → on_class k p (λ z. kind_inside d ps count xs (l - 1) s p z) ≡ kind_at d ps count xs l s p
+pub class_kind : (d ps : List ℕ) (count : ℕ) (xs : List Span) (s : List ℕ) (l p : ℕ) → (l ≡ 0 → ⊥) → (k : Class ValueCode) →
+    k ≡ value_class (byte_at s p) → on_class k p (λ z. kind_inside d ps count xs (l - 1) s p z) ≡ kind_at d ps count xs l s p
 unfolding kind_at
-class-kind d ps count xs s zero p h k c e f = absurd (h refl)
-class-kind d ps count xs s (suc l) p h k c e f =
+class_kind d ps count xs s zero p h k e = absurd (h refl)
+class_kind d ps count xs s (suc l) p h k e =
     let z : suc l - 1 ≡ l = omega arith in
-    rw z (ap (λ y. on_class y p (λ q. kind_inside d ps count xs l s p q)) (e ∙ ap value_class f))
+    rw z (ap (λ y. on_class y p (λ q. kind_inside d ps count xs l s p q)) e)
+
+-- by the answer of the code
+pub code-due : (x : Class ValueCode) {v : ValueCode} → Ok v ≡ class_of x → due v ≡ x
+code-due (due u) e = cc
+code-due left_out e = absurd cc
+code-due foreign e = absurd cc
+
+code-not : (x : Class ValueCode) {n : NotDue} (p : ℕ) (f : ValueCode → Kinded) → Err n ≡ class_of x → kinded none p ≡ on_class x p f
+code-not (due u) p f e = absurd cc
+code-not left_out p f e = refl
+code-not foreign p f e = refl
+
+pub class-not : (d ps : List ℕ) (count : ℕ) (xs : List Span) (s : List ℕ) (l p : ℕ) → (l ≡ 0 → ⊥) → {n : NotDue} →
+    Err n ≡ class_of (value_class (byte_at s p)) → kinded none p ≡ kind_at d ps count xs l s p
+class-not d ps count xs s l p h e =
+    code-not (value_class (byte_at s p)) p (λ z. kind_inside d ps count xs (l - 1) s p z) e
+    ∙ class_kind d ps count xs s l p h (value_class (byte_at s p)) refl
 
 -- two values
 pub operands-are : (v u : Version) (o : Operator) (inner : ℕ → Kinded) (q : ℕ) (x y r : Kinded) → r ≡ joined_kinds v o x y → x ≡ inner q →

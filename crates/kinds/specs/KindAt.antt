@@ -18,7 +18,8 @@ use Rattle.dictionary.specs.Format.{Format, width_bytes}
 use Rattle.dictionary.specs.Dictionary.{Relation, name_at}
 use Rattle.dictionary.specs.Naming.{Name, named, numbered, field_of, format_of}
 use Rattle.dictionary.specs.Internal.Walk.{relation_at}
-use Rattle.grammar.specs.Kind.{Kind, Number, Text, Date}
+use Rattle.grammar.specs.declared.Kind.{Kind}
+use Rattle.grammar.specs.declared.Kind.TheVariants.{Number, Text, Date}
 use Rattle.grammar.specs.Kinds.{format_kind, field_kind, flagged, arithmetic_kind, negated_kind}
 use Rattle.grammar.specs.Tree.{Reference, field, parameter, parameter2}
 use Rattle.walking.specs.Walk.{version_at}

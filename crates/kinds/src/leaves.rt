@@ -1,7 +1,8 @@
 // The kinds of literals and references in a request, and the places after them.
 ghost use Rattle.std.specs.Prelude.{◌≡◌, ◌+◌, ◌<◌, min, length};
-ghost use Rattle.std.proofs.Math.Option.{some};
+ghost use Rattle.std.proofs.Math.Option.{some, map};
 ghost use Rattle.wire.specs.Limits.{max_parameters};
+ghost use Rattle.wire.specs.Options.{option_of};
 ghost use Rattle.wire.specs.Versions.{version_of};
 ghost use Rattle.dictionary.specs.Naming.{named, numbered};
 ghost use Rattle.dictionary.specs.Internal.Walk.{entry_field};
@@ -9,196 +10,160 @@ ghost use Rattle.grammar.specs.Kinds.{flagged};
 ghost use Rattle.grammar.specs.Internal.Steps.{fit_of, kind_in};
 ghost use Rattle.walking.specs.Walk.{version_at};
 ghost use Rattle.kinds.specs.Spans.{spans_in, span_around};
-ghost use Rattle.kinds.specs.KindAt.{literal_at, literal_under, reference_at, span_kind, row_kind, kind_given};
-ghost use Rattle.kinds.specs.Promises.{kinded_is, entry_kind};
+ghost use Rattle.kinds.specs.KindAt.{literal_at, literal_under, reference_at, span_kind, row_kind};
+ghost use Rattle.kinds.specs.Promises.{kinded_is, entry_kind, span_relation, reference_in};
 
-use crate::KindStep;
 use crate::around::row_around;
-use classes::{LiteralClass, field_due, literal_class};
+use crate::{KindInputs, KindStep};
+use classes::{Code, field_due};
 use dictionary::field::{described, field_entry, named_entry};
 use dictionary::format::width_bytes;
-use dictionary::lookup::Place;
 use dictionary::names::name_at;
-use grammar::Fit;
+use grammar::Kind;
 use scopes::kinds::type_fit;
 use surroundings::bindings::{BINDING_RELATION, BINDING_ROW};
 use surroundings::images::parameter_of;
-use surroundings::{Bound, Parameter};
 use wire::bytes::{byte_at, signed_byte, word_at};
 use wire::codes::{LiteralType, ReferenceCode, Version};
 use wire::numbers::{ContextNumber, MessageNumber};
 use wire::table::number_at;
 
+// Kept: a place before the end is asked of three functions, each of another struct or slice: one type for all is no plainer.
 // A literal of a type that stands at a place.
+#[tactic(auto, using(crate::proofs::Returns::width_small))]
 fn literal_of(t: LiteralType, request: &[u8], at: usize) -> KindStep
     requires { at < length request.now }
     ensures { kinded_is result ≡ literal_under request.now at t }
 {
     match t {
         LiteralType::NumberLiteral(w) => KindStep {
-            kind: Fit::Number(signed_byte(byte_at(request, at + 1))),
+            kind: Some(Kind::Number(signed_byte(byte_at(request, at + 1)))),
             end: at + 2 + width_bytes(w),
         },
         LiteralType::TextLiteral => KindStep {
-            kind: Fit::Text,
+            kind: Some(Kind::Text),
             end: at + 3 + word_at(request, at + 1) as usize,
         },
     }
 }
 
 // The literal whose type stands at a place.
+#[tactic(auto, unfolding(crate::specs::KindAt::literal_at), using(crate::proofs::Returns::no_literal))]
 pub(crate) fn literal_kind(request: &[u8], at: usize) -> KindStep
     ensures { kinded_is result ≡ literal_at request.now at }
 {
     if request.len() <= at {
-        return KindStep {
-            kind: Fit::NoKind,
-            end: at,
-        };
+        return KindStep::none(at);
     }
-    let class = literal_class(byte_at(request, at));
-    match class {
-        LiteralClass::Due(t) => literal_of(t, request, at),
-        LiteralClass::LeftOut => KindStep {
-            kind: Fit::NoKind,
-            end: at,
-        },
-        LiteralClass::Foreign => KindStep {
-            kind: Fit::NoKind,
-            end: at,
-        },
+    match LiteralType::of(byte_at(request, at)) {
+        Ok(t) => literal_of(t, request, at),
+        Err(_) => KindStep::none(at),
     }
 }
 
 // The kind of a field whose entry was looked up, in a request of a version.
-fn entry_kind(dictionary: &[u8], found: Place, v: Version) -> Fit
+#[tactic(auto, unfolding(grammar::specs::Kinds::field_kind, grammar::specs::Kinds::format_kind))]
+fn entry_kind(dictionary: &[u8], found: Option<usize>, v: Version) -> Option<Kind>
     ensures { result ≡ fit_of (entry_kind v dictionary.now found) }
 {
-    match found {
-        Place::At(q) => {
-            let x = described(dictionary, q);
-            let t = x.data_type;
-            if !field_due(v, t) {
-                return Fit::NoKind;
-            }
-            type_fit(t, x.scale)
-        }
-        Place::Unknown => Fit::NoKind,
+    let x = described(dictionary, found?);
+    if !field_due(v, x.data_type) {
+        return None;
     }
+    Some(type_fit(x.data_type, x.scale))
+}
+
+// Kept: the rows of bindings are numbers of a lent table (surroundings, bindings.rt).
+// The entry of the relation of the context of a number in scope at a place.
+#[tactic(auto, using(crate::proofs::Returns::around_row, crate::proofs::Returns::around_some, crate::proofs::Returns::around_none))]
+fn relation_around(bindings: &[u32], number: ContextNumber, at: usize) -> Option<usize>
+    ensures { result ≡ option_of (map span_relation (span_around (spans_in bindings.now) number.0 at)) }
+{
+    let row = row_around(bindings, number, at)?;
+    Some(number_at(bindings, row * BINDING_ROW + BINDING_RELATION) as usize)
 }
 
 // The kind of a field by its name, of the context of a number in scope at a place.
+#[tactic(auto, using(crate::proofs::Returns::named_is))]
 fn named_kind(
-    dictionary: &[u8],
-    bindings: &[u32],
+    x: KindInputs,
     v: Version,
     at: usize,
     number: ContextNumber,
     name: &[u8],
-) -> Fit
-    ensures { result ≡ fit_of (span_kind v dictionary.now (named name.now)
-        (span_around (spans_in bindings.now) number.0 at)) }
+) -> Option<Kind>
+    ensures { result ≡ fit_of (span_kind v x.entry.dictionary.now (named name.now)
+        (span_around (spans_in x.entry.bindings.now) number.0 at)) }
 {
-    match row_around(bindings, number, at) {
-        Bound::At(row) => {
-            let relation = number_at(bindings, row * BINDING_ROW + BINDING_RELATION) as usize;
-            entry_kind(dictionary, named_entry(dictionary, relation, name), v)
-        }
-        Bound::Nothing => Fit::NoKind,
-    }
+    let relation = relation_around(x.bindings, number, at)?;
+    entry_kind(x.dictionary, named_entry(x.dictionary, relation, name), v)
 }
 
 // By its id.
+#[tactic(auto, using(crate::proofs::Returns::numbered_is))]
 fn numbered_kind(
-    dictionary: &[u8],
-    bindings: &[u32],
+    x: KindInputs,
     v: Version,
     at: usize,
     number: ContextNumber,
     id: u32,
-) -> Fit
-    ensures { result ≡ fit_of (span_kind v dictionary.now (numbered id)
-        (span_around (spans_in bindings.now) number.0 at)) }
+) -> Option<Kind>
+    ensures { result ≡ fit_of (span_kind v x.entry.dictionary.now (numbered id)
+        (span_around (spans_in x.entry.bindings.now) number.0 at)) }
 {
-    match row_around(bindings, number, at) {
-        Bound::At(row) => {
-            let relation = number_at(bindings, row * BINDING_ROW + BINDING_RELATION) as usize;
-            entry_kind(
-                dictionary,
-                field_entry(dictionary, relation, id as usize),
-                v,
-            )
-        }
-        Bound::Nothing => Fit::NoKind,
-    }
+    let relation = relation_around(x.bindings, number, at)?;
+    entry_kind(
+        x.dictionary,
+        field_entry(x.dictionary, relation, id as usize),
+        v,
+    )
 }
 
 // The kind of a parameter.
-fn parameter_kind(parameters: &[u32], rows: usize, message: MessageNumber, index: u32) -> Fit
-    ensures { result ≡ fit_of (row_kind parameters.now (min rows max_parameters) message.0 index) }
+#[tactic(auto, unfolding(grammar::specs::Kinds::format_kind))]
+fn parameter_kind(x: KindInputs, message: MessageNumber, index: u32) -> Option<Kind>
+    ensures { result ≡ fit_of (row_kind x.entry.parameters.now (min x.entry.rows max_parameters) message.0 index) }
 {
-    match parameter_of(parameters, rows, message, index) {
-        Parameter::At(x, _) => {
-            let t = x.data_type;
-            type_fit(t, x.scale)
-        }
-        Parameter::Nothing => Fit::NoKind,
-    }
+    let (found, _) = parameter_of(x.parameters, x.rows, message, index)?;
+    Some(type_fit(found.data_type, found.scale))
 }
 
 // The kind of a parameter with a flag, which is a number.
-fn flagged_kind(flag: Fit, kind: Fit) -> Fit
+fn flagged_kind(flag: Option<Kind>, kind: Option<Kind>) -> Option<Kind>
     ensures { result ≡ fit_of (flagged (kind_in flag) (kind_in kind)) }
 {
     match flag {
-        Fit::Number(_) => kind,
-        Fit::Text => Fit::NoKind,
-        Fit::Date => Fit::NoKind,
-        Fit::NoKind => Fit::NoKind,
+        Some(Kind::Number(_)) => kind,
+        _ => None,
     }
 }
 
+// Kept: a place before the end, as above.
 // The reference whose code stands at a place.
-pub(crate) fn reference_kind(
-    request: &[u8],
-    dictionary: &[u8],
-    parameters: &[u32],
-    rows: usize,
-    bindings: &[u32],
-    v: Version,
-    at: usize,
-    code: ReferenceCode,
-) -> KindStep
-    requires { at < length request.now }
-    ensures { kinded_is result ≡ reference_at (kind_given dictionary.now parameters.now (min rows max_parameters)
-        (spans_in bindings.now) v at) request.now at code }
+#[tactic(auto, unfolding(crate::specs::KindAt::reference_at, crate::specs::KindAt::kind_given), using(crate::proofs::Returns::kind_fit))]
+pub(crate) fn reference_kind(x: KindInputs, v: Version, at: usize, code: ReferenceCode) -> KindStep
+    requires { at < length x.request.now }
+    ensures { kinded_is result ≡ reference_at (reference_in x.entry v at) x.entry.request.now at code }
 {
-    let n = byte_at(request, at + 1);
-    let word = word_at(request, at + 2);
+    let n = byte_at(x.request, at + 1);
+    let word = word_at(x.request, at + 2);
     match code {
         ReferenceCode::Field => KindStep {
-            kind: named_kind(
-                dictionary,
-                bindings,
-                v,
-                at,
-                ContextNumber(n),
-                name_at(request, at + 2),
-            ),
-            end: at + 3 + byte_at(request, at + 2) as usize,
+            kind: named_kind(x, v, at, ContextNumber(n), name_at(x.request, at + 2)),
+            end: at + 3 + byte_at(x.request, at + 2) as usize,
         },
         ReferenceCode::Fid => KindStep {
-            kind: numbered_kind(dictionary, bindings, v, at, ContextNumber(n), word),
+            kind: numbered_kind(x, v, at, ContextNumber(n), word),
             end: at + 4,
         },
         ReferenceCode::Parameter => KindStep {
-            kind: parameter_kind(parameters, rows, MessageNumber(n), word),
+            kind: parameter_kind(x, MessageNumber(n), word),
             end: at + 4,
         },
         ReferenceCode::Parameter2 => KindStep {
             kind: flagged_kind(
-                parameter_kind(parameters, rows, MessageNumber(n), word_at(request, at + 4)),
-                parameter_kind(parameters, rows, MessageNumber(n), word),
+                parameter_kind(x, MessageNumber(n), word_at(x.request, at + 4)),
+                parameter_kind(x, MessageNumber(n), word),
             ),
             end: at + 6,
         },

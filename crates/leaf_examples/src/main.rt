@@ -7,11 +7,9 @@ use decimal::Number;
 use show::{operation, order_of_numbers, order_of_texts, part, search};
 use wire::codes::{Operator, TextSearch, TextType};
 
+// Kept: a number in one line of the lists below.
 fn number(value: i64, scale: i8) -> Number {
-    Number {
-        value: value,
-        scale: scale,
-    }
+    Number { value, scale }
 }
 
 // "30 scale 0 equals 300 scale -1"

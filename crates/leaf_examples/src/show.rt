@@ -1,8 +1,8 @@
-// Lines of text for what the leaves answer.
-use decimal::{Computed, Number};
-use text::TextPart;
+// Lines of text for what the leaves answer. Kept, in this file: `io` prints numbers without a sign only, and no heap or runtime is at hand
+// for a Display.
+use decimal::{ArithmeticError, Number};
+use std::cmp::Ordering;
 use wire::codes::{Operator, TextSearch, TextType, Version};
-use wire::order::Order;
 
 // Standard output.
 const OUTPUT: i32 = 1;
@@ -17,18 +17,14 @@ fn print(s: &[u8]) {
 fn signed(n: i64) {
     if n < 0 {
         print(b"-");
-        io::print_decimal(OUTPUT, (!n) as u64 + 1);
-    } else {
-        io::print_decimal(OUTPUT, n as u64);
     }
+    io::print_decimal(OUTPUT, n.unsigned_abs());
 }
 
 fn number(n: Number) {
-    let value = n.value;
-    let scale = n.scale;
-    signed(value);
+    signed(n.value);
     print(b" scale ");
-    signed(scale as i64);
+    signed(n.scale as i64);
 }
 
 fn sign(o: Operator) {
@@ -45,20 +41,19 @@ pub(crate) fn operation(o: Operator, a: Number, b: Number) {
     sign(o);
     number(b);
     print(b" = ");
-    let c = decimal::compute(Version::Version4, o, a, b);
-    match c {
-        Computed::Value(n) => number(n),
-        Computed::Overflow => print(b"overflow"),
-        Computed::ZeroDivisor => print(b"zero divisor"),
+    match decimal::compute(Version::Version4, o, a, b) {
+        Ok(n) => number(n),
+        Err(ArithmeticError::Overflow) => print(b"overflow"),
+        Err(ArithmeticError::ZeroDivisor) => print(b"zero divisor"),
     }
     print(b"\n");
 }
 
-fn order(o: Order) {
+fn order(o: Ordering) {
     match o {
-        Order::Less => print(b" is less than "),
-        Order::Equal => print(b" equals "),
-        Order::Greater => print(b" is greater than "),
+        Ordering::Less => print(b" is less than "),
+        Ordering::Equal => print(b" equals "),
+        Ordering::Greater => print(b" is greater than "),
     }
 }
 
@@ -72,10 +67,8 @@ pub(crate) fn order_of_numbers(a: Number, b: Number) {
 // Bytes in hex, in brackets.
 fn quoted(s: &[u8]) {
     print(b"[");
-    let mut i = 0;
-    while i < s.len() {
-        io::print_hex(OUTPUT, s[i] as u64, BYTE_DIGITS);
-        i += 1;
+    for x in s {
+        io::print_hex(OUTPUT, *x as u64, BYTE_DIGITS);
     }
     print(b"]");
 }
@@ -98,9 +91,8 @@ fn text_type(t: TextType) {
 pub(crate) fn part(t: TextType, s: &[u8]) {
     text_type(t);
     quoted(s);
-    let p = text::value::text_part(t, s);
-    match p {
-        TextPart::Is(start, end) => {
+    match text::value::text_part(t, s) {
+        Some((start, end)) => {
             print(b" from ");
             io::print_decimal(OUTPUT, start as u64);
             print(b" to ");
@@ -108,11 +100,12 @@ pub(crate) fn part(t: TextType, s: &[u8]) {
             print(b": ");
             quoted(text::value::text_of(t, s));
         }
-        TextPart::Malformed => print(b" malformed"),
+        None => print(b" malformed"),
     }
     print(b"\n");
 }
 
+// Kept: the words of both answers side by side.
 fn verb(t: TextSearch, yes: bool) {
     if yes {
         match t {

@@ -1,7 +1,7 @@
 -- What the test exports give, in numbers.
-use Rattle.std.specs.Prelude.{ℕ, Bool, true, false, cond, List, [], ◌∷◌, ◌≡◌, eqb, ltb, ℤ, pos, negsuc}
-use Rattle.wire.specs.declared.order.Order.{Order}
-use Rattle.wire.specs.declared.order.Order.TheVariants.{Less, Equal, Greater}
+use Rattle.std.specs.Prelude.{ℕ, cond, List, [], ◌∷◌, ◌≡◌, eqb, ltb, ℤ, pos, negsuc, Option, Some, None, Result, Ok, Err}
+use Rattle.std.specs.declared.cmp.Ordering.{Ordering}
+use Rattle.std.specs.declared.cmp.Ordering.TheVariants.{Less, Equal, Greater}
 use Rattle.wire.specs.declared.codes.Version.{Version}
 use Rattle.wire.specs.declared.codes.Version.TheVariants.{Version4, Version5}
 use Rattle.wire.specs.declared.codes.Operator.{Operator}
@@ -11,22 +11,11 @@ use Rattle.wire.specs.declared.codes.TextType.TheVariants.{Text, Varying, Cstrin
 use Rattle.wire.specs.declared.codes.TextSearch.{TextSearch}
 use Rattle.wire.specs.declared.codes.TextSearch.TheVariants.{Containing, Matching, Starting}
 use Rattle.decimal.specs.declared.Number.{Number}
-use Rattle.decimal.specs.declared.Computed.{Computed}
-use Rattle.decimal.specs.declared.Computed.TheVariants.{Value, Overflow, ZeroDivisor}
-use Rattle.decimal.specs.Number.{places, computed, negated, rescaled}
-use Rattle.dictionary.specs.declared.check.DictionaryCheck.{DictionaryCheck}
-use Rattle.dictionary.specs.declared.check.DictionaryCheck.TheVariants.{Proper, Fault}
-use Rattle.dictionary.specs.declared.lookup.Place.{Place}
-use Rattle.dictionary.specs.declared.lookup.Place.TheVariants.{At, Unknown}
-use Rattle.records.specs.declared.lengths.Length.{Length}
-use Rattle.records.specs.declared.lengths.Length.TheVariants as Length
-use Rattle.records.specs.declared.missing.Cause.TheVariants as Cause
-use Rattle.records.specs.declared.missing.Presence.{Presence}
-use Rattle.records.specs.declared.missing.Presence.TheVariants.{There, Missing}
-use Rattle.records.specs.declared.proper.RunAnswer.{RunAnswer}
-use Rattle.records.specs.declared.proper.RunAnswer.TheVariants.{AsDue, WrongAt}
-use Rattle.text.specs.declared.TextPart.{TextPart}
-use Rattle.text.specs.declared.TextPart.TheVariants.{Is, Malformed}
+use Rattle.decimal.specs.declared.ArithmeticError.{ArithmeticError}
+use Rattle.decimal.specs.declared.ArithmeticError.TheVariants.{Overflow, ZeroDivisor}
+use Rattle.decimal.specs.Number.{Computed, places, computed, negated, rescaled}
+use Rattle.records.specs.declared.missing.Cause.{Cause}
+use Rattle.text.specs.Value.{TextPart}
 
 -- ---- the numbers that stand for a case
 
@@ -82,69 +71,47 @@ operation n a b =
 -- ---- the numbers that a case gives
 
 abbrev pub value_of : Computed → ℤ
-value_of (Value a) = a.value
-value_of Overflow = pos 0
-value_of ZeroDivisor = pos 0
+value_of (Ok a) = a.value
+value_of (Err e) = pos 0
 
 abbrev pub scale_of : Computed → ℤ
-scale_of (Value a) = a.scale
-scale_of Overflow = pos 0
-scale_of ZeroDivisor = pos 0
+scale_of (Ok a) = a.scale
+scale_of (Err e) = pos 0
+
+abbrev pub error_number : ArithmeticError → ℕ
+error_number Overflow = 24
+error_number ZeroDivisor = 25
 
 abbrev pub refusal_of : Computed → ℕ
-refusal_of (Value a) = 0
-refusal_of Overflow = 24
-refusal_of ZeroDivisor = 25
+refusal_of (Ok a) = 0
+refusal_of (Err e) = error_number e
 
 -- what an operation gives, and what it leaves in the answer
 pub record ComputedInto (c : Computed) (an' : List ℤ) (r : ℕ) : Type 0 where
   pub number_is : r ≡ refusal_of c
   pub answer_filled : an' ≡ value_of c ∷ scale_of c ∷ []
 
-abbrev pub sign_of : Order → ℤ
+abbrev pub sign_of : Ordering → ℤ
 sign_of Less = negsuc 0
 sign_of Equal = pos 0
 sign_of Greater = pos 1
 
-abbrev pub is_malformed : TextPart → Bool
-is_malformed (Is start end) = false
-is_malformed Malformed = true
-
 abbrev pub start_of : TextPart → ℕ
-start_of (Is start end) = start
-start_of Malformed = 0
+start_of (Some (start, end)) = start
+start_of None = 0
 
 abbrev pub end_of : TextPart → ℕ
-end_of (Is start end) = end
-end_of Malformed = 0
+end_of (Some (start, end)) = end
+end_of None = 0
 
-abbrev pub is_proper : DictionaryCheck → Bool
-is_proper Proper = true
-is_proper (Fault p) = false
+-- where the first fault is; 0 where there is none
+abbrev pub fault_of : Result (Unit {0}) ℕ → ℕ
+fault_of (Ok u) = 0
+fault_of (Err p) = p
 
-abbrev pub fault_of : DictionaryCheck → ℕ
-fault_of Proper = 0
-fault_of (Fault p) = p
-
-abbrev pub place_or : Place → ℕ → ℕ
-place_or (At p) n = p
-place_or Unknown n = n
-
-abbrev pub is_due : RunAnswer → Bool
-is_due AsDue = true
-is_due (WrongAt p) = false
-
-abbrev pub wrong_of : RunAnswer → ℕ
-wrong_of AsDue = 0
-wrong_of (WrongAt p) = p
-
-abbrev pub presence_given : Presence → ℕ
-presence_given There = 0
-presence_given (Missing Cause.Bit) = 1
-presence_given (Missing Cause.Reading) = 2
-presence_given (Missing Cause.Flag) = 3
-presence_given (Missing Cause.Nothing) = 4
-
-abbrev pub length_of : Length → ℕ
-length_of (Length.Is n) = n
-length_of Length.Long = 0
+abbrev pub presence_given : Option Cause → ℕ
+presence_given None = 0
+presence_given (Some Cause.Bit) = 1
+presence_given (Some Cause.Reading) = 2
+presence_given (Some Cause.Flag) = 3
+presence_given (Some Cause.Nothing) = 4

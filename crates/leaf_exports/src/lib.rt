@@ -1,19 +1,19 @@
 // Test exports of the leaves, for the comparison with the second program. They are no part of the product's interface.
+// Kept, in this crate: the C interface hands numbers for cases, slices and places, and takes numbers for cases.
 #![tactic(auto)]
 
-ghost use Rattle.std.specs.Prelude.{◌≡◌, length};
+ghost use Rattle.std.specs.Prelude.{◌≡◌, length, is_none};
 ghost use Rattle.wire.specs.Words.{word_at, long_at, signed};
-ghost use Rattle.leaf_exports.specs.Exports.{operator_of, text_type_of, search_of, operation_version, operation, ComputedInto, sign_of, is_malformed, start_of, end_of};
+ghost use Rattle.leaf_exports.specs.Exports.{operator_of, text_type_of, search_of, operation_version, operation, ComputedInto, error_number, sign_of, start_of, end_of};
 ghost use Rattle.decimal.specs.Number.{compared};
 ghost use Rattle.text.specs.Value.{text_part, bytes_of};
 ghost use Rattle.text.specs.Tests.{text_order, search};
 
 pub mod house;
 
-use decimal::{Computed, Number};
-use text::TextPart;
+use decimal::{ArithmeticError, Computed, Number};
+use std::cmp::Ordering;
 use wire::codes::{Operator, TextSearch, TextType, Version};
-use wire::order::Order;
 
 // The numbers of operations: add, subtract, multiply, divide and negate are 0 to 4.
 const ADD: u8 = 0;
@@ -44,6 +44,7 @@ const OVERFLOW: u32 = 24;
 
 const ZERO_DIVISOR: u32 = 25;
 
+#[tactic(auto, unfolding(crate::specs::Exports::operator_of))]
 fn operator_of(o: u8) -> Operator
     ensures { result ≡ operator_of o }
 {
@@ -56,6 +57,7 @@ fn operator_of(o: u8) -> Operator
 }
 
 // Version 5 for its divide, version 4 for every other operation.
+#[tactic(auto, unfolding(crate::specs::Exports::operation_version))]
 fn version_of(o: u8) -> Version
     ensures { result ≡ operation_version o }
 {
@@ -68,6 +70,7 @@ fn version_of(o: u8) -> Version
 
 // Any other number above negate's brings the first to the scale of the second. There is one call of `compute`, so that it is laid in here.
 // The numbers come by their parts, as the exports have them: a struct would go through memory.
+#[tactic(auto, unfolding(crate::specs::Exports::operation))]
 fn operate(o: u8, a: i64, a_scale: i8, b: i64, b_scale: i8) -> Computed
     ensures { result ≡ operation o (record { value = a; scale = a_scale }) (record { value = b; scale = b_scale }) }
 {
@@ -91,6 +94,15 @@ fn operate(o: u8, a: i64, a_scale: i8, b: i64, b_scale: i8) -> Computed
     decimal::compute(version_of(o), operator_of(o), first, second)
 }
 
+fn error_number(error: ArithmeticError) -> u32
+    ensures { result ≡ error_number error }
+{
+    match error {
+        ArithmeticError::Overflow => OVERFLOW,
+        ArithmeticError::ZeroDivisor => ZERO_DIVISOR,
+    }
+}
+
 // 0, or refusal 24 or 25; value and scale of the result are left in the answer, zeros where there is none.
 #[unsafe(no_mangle)]
 pub extern "C" fn leaf_compute(
@@ -104,29 +116,24 @@ pub extern "C" fn leaf_compute(
     ensures { ComputedInto (operation o (record { value = a; scale = a_scale }) (record { value = b; scale = b_scale })) answer.new result }
 {
     match operate(o, a, a_scale, b, b_scale) {
-        Computed::Value(n) => {
-            let scale = n.scale as i64;
-            *answer = [n.value, scale];
+        Ok(n) => {
+            *answer = [n.value, n.scale as i64];
             0
         }
-        Computed::Overflow => {
+        Err(error) => {
             *answer = [0, 0];
-            OVERFLOW
-        }
-        Computed::ZeroDivisor => {
-            *answer = [0, 0];
-            ZERO_DIVISOR
+            error_number(error)
         }
     }
 }
 
-fn sign_of(o: Order) -> i64
+fn sign_of(o: Ordering) -> i64
     ensures { result ≡ sign_of o }
 {
     match o {
-        Order::Less => -1,
-        Order::Equal => 0,
-        Order::Greater => 1,
+        Ordering::Less => -1,
+        Ordering::Equal => 0,
+        Ordering::Greater => 1,
     }
 }
 
@@ -147,6 +154,7 @@ pub extern "C" fn leaf_compare(a: i64, a_scale: i8, b: i64, b_scale: i8) -> i64
     ))
 }
 
+#[tactic(auto, unfolding(crate::specs::Exports::text_type_of))]
 fn text_type_of(t: u8) -> TextType
     ensures { result ≡ text_type_of t }
 {
@@ -159,13 +167,9 @@ fn text_type_of(t: u8) -> TextType
 
 #[unsafe(no_mangle)]
 pub extern "C" fn leaf_text_malformed(t: u8, s: &[u8]) -> bool
-    ensures { result ≡ is_malformed (text_part (text_type_of t) s.now) }
+    ensures { result ≡ is_none (text_part (text_type_of t) s.now) }
 {
-    let p = text::value::text_part(text_type_of(t), s);
-    match p {
-        TextPart::Is(start, end) => false,
-        TextPart::Malformed => true,
-    }
+    text::value::text_part(text_type_of(t), s).is_none()
 }
 
 // Where a text starts; 0 of a malformed one.
@@ -173,10 +177,9 @@ pub extern "C" fn leaf_text_malformed(t: u8, s: &[u8]) -> bool
 pub extern "C" fn leaf_text_start(t: u8, s: &[u8]) -> usize
     ensures { result ≡ start_of (text_part (text_type_of t) s.now) }
 {
-    let p = text::value::text_part(text_type_of(t), s);
-    match p {
-        TextPart::Is(start, end) => start,
-        TextPart::Malformed => 0,
+    match text::value::text_part(text_type_of(t), s) {
+        Some((start, _)) => start,
+        None => 0,
     }
 }
 
@@ -185,10 +188,9 @@ pub extern "C" fn leaf_text_start(t: u8, s: &[u8]) -> usize
 pub extern "C" fn leaf_text_end(t: u8, s: &[u8]) -> usize
     ensures { result ≡ end_of (text_part (text_type_of t) s.now) }
 {
-    let p = text::value::text_part(text_type_of(t), s);
-    match p {
-        TextPart::Is(start, end) => end,
-        TextPart::Malformed => 0,
+    match text::value::text_part(text_type_of(t), s) {
+        Some((_, end)) => end,
+        None => 0,
     }
 }
 
@@ -208,6 +210,7 @@ pub extern "C" fn leaf_text_compare(a: &[u8], b: &[u8]) -> i64
     sign_of(text::order::compare(a, b))
 }
 
+#[tactic(auto, unfolding(crate::specs::Exports::search_of))]
 fn search_of(t: u8) -> TextSearch
     ensures { result ≡ search_of t }
 {

@@ -5,8 +5,6 @@
 mod show;
 mod table;
 
-use grammar::ReadAnswer;
-use input::Input;
 use show::{bad_input, line, refused};
 use table::rows;
 use wire::entries::ENTRY_BODY;
@@ -26,21 +24,21 @@ fn list(dictionary: &[u8], body: &[u8]) {
         &mut parameters,
         &mut contexts,
     ) {
-        ReadAnswer::Accepted(n, m, k) => {
+        Ok(counts) => {
             line(b"request ", body.len());
-            rows(b"statement", &statements, STATEMENT_ROW, n);
-            rows(b"parameter", &parameters, PARAMETER_ROW, m);
-            rows(b"context", &contexts, CONTEXT_ROW, k);
+            rows(b"statement", &statements, STATEMENT_ROW, counts.statements);
+            rows(b"parameter", &parameters, PARAMETER_ROW, counts.parameters);
+            rows(b"context", &contexts, CONTEXT_ROW, counts.contexts);
         }
-        ReadAnswer::Refused(r, p) => refused(grammar::number_of(r), p),
+        Err(e) => refused(e),
     }
 }
 
 // The listing of an input: a body starts four bytes after its entry.
 fn answer(s: &[u8]) {
     match input::request_entry(s) {
-        Input::Request(at) => list(&s[ENTRY_BODY..at], &s[at + ENTRY_BODY..]),
-        Input::Bad => bad_input(),
+        Some(at) => list(&s[ENTRY_BODY..at], &s[at + ENTRY_BODY..]),
+        None => bad_input(),
     }
 }
 

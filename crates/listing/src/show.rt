@@ -1,5 +1,10 @@
-// Lines on standard output, of this program alone. No contract can say what is written, so these functions have none.
+// Lines on standard output, of this program alone: no contract can say what is written, so these functions have none, and a public function
+// of a library has one. So `text`, `refused` and `bad_input` stand in `listing`, `evaluate` and `explain` alike.
+use grammar::Refusal;
+use wire::refused::Refused;
 
+// Kept, in this file: `println!` hands a failed write to its caller, which the programs pass over; with `let _ =` on each line it is no plainer.
+// Kept as twins: `text`, `refused` and `bad_input` stand in three programs, as the head of this file says.
 pub(crate) fn text(s: &[u8]) {
     io::write_all(1, s);
 }
@@ -20,8 +25,8 @@ pub(crate) fn bad_input() {
 }
 
 // A refusal's number and place.
-pub(crate) fn refused(n: u32, p: usize) {
+pub(crate) fn refused(e: Refused<Refusal>) {
     text(b"refused ");
-    number(n);
-    line(b" at ", p);
+    number(u32::from(e.refusal));
+    line(b" at ", e.place);
 }

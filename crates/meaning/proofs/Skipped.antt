@@ -16,7 +16,8 @@ use Rattle.wire.specs.declared.codes.Quantifier.{Quantifier}
 use Rattle.records.specs.declared.missing.Cause.{Cause}
 use Rattle.grammar.specs.Tree.{Stream, Value, literal, reference, arithmetic, negate, statistic, count, Boolean, compare, search, between, connect, not, missing, quantify, Clauses, no_clauses, such, sorted, Rse, rse}
 use Rattle.grammar.specs.Bytes.{statistic_code, quantifier_code, keys_bytes, head_bytes, rse_bytes}
-use Rattle.grammar.specs.Kind as Grammar
+use Rattle.grammar.specs.declared.Kind as Grammar
+use Rattle.grammar.specs.declared.Kind.TheVariants as GrammarKind
 use Rattle.grammar.specs.Kinds.{kind_of}
 use Rattle.meaning.specs.declared.Truth.{Truth}
 use Rattle.meaning.specs.declared.Truth.TheVariants.{True, False, Missing}
@@ -145,18 +146,18 @@ module _ (e : Version) (p : ℕ) (l m : List LentRun) (alike : (q : ℕ) → p <
           numbers_over k q kind (within_each (with_runs a m) q opener ss) test values
       unfolding within_each within
       numbers-same none ss = refl
-      numbers-same (some Grammar.Text) ss = refl
-      numbers-same (some Grammar.Date) ss = refl
-      numbers-same (some (Grammar.Number scale)) [] = refl
-      numbers-same (some (Grammar.Number scale)) (s ∷ []) = rw (alike q i) (by (run_at m q))
+      numbers-same (some GrammarKind.Text) ss = refl
+      numbers-same (some GrammarKind.Date) ss = refl
+      numbers-same (some (GrammarKind.Number scale)) [] = refl
+      numbers-same (some (GrammarKind.Number scale)) (s ∷ []) = rw (alike q i) (by (run_at m q))
         where
           by : (r : Option LentRun) →
-              numbers_over k q (some (Grammar.Number scale)) (r and_then λ y. some (map (within (with_runs a l) opener s) y.records)) test values ≡
-              numbers_over k q (some (Grammar.Number scale)) (r and_then λ y. some (map (within (with_runs a m) opener s) y.records)) test values
+              numbers_over k q (some (GrammarKind.Number scale)) (r and_then λ y. some (map (within (with_runs a l) opener s) y.records)) test values ≡
+              numbers_over k q (some (GrammarKind.Number scale)) (r and_then λ y. some (map (within (with_runs a m) opener s) y.records)) test values
           by none = refl
           by (some y) = rw (gathered-same (within (with_runs a l) opener s) (within (with_runs a m) opener s) test (λ x. same (within a opener s x))
               k q values (λ x. worked (within a opener s x)) (nothing_yet scale) y.records)
-      numbers-same (some (Grammar.Number scale)) (s ∷ t ∷ ss) = refl
+      numbers-same (some (GrammarKind.Number scale)) (s ∷ t ∷ ss) = refl
 
   mutual
     unfolding value_of rse_number rse_count truth_of rse_truth clauses_truth fetch_around
@@ -248,6 +249,6 @@ module _ (e : Version) (p : ℕ) (l m : List LentRun) (alike : (q : ℕ) → p <
         over : (kind : Option Grammar.Kind) → numbers_over k p kind (some (map (inside l) (xs ++ (x ∷ ys)))) test_of number_of ≡
             numbers_over k p kind (some (map (inside m) (xs ++ ys))) test_of number_of
         over none = refl
-        over (some Grammar.Text) = refl
-        over (some Grammar.Date) = refl
-        over (some (Grammar.Number scale)) = ap (λ z. z >>= λ g. statistic_of k p g) (taken (nothing_yet scale))
+        over (some GrammarKind.Text) = refl
+        over (some GrammarKind.Date) = refl
+        over (some (GrammarKind.Number scale)) = ap (λ z. z >>= λ g. statistic_of k p g) (taken (nothing_yet scale))

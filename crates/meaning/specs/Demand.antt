@@ -21,12 +21,11 @@ use Rattle.grammar.specs.Rules.{Allowed}
 use Rattle.grammar.specs.Conditions.{Condition, request_conditions}
 use Rattle.grammar.specs.Named.{FromValue, from_value}
 use Rattle.meaning.specs.Data.{Result, is, refused, stray}
-use Rattle.meaning.specs.declared.Evaluation.{Evaluation}
 use Rattle.meaning.specs.Inputs.{length_of}
 use Rattle.meaning.specs.Runs.{DueRun}
 use Rattle.meaning.specs.Meaning.{meaning, value_meaning}
 use Rattle.meaning.specs.Evaluation.{Outcome, outcome, Answer, value_outcome}
-use Rattle.meaning.specs.Evaluated.{outcome_of}
+use Rattle.meaning.specs.Evaluated.{Evaluation, outcome_of}
 
 -- ---- what is given
 

@@ -1,15 +1,19 @@
 -- What evaluation promises.
-use Rattle.std.specs.Prelude.{ℕ, ◌≡◌, List}
+use Rattle.std.specs.Prelude.{ℕ, ◌≡◌, List, Result, Ok, Err}
+use Rattle.wire.specs.declared.refused.Refused.{Refused}
+use Rattle.grammar.specs.declared.Refusal.{Refusal}
 use Rattle.grammar.specs.Demands.{Octets}
 use Rattle.meaning.specs.declared.Truth.{Truth}
-use Rattle.meaning.specs.declared.Evaluation.{Evaluation}
-use Rattle.meaning.specs.declared.Evaluation.TheVariants.{Is, Refused}
 use Rattle.meaning.specs.Evaluation.{Outcome, answered as truth, refusal, evaluation}
+
+-- the answer of evaluation
+abbrev pub Evaluation : Type 0
+Evaluation = Result Truth (Refused Refusal)
 
 -- an answer of the code, as an outcome
 abbrev pub outcome_of : Evaluation → Outcome Truth
-outcome_of (Is t) = truth t
-outcome_of (Refused r p) = refusal r p
+outcome_of (Ok t) = truth t
+outcome_of (Err x) = refusal x.refusal x.place
 
 -- the answer r to a request, a dictionary, a boolean number, message images, records and runs is that of the definition
 abbrev pub Evaluates : List ℕ → List ℕ → ℕ → List ℕ → List ℕ → List ℕ → Evaluation → Type 0

@@ -1,5 +1,5 @@
 -- What messages and records hold: the value of each field and parameter.
-use Rattle.std.specs.Prelude.{ℕ, zero, suc, ◌+◌, Bool, true, false, cond, List, [], ◌∷◌, eqb, ℤ, pos, negsuc, length, take, drop}
+use Rattle.std.specs.Prelude.{ℕ, zero, suc, ◌+◌, Bool, true, false, cond, List, [], ◌∷◌, eqb, ℤ, pos, negsuc, length, take, drop, Option as Maybe, Some, None}
 use Rattle.std.proofs.Math.Option.{Option, none, some}
 use Rattle.std.proofs.Math.ListN.{get_elem?}
 use Rattle.wire.specs.Words.{word_at, long_at, int64_at, signed}
@@ -10,15 +10,12 @@ use Rattle.wire.specs.declared.codes.TextType.{TextType}
 use Rattle.wire.specs.declared.codes.DataType.TheVariants as Data
 use Rattle.wire.specs.declared.codes.FieldType.{FieldType}
 use Rattle.wire.specs.declared.codes.FieldType.TheVariants.{Plain, Reading}
-use Rattle.text.specs.declared.TextPart.{TextPart}
-use Rattle.text.specs.declared.TextPart.TheVariants as TextPart
-use Rattle.text.specs.Value.{text_part, part_of, kept}
+use Rattle.text.specs.Value.{TextPart, text_part, part_of, kept}
 use Rattle.dictionary.specs.Format.{Format, text_bytes}
 use Rattle.dictionary.specs.Dictionary.{Relation}
 use Rattle.dictionary.specs.Naming.{Name, field_of, format_of}
+use Rattle.records.specs.declared.missing.Cause.{Cause}
 use Rattle.records.specs.declared.missing.Cause.TheVariants as Cause
-use Rattle.records.specs.declared.missing.Presence.{Presence}
-use Rattle.records.specs.declared.missing.Presence.TheVariants.{There, Missing}
 use Rattle.records.specs.Record.{record_length, field_place, field_presence}
 use Rattle.grammar.specs.Tree.{Descriptor, Message, Literal, Reference, field, parameter, parameter2}
 use Rattle.grammar.specs.Environment.{Context, Scope, descriptor_format}
@@ -45,8 +42,8 @@ number_at Long s p = signed 4 (long_at s p)
 number_at Int64 s p = signed 8 (int64_at s p)
 
 abbrev pub text_found : List ℕ → TextPart → Fetched
-text_found s (TextPart.Is start end) = value (text (part_of s start end))
-text_found s TextPart.Malformed = malformed
+text_found s (Some (start, end)) = value (text (part_of s start end))
+text_found s None = malformed
 
 abbrev pub text_in : List ℕ → TextType → Fetched
 text_in s t = text_found s (text_part t s)
@@ -72,9 +69,9 @@ unfoldable pub kind_held : Format → Kind
 kind_held f = type_kind f.type
 
 -- 01: "The value of a missing field or parameter2 isn't read."
-abbrev pub unless_missing : Presence → Format → List ℕ → ℕ → Fetched
-unless_missing (Missing w) f s p = value (absent (kind_held f) w)
-unless_missing There f s p = value_at f s p
+abbrev pub unless_missing : Maybe Cause → Format → List ℕ → ℕ → Fetched
+unless_missing (Some w) f s p = value (absent (kind_held f) w)
+unless_missing None f s p = value_at f s p
 
 abbrev pub numeral : Width → ℕ → ℤ
 numeral Short n = signed 2 n

@@ -1,5 +1,5 @@
 -- What a search among the declared messages finds, and the kinds of their parameters. Assumes nothing.
-use Prim.Native.Nat.{ℕ, ◌+◌, ◌<◌, min}
+use Prim.Native.Nat.{ℕ, ◌+◌, ◌≤◌, ◌<◌, min}
 use mathlib.Core.Path.{◌≡◌, refl, sym, ap, ◌∙◌}
 use mathlib.Core.Bool.{Bool, true, false, cond}
 use mathlib.Core.List.{List, [], ◌∷◌}
@@ -7,9 +7,12 @@ use mathlib.Core.Option.{Option, none, some, map}
 use native.Mathlib.Omega.{arith}
 use borrow.Author.Tests.{eqb-true, lt-ltb}
 use lib.Dec.{eqb}
-use lib.ListN.{length, take, get_or, get_elem?, length-take}
+use lib.ListN.{length, take, drop, get_or, get_elem?, length-take}
 use lib.Seq.{get_or-take}
+use Rattle.std.specs.Prelude.{Some, None}
+use Rattle.std.specs.Prelude as std
 use Rattle.wire.specs.Limits.{max_messages}
+use Rattle.wire.specs.Options.{option_of}
 use Rattle.wire.specs.Lists.{any_of, find, index_of, is_some}
 use Rattle.grammar.specs.Kinds.{format_kind}
 use Rattle.grammar.specs.Environment as Grammar
@@ -17,19 +20,19 @@ use Rattle.grammar.specs.Environment.{Environment, descriptor_format, parameter_
 use Rattle.grammar.specs.Scope.{declared}
 use Rattle.scopes.specs.Scopes.{each_from}
 use Rattle.scopes.proofs.Runs.{each-length, each_at}
-use Rattle.scopes.proofs.Rests.{any-index}
+use Rattle.scopes.proofs.Rests.{any-index, some-index, each-part, index-alike}
 use Rattle.scopes.proofs.Scopes.{find-map, find-index, index-within as index_below}
-use Rattle.messages.specs.declared.declared.FoundMessage.TheVariants.{At, Nothing}
-use Rattle.messages.specs.Entries.{no_message, messages_held, message_in, message_at, declared_in, found_answer, found_of}
+use Rattle.messages.specs.Internal.Columns.{numbers_from}
+use Rattle.messages.specs.Entries.{no_message, messages_held, message_in, message_at, declared_in, found_of}
 use Rattle.messages.specs.Entries.{descriptors_at, message_of, messages_in, parameter_kind}
 
 -- ---- a search in a list
 
-found_at : (o : Option ℕ) {i : ℕ} → found_answer o ≡ At i → o ≡ some i
+found_at : (o : Option ℕ) {i : ℕ} → option_of o ≡ Some i → o ≡ some i
 found_at none e = let z : ◌≡◌ {A = ℕ} 0 1 = cc in absurd (omega arith)
 found_at (some k) e = cc
 
-found_none : (o : Option ℕ) → found_answer o ≡ Nothing → o ≡ none
+found_none : (o : Option ℕ) → option_of o ≡ None → o ≡ none
 found_none none e = refl
 found_none (some k) e = let z : ◌≡◌ {A = ℕ} 0 1 = cc in absurd (omega arith)
 
@@ -67,6 +70,16 @@ module _ (a : List ℕ) (m : ℕ) where
   abbrev index : Option ℕ
   index = index_of (λ x. eqb x.number m) (declared_in a)
 
+  -- by the column of the numbers
+  pub message-index : numbers_from + max_messages ≤ length a
+      → index_of (λ x. eqb x m) (take (messages_held a) (take max_messages (drop numbers_from a))) ≡ found_of (declared_in a) m
+  message-index h =
+      rw (sym (each-part a numbers_from max_messages h))
+      (index-alike (λ i. get_or a i 0) (message_in a) (λ x. eqb x m) (λ x. eqb x.number m) numbers_from 0 same max_messages (messages_held a))
+    where
+      same : (k i j : ℕ) → i ≡ numbers_from + k → j ≡ 0 + k → eqb (get_or a i 0) m ≡ eqb (get_or a (numbers_from + j) 0) m
+      same k i j e l = let z : i ≡ numbers_from + j = omega arith in rw z
+
   find-message :
       find (λ x. eqb x.number m) (messages_in a) ≡ map (message_of a) (map (λ i. get_or (declared_in a) i no_message) index)
   unfolding messages_in
@@ -80,7 +93,7 @@ module _ (a : List ℕ) (m : ℕ) where
       sym (ap is_some (find-index (λ x. eqb x.number m) (message_of a no_message) (messages_in a)) ∙
       some-map (λ i. get_or (messages_in a) i (message_of a no_message)) (index_of (λ x. eqb x.number m) (messages_in a)))
 
-  module _ {i : ℕ} (x : found_of (declared_in a) m ≡ At i) where
+  module _ {i : ℕ} (x : option_of (found_of (declared_in a) m) ≡ Some i) where
     held : (i < max_messages) × (get_or (declared_in a) i no_message ≡ message_in a i)
     held =
         each-held (message_in a) (messages_held a) max_messages i no_message
@@ -98,15 +111,21 @@ module _ (a : List ℕ) (m : ℕ) where
     pub found-any : any_of (λ x. eqb x.number m) (messages_in a) ≡ true
     found-any = any-message ∙ ap is_some find-found
 
-  module _ (x : found_of (declared_in a) m ≡ Nothing) where
+  module _ (x : option_of (found_of (declared_in a) m) ≡ None) where
     pub find-nothing : find (λ x. eqb x.number m) (messages_in a) ≡ none
     find-nothing = find-message ∙ rw (found_none index x)
 
     pub nothing-any : any_of (λ x. eqb x.number m) (messages_in a) ≡ false
     nothing-any = any-message ∙ ap is_some find-nothing
 
+  -- whether the number has a message
+  pub found-some : std.is_some (option_of (found_of (declared_in a) m)) ≡ any_of (λ x. eqb x.number m) (messages_in a)
+  found-some =
+      some-index index ∙ sym (any-message ∙ ap is_some find-message ∙ some-map (message_of a) (map (λ i. get_or (declared_in a) i no_message) index) ∙
+      some-map (λ i. get_or (declared_in a) i no_message) index)
+
 -- an index stands for one number
-pub different-messages : (a : List ℕ) {m n i : ℕ} → found_of (declared_in a) m ≡ At i → found_of (declared_in a) n ≡ At i → m ≡ n
+pub different-messages : (a : List ℕ) {m n i : ℕ} → option_of (found_of (declared_in a) m) ≡ Some i → option_of (found_of (declared_in a) n) ≡ Some i → m ≡ n
 different-messages a {m} {n} x y = sym (found_number a m x) ∙ found_number a n y
 
 pub nothing-declared : (a : List ℕ) → messages_held a ≡ 0 → messages_in a ≡ []
@@ -116,7 +135,7 @@ nothing-declared a e = rw e
 -- ---- in an environment
 
 module _ (e : Environment) (a : List ℕ) (held : e.messages ≡ messages_in a) (m : ℕ) where
-  module _ (i : ℕ) (x : found_of (declared_in a) m ≡ At i) where
+  module _ (i : ℕ) (x : option_of (found_of (declared_in a) m) ≡ Some i) where
     pub index-within : i < max_messages
     index-within = found_within a m x
 
@@ -137,7 +156,7 @@ module _ (e : Environment) (a : List ℕ) (held : e.messages ≡ messages_in a) 
     pub parameter-known : (j : ℕ) → is_some (parameter_format e m j) ≡ is_some (parameter_kind a (message_at a i) j)
     parameter-known j = sym (some-map format_kind (parameter_format e m j)) ∙ ap is_some (parameter-format j)
 
-  module _ (x : found_of (declared_in a) m ≡ Nothing) where
+  module _ (x : option_of (found_of (declared_in a) m) ≡ None) where
     pub no-message-is : Grammar.message_of e m ≡ none
     unfolding Grammar.message_of
     no-message-is = ap (find (λ y. eqb y.number m)) held ∙ find-nothing a m x

@@ -1,5 +1,5 @@
 -- A descriptor in one number, and the parameters of a message in the array. Assumes nothing.
-use Prim.Native.Nat.{ℕ, zero, suc, ◌+◌, ◌-◌, ◌%◌, ◌/◌, ◌≤◌, ◌<◌}
+use Prim.Native.Nat.{ℕ, zero, suc, ◌+◌, ◌%◌, ◌/◌, ◌≤◌, ◌<◌}
 use mathlib.Core.Path.{◌≡◌, refl, ap, ◌∙◌}
 use mathlib.Core.List.{List}
 use mathlib.Core.Option.{none, some}
@@ -16,7 +16,8 @@ use Rattle.grammar.specs.Tree as Tree
 use Rattle.grammar.specs.Bytes.{descriptor_bytes}
 use Rattle.grammar.specs.Kinds.{format_kind}
 use Rattle.grammar.specs.Environment.{descriptor_format}
-use Rattle.grammar.specs.declared.Fit.TheVariants as Fit
+use Rattle.std.specs.Prelude.{Some, None}
+use Rattle.grammar.specs.declared.Kind.TheVariants as Kind
 use Rattle.grammar.specs.Internal.Steps.{fit_of}
 use Rattle.scopes.specs.Scopes.{each_from}
 use Rattle.messages.specs.Internal.Columns.{descriptors_from}
@@ -80,12 +81,12 @@ module _ {A : Type 0} (f : ℕ → A) where
 -- ---- the kind of a parameter
 
 module _ (a : List ℕ) (message i : ℕ) where
-  pub no-message : max_messages ≤ message → Fit.NoKind ≡ fit_of (parameter_kind a (message_at a message) i)
+  pub no-message : max_messages ≤ message → None ≡ fit_of (parameter_kind a (message_at a message) i)
   unfolding parameter_kind each_from
   no-message h = rw (le-ltb message max_messages h)
 
   module _ (within : message < max_messages) where
-    pub no-parameter : (message_in a message).parameters ≤ i → Fit.NoKind ≡ fit_of (parameter_kind a (message_at a message) i)
+    pub no-parameter : (message_in a message).parameters ≤ i → None ≡ fit_of (parameter_kind a (message_at a message) i)
     unfolding parameter_kind
     no-parameter h =
         rw (
@@ -94,7 +95,7 @@ module _ (a : List ℕ) (message i : ℕ) where
         )
 
     module _ (h : i < (message_in a message).parameters) where
-      pub parameter-past : max_parameters ≤ (message_in a message).first + i → Fit.Date ≡ fit_of (parameter_kind a (message_at a message) i)
+      pub parameter-past : max_parameters ≤ (message_in a message).first + i → Some Kind.Date ≡ fit_of (parameter_kind a (message_at a message) i)
       unfolding parameter_kind descriptor_at descriptor_format format_kind
       parameter-past k =
           rw (
@@ -104,7 +105,7 @@ module _ (a : List ℕ) (message i : ℕ) where
           )
 
       pub parameter-row : (message_in a message).first + i < max_parameters →
-          fit_of (some (format_kind (descriptor_format (descriptor_of (get_or a (descriptors_from + ((message_in a message).first + i)) 0))))) ≡
+          Some (format_kind (descriptor_format (descriptor_of (get_or a (descriptors_from + ((message_in a message).first + i)) 0)))) ≡
           fit_of (parameter_kind a (message_at a message) i)
       unfolding parameter_kind descriptor_at
       parameter-row k =

@@ -1,7 +1,7 @@
 -- The messages that a request has declared, as the code has them: an array of numbers, and what it stands for.
 use Rattle.std.specs.Prelude.{ℕ, ◌+◌, ◌-◌, ◌*◌, ◌%◌, ◌/◌, cond, List, map, eqb, ltb, take, set, get_or}
 use Rattle.std.proofs.Math.Option
-use Rattle.std.proofs.Math.Option.{Option, none, some}
+use Rattle.std.proofs.Math.Option.{Option}
 use Rattle.std.proofs.Math.ListN.{get_elem?}
 use Rattle.wire.specs.Codes as blr
 use Rattle.wire.specs.Limits.{max_messages, max_parameters}
@@ -13,10 +13,8 @@ use Rattle.wire.specs.declared.codes.TextType.TheVariants.{Text, Varying, Cstrin
 use Rattle.grammar.specs.Tree as Tree
 use Rattle.grammar.specs.Environment.{descriptor_format}
 use Rattle.grammar.specs.Kinds.{format_kind}
-use Rattle.grammar.specs.Kind.{Kind}
+use Rattle.grammar.specs.declared.Kind.{Kind}
 use Rattle.scopes.specs.Scopes.{each_from}
-use Rattle.messages.specs.declared.declared.FoundMessage.{FoundMessage}
-use Rattle.messages.specs.declared.declared.FoundMessage.TheVariants.{At, Nothing}
 use Rattle.messages.specs.Internal.Columns.{message_count, row_count, numbers_from, counts_from, firsts_from, descriptors_from, version_at}
 
 -- ---- messages in the array
@@ -48,12 +46,9 @@ message_at a i = cond (ltb i max_messages) (message_in a i) no_message
 abbrev pub declared_in : List ℕ → List Message
 declared_in a = take (messages_held a) (each_from (message_in a) 0 max_messages)
 
-abbrev pub found_answer : Option ℕ → FoundMessage
-found_answer none = Nothing
-found_answer (some i) = At i
-
-abbrev pub found_of : List Message → ℕ → FoundMessage
-found_of xs m = found_answer (index_of (λ x. eqb x.number m) xs)
+-- the index of the message of a number
+abbrev pub found_of : List Message → ℕ → Option ℕ
+found_of xs m = index_of (λ x. eqb x.number m) xs
 
 -- ---- descriptors in the array
 

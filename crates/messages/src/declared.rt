@@ -1,14 +1,15 @@
 // What stands around all statements: the messages that a request has declared, and what describes their parameters, in a lent array.
 ghost use Rattle.std.specs.Prelude.{◌≡◌, ◌≤◌, ◌<◌};
-ghost use Rattle.std.proofs.Math.Option.{some};
 ghost use Rattle.wire.specs.Limits.{max_messages, max_parameters, max_message_bytes};
+ghost use Rattle.wire.specs.Options.{option_of};
 ghost use Rattle.grammar.specs.Kinds.{format_kind};
 ghost use Rattle.grammar.specs.Environment.{descriptor_format};
 ghost use Rattle.grammar.specs.Internal.Steps.{fit_of};
 ghost use Rattle.messages.specs.Entries.{messages_held, rows_held, declared_in, found_of, message_at, parameter_kind};
 ghost use Rattle.messages.specs.Entries.{packed, descriptor_of, version_in, with_version, with_descriptor, with_message};
 
-use grammar::Fit;
+use crate::descriptor::Descriptor;
+use grammar::Kind;
 use wire::blr::{CSTRING, INT64, LONG, SHORT, TEXT, VARYING, VERSION4, VERSION5};
 use wire::bytes::signed_byte;
 use wire::codes::Version;
@@ -34,49 +35,30 @@ const VERSION: usize = 306;
 
 pub const AROUND: usize = 307;
 
-// The index of the message of a number, or that none is declared.
-#[derive(Clone, Copy)]
-pub enum FoundMessage {
-    At(usize),
-    Nothing,
-}
-
-pub fn find(around: &[u32; AROUND], m: MessageNumber) -> FoundMessage
-    ensures { result ≡ found_of (declared_in around.now) m.0 }
+// The index of the message of a number.
+pub fn find(around: &[u32; AROUND], m: MessageNumber) -> Option<usize>
+    ensures { result ≡ option_of (found_of (declared_in around.now) m.0) }
 {
-    let count = around[MESSAGE_COUNT];
-    let mut i: usize = 0;
-    while i < MAX_MESSAGES {
-        if i as u32 == count {
-            return FoundMessage::Nothing;
-        }
-        if around[NUMBERS + i] == m.0 as u32 {
-            return FoundMessage::At(i);
-        }
-        i += 1;
-    }
-    FoundMessage::Nothing
-}
-
-// A number of the array as an index.
-fn wide(x: u32) -> usize
-    ensures { (result ≡ x) × (result < 4294967296) }
-{
-    x as usize
+    let number = u32::from(m.0);
+    around[NUMBERS..COUNTS]
+        .iter()
+        .take(around[MESSAGE_COUNT] as usize)
+        .position(|x| *x == number)
 }
 
 // The rows of all parameters.
 pub fn row_count(around: &[u32; AROUND]) -> usize
     ensures { result ≡ rows_held around.now }
 {
-    wide(around[ROW_COUNT])
+    around[ROW_COUNT] as usize
 }
 
 // The version of the request.
+#[tactic(auto, unfolding(crate::specs::Entries::version_in, wire::specs::Versions::version_of))]
 pub fn version(around: &[u32; AROUND]) -> Version
     ensures { result ≡ version_in around.now }
 {
-    if around[VERSION] == VERSION5 as u32 {
+    if around[VERSION] == u32::from(VERSION5) {
         Version::Version5
     } else {
         Version::Version4
@@ -84,61 +66,51 @@ pub fn version(around: &[u32; AROUND]) -> Version
 }
 
 // The kind of a descriptor in one number.
-fn descriptor_fit(x: u32) -> Fit
-    ensures { result ≡ fit_of (some (format_kind (descriptor_format (descriptor_of x)))) }
+#[tactic(auto, unfolding(crate::specs::Entries::descriptor_of, crate::specs::Entries::described_by, grammar::specs::Environment::descriptor_format, grammar::specs::Kinds::format_kind))]
+fn descriptor_fit(x: u32) -> Kind
+    ensures { result ≡ format_kind (descriptor_format (descriptor_of x)) }
 {
     let code = (x % 256) as u8;
     let scale = (x / 256 % 256) as u8;
     match code {
-        SHORT | LONG | INT64 => Fit::Number(signed_byte(scale)),
-        TEXT | VARYING | CSTRING => Fit::Text,
-        _ => Fit::Date,
+        SHORT | LONG | INT64 => Kind::Number(signed_byte(scale)),
+        TEXT | VARYING | CSTRING => Kind::Text,
+        _ => Kind::Date,
     }
 }
 
-// The kind of a parameter of the message of an index, or that it has no such parameter.
-pub fn parameter_fit(around: &[u32; AROUND], message: usize, i: u32) -> Fit
+// The kind of a parameter of the message of an index.
+pub fn parameter_fit(around: &[u32; AROUND], message: usize, i: u32) -> Option<Kind>
     ensures { result ≡ fit_of (parameter_kind around.now (message_at around.now message) i) }
 {
-    if MAX_MESSAGES <= message {
-        return Fit::NoKind;
+    if MAX_MESSAGES <= message || around[COUNTS + message] <= i {
+        return None;
     }
-    if around[COUNTS + message] <= i {
-        return Fit::NoKind;
-    }
-    let row = wide(around[FIRSTS + message]) + i as usize;
+    let row = around[FIRSTS + message] as usize + i as usize;
     if MAX_PARAMETERS <= row {
-        return Fit::Date;
+        return Some(Kind::Date);
     }
-    descriptor_fit(around[DESCRIPTORS + row])
+    Some(descriptor_fit(around[DESCRIPTORS + row]))
 }
 
 // The version of the request.
 pub(crate) fn put_version(around: &mut [u32; AROUND], v: Version)
     ensures { around.new ≡ with_version around.old v }
 {
-    match v {
-        Version::Version4 => {
-            around[VERSION] = VERSION4 as u32;
-        }
-        Version::Version5 => {
-            around[VERSION] = VERSION5 as u32;
-        }
-    }
+    around[VERSION] = match v {
+        Version::Version4 => u32::from(VERSION4),
+        Version::Version5 => u32::from(VERSION5),
+    };
 }
 
 // The descriptor of a row.
-pub(crate) fn put_descriptor(
-    around: &mut [u32; AROUND],
-    row: usize,
-    code: u8,
-    scale: u8,
-    held: usize,
-)
-    requires { (row < max_parameters) × (held ≤ max_message_bytes) }
-    ensures { around.new ≡ with_descriptor around.old row (packed code scale held) }
+pub(crate) fn put_descriptor(around: &mut [u32; AROUND], row: usize, x: Descriptor)
+    requires { (row < max_parameters) × (x.held ≤ max_message_bytes) }
+    ensures { around.new ≡ with_descriptor around.old row (packed x.code x.scale x.held) }
 {
-    around[DESCRIPTORS + row] = code as u32 + 256 * scale as u32 + 65536 * held as u32;
+    around[DESCRIPTORS + row] = u32::from(x.code)
+        + 256 * u32::from(x.scale)
+        + 65536 * x.held as u32;
 }
 
 // One message more, of so many parameters, which have the next rows.
@@ -149,7 +121,7 @@ pub(crate) fn add_message(around: &mut [u32; AROUND], m: MessageNumber, paramete
 {
     let i = around[MESSAGE_COUNT] as usize;
     let rows = around[ROW_COUNT];
-    around[NUMBERS + i] = m.0 as u32;
+    around[NUMBERS + i] = u32::from(m.0);
     around[COUNTS + i] = parameters;
     around[FIRSTS + i] = rows;
     around[MESSAGE_COUNT] = i as u32 + 1;

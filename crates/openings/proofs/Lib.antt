@@ -1,5 +1,4 @@
 -- Laws that belong to no one function.
-pub mod CodeLaws
 pub mod StreamLaws
 pub mod HeadingLaws
 pub mod OpenLaws

@@ -7,20 +7,16 @@ use native.Mathlib.Nat.{add-zero}
 use native.Mathlib.Omega.{arith}
 use lib.ListN.{length}
 use lib.Seq.{sets}
+use Rattle.std.specs.Prelude.{Result, Ok, Err}
 use Rattle.wire.specs.Codes as blr
 use Rattle.wire.specs.Limits.{max_contexts, context_row_numbers}
 use Rattle.wire.specs.Lists.{is_some}
+use Rattle.wire.specs.declared.refused.Refused.{Refused}
 use Rattle.dictionary.specs.Dictionary.{Relation}
 use Rattle.dictionary.specs.Naming.{relation_of}
 use Rattle.grammar.specs.declared.Cursor.{Cursor}
 use Rattle.grammar.specs.declared.Refusal.{Refusal}
 use Rattle.grammar.specs.declared.Refusal.TheVariants.{NotDue}
-use Rattle.grammar.specs.declared.Step.{Step}
-use Rattle.grammar.specs.declared.Step.TheVariants as Step
-use Rattle.grammar.specs.declared.Fit.{Fit}
-use Rattle.grammar.specs.declared.Fit.TheVariants as Fit
-use Rattle.grammar.specs.declared.ByteStep.{ByteStep}
-use Rattle.grammar.specs.declared.ByteStep.TheVariants as ByteStep
 use Rattle.grammar.specs.Tree.{Stream}
 use Rattle.grammar.specs.Bytes.{stream_bytes}
 use Rattle.grammar.specs.Environment as Grammar
@@ -29,8 +25,8 @@ use Rattle.grammar.specs.Rows.{context_row, stream_rows}
 use Rattle.grammar.specs.Reader.{Read, read, refused, on_read, code}
 use Rattle.grammar.specs.Statements.{stream, streams, stream_count, rse_head}
 use Rattle.grammar.specs.Demands.{Octets}
-use Rattle.grammar.specs.Internal.Steps.{step_of, no_kind, byte_step}
-use Rattle.grammar.proofs.StepLaws.{absurd-eq, step-read, step-refused, byte-read, byte-refused}
+use Rattle.grammar.specs.Internal.Steps.{answer_of}
+use Rattle.grammar.proofs.StepLaws.{answer-read, answer-refused}
 use Rattle.grammar.proofs.Went.{Passed, inside, onward, code-went}
 use Rattle.grammar.proofs.SoundRses.{stream-sound, stream-count-went}
 use Rattle.scopes.specs.Internal.Columns.{scope_numbers}
@@ -39,16 +35,14 @@ use Rattle.scopes.specs.Scopes.{contexts_held, sends_held, labels_held, context_
 use Rattle.scopes.proofs.Scopes.{scope-with, with-context-length, with-context-count, with-context-sends, with-context-labels}
 use Rattle.tables.proofs.Stores.{sets-append}
 use Rattle.tables.proofs.Rows.{context-row}
-use Rattle.openings.specs.declared.streams.StreamStep.{StreamStep}
-use Rattle.openings.specs.declared.streams.StreamStep.TheVariants as StreamStep
-use Rattle.openings.specs.Streams.{relations, Proper, context_in, stream_step}
+use Rattle.openings.specs.Streams.{relations, Proper, context_in}
 use Rattle.openings.specs.Openings.{Added, Prepared, Opens, OpensStreams, OpensHead}
-use Rattle.openings.proofs.StreamLaws.{relation-there, stream-refused}
+use Rattle.openings.proofs.StreamLaws.{relation-there}
 
 -- a reading that was refused leaves everything as it is
 pub opens-nothing : {A : Type 0} {x : Read A} {d ct : List ℕ} {row : ℕ} {rows : A → List ℕ} {below : A → Grammar.Scope} {opened : A → ℕ}
-    {sc : List ℕ} {z : Refusal} {p : ℕ} → length sc ≡ scope_numbers → x ≡ refused z p →
-    Opens x d ct row rows below opened ct sc sc (Step.Refused z p)
+    {sc : List ℕ} {y : Refused Refusal} → length sc ≡ scope_numbers → x ≡ refused y.refusal y.place →
+    Opens x d ct row rows below opened ct sc sc (Err y)
 opens-nothing whole e = record {
   answer = rw e;
   contexts_filled = rw e;
@@ -72,29 +66,23 @@ pub record Next (s d : List ℕ) (f : ℕ) (sc : List ℕ) (c : Cursor) (x : Con
   pub context_is : context_of d x ≡ stream_context (relations d) f st
 
 pub stream-next : (s d : List ℕ) → Octets s → Proper d → (f : ℕ) (sc : List ℕ) (c : Cursor) {x : Context} {q : Cursor} →
-    StreamStep.Is x q ≡ stream_step d f (stream (relations d) (scope_of d sc) s c) → Next s d f sc c x q
-stream-next s d octets is-proper f sc c {x} {q} = go (stream (relations d) (scope_of d sc) s c) refl
+    Ok (x, q) ≡ answer_of (context_in d f) (stream (relations d) (scope_of d sc) s c) → Next s d f sc c x q
+stream-next s d octets is-proper f sc c {x} {q} e =
+    let u = answer-read (context_in d f) (stream (relations d) (scope_of d sc) s c) e in
+    let i = stream-sound s octets (relations d) (scope_of d sc) c u.0 q u.1 in
+    record {
+      st = u.0;
+      is_read = u.1;
+      place = i.went.place;
+      declared = i.went.declared;
+      room = omega (arith, i.went.declared, i.few);
+      within = inside i.went;
+      context_is = ap (context_of d) u.2 ∙ known u.0 i.scoped.0;
+    }
   where
     known : (st : Stream) → is_some (relation_of (relations d) st.relation) ≡ true →
         context_of d (context_in d f st) ≡ stream_context (relations d) f st
     known st e = rw (relation-there d is-proper st.relation e)
-
-    go : (y : Read Stream) → stream (relations d) (scope_of d sc) s c ≡ y → StreamStep.Is x q ≡ stream_step d f y → Next s d f sc c x q
-    go (refused r p) e h = absurd-eq (cc)
-    go (read st q₁) e h =
-        let z : q₁ ≡ q = cc in
-        let y : x ≡ context_in d f st = cc in
-        let e' : stream (relations d) (scope_of d sc) s c ≡ read st q = rw z at e in
-        let i = stream-sound s octets (relations d) (scope_of d sc) c st q e' in
-        record {
-          st = st;
-          is_read = e';
-          place = i.went.place;
-          declared = i.went.declared;
-          room = omega (arith, i.went.declared, i.few);
-          within = inside i.went;
-          context_is = ap (context_of d) y ∙ known st i.scoped.0;
-        }
 
 module _ {s d sc : List ℕ} {c : Cursor} (ready : Prepared s d sc c) (room : c.contexts < max_contexts) (x : Context) where
   pub held_below : contexts_held sc < max_contexts
@@ -128,7 +116,7 @@ streams-more (suc n) rs o sc s c z e = let h : suc n - 1 ≡ n = omega arith in 
 -- no stream, and a stream that was refused
 module _ {s d sc : List ℕ} {c : Cursor} (ready : Prepared s d sc c) (ct : List ℕ) (o : ℕ) where
   pub opens-none : (n : ℕ) → n ≡ 0 →
-      OpensStreams o (streams n (relations d) o (scope_of d sc) s c) d c ct ct sc sc (Step.Next Fit.NoKind c)
+      OpensStreams o (streams n (relations d) o (scope_of d sc) s c) d c ct ct sc sc (Ok c)
   unfolding streams stream_rows
   opens-none n e = rw (e, streams) (record {
     answer = refl;
@@ -140,13 +128,13 @@ module _ {s d sc : List ℕ} {c : Cursor} (ready : Prepared s d sc c) (ct : List
     labels_below = omega arith;
   })
 
-  pub opens-refused : (n : ℕ) {z : Refusal} {p : ℕ} → 0 < n →
-      StreamStep.Refused z p ≡ stream_step d o (stream (relations d) (scope_of d sc) s c) →
-      OpensStreams o (streams n (relations d) o (scope_of d sc) s c) d c ct ct sc sc (Step.Refused z p)
+  pub opens-refused : (n : ℕ) {y : Refused Refusal} → 0 < n →
+      Err y ≡ answer_of (context_in d o) (stream (relations d) (scope_of d sc) s c) →
+      OpensStreams o (streams n (relations d) o (scope_of d sc) s c) d c ct ct sc sc (Err y)
   unfolding streams
   opens-refused zero h e = absurd (omega arith)
   opens-refused (suc n) h e = opens-nothing ready.scope_whole
-      (rw (streams, stream-refused d o (stream (relations d) (scope_of d sc) s c) e))
+      (rw (streams, answer-refused (context_in d o) (stream (relations d) (scope_of d sc) s c) e))
 
 -- one stream, and the others after it
 module _ {s d sc : List ℕ} {c : Cursor} (ready : Prepared s d sc c) {o : ℕ} {x : Context} {q : Cursor} (i : Next s d o sc c x q)
@@ -187,7 +175,7 @@ module _ {s d sc : List ℕ} {c : Cursor} (ready : Prepared s d sc c) {o : ℕ} 
       rw (row-added ready i.room x added (omega arith) i.context_is, e, i.place)
       (sym (sets-append row (stream_rows (relations d) o ss (c.at + length (stream_bytes i.st)) 0 0) ct (c.contexts * context_row_numbers)))
 
-  opens-next : (n : ℕ) {ct'' sc'' : List ℕ} {r : Step} → 0 < n →
+  opens-next : (n : ℕ) {ct'' sc'' : List ℕ} {r : Result Cursor (Refused Refusal)} → 0 < n →
       OpensStreams o (streams (n - 1) (relations d) o (scope_of d sc') s q) d q ct' ct'' sc' sc'' r →
       OpensStreams o (streams n (relations d) o (scope_of d sc) s c) d c ct ct'' sc sc'' r
   opens-next n {ct''} {sc''} {r} z h =
@@ -221,28 +209,25 @@ module _ {s d sc : List ℕ} {c : Cursor} (ready : Prepared s d sc c) {o : ℕ} 
 -- the streams from c on, of which so many are left at a cursor: what these open with the rest is what all open
 pub record Opening (o : ℕ) (s d ct sc : List ℕ) (c : Cursor) (n : ℕ) (ct₁ sc₁ : List ℕ) (at : Cursor) (left : ℕ) : Type 0 where
   pub ready : Prepared s d sc₁ at
-  pub all : {ct' sc' : List ℕ} {r : Step} → OpensStreams o (streams left (relations d) o (scope_of d sc₁) s at) d at ct₁ ct' sc₁ sc' r →
+  pub all : {ct' sc' : List ℕ} {r : Result Cursor (Refused Refusal)} → OpensStreams o (streams left (relations d) o (scope_of d sc₁) s at) d at ct₁ ct' sc₁ sc' r →
       OpensStreams o (streams n (relations d) o (scope_of d sc) s c) d c ct ct' sc sc' r
 
 pub stream-opened : {s d ct sc ct₁ sc₁ ct₂ sc₂ : List ℕ} {c at : Cursor} {n left o : ℕ} → Opening o s d ct sc c n ct₁ sc₁ at left →
     Octets s → 0 < left → {x : Context} {q : Cursor} →
-    (Proper d → StreamStep.Is x q ≡ stream_step d o (stream (relations d) (scope_of d sc₁) s at)) →
+    (Proper d → Ok (x, q) ≡ answer_of (context_in d o) (stream (relations d) (scope_of d sc₁) s at)) →
     Added d x at.contexts at.at ct₁ ct₂ sc₁ sc₂ → Opening o s d ct sc c n ct₂ sc₂ q (left - 1)
 stream-opened {s} {d} {sc₁} {at} {left} {o} w octets some e added =
     let proper = w.ready.is-proper in
     let i = stream-next s d octets proper o sc₁ at (e proper) in
     record { ready = ready-next w.ready i added; all = λ h. w.all (opens-next w.ready i added left some h) }
 
--- ---- the head of an rse, by the answers for its code and its count
+-- ---- the head of an rse, after its code and its count
 
-module _ {s d sc : List ℕ} {c : Cursor} (ready : Prepared s d sc c) (most o : ℕ) {b : Step} (u : b ≡ step_of no_kind (code blr.rse NotDue s c)) where
-  module _ {g : Fit} {q : Cursor} (i : b ≡ Step.Next g q) {a : ByteStep} (v : a ≡ byte_step (stream_count most s q)) where
-    module _ {n : ℕ} {q₁ : Cursor} (j : a ≡ ByteStep.Is n q₁) where
-      coded : (k : ℕ) × (code blr.rse NotDue s c ≡ read k q) × (g ≡ Fit.NoKind)
-      coded = step-read no_kind (code blr.rse NotDue s c) (sym i ∙ u)
-
+module _ {s d sc : List ℕ} {c : Cursor} (ready : Prepared s d sc c) (most o : ℕ) where
+  module _ {k : ℕ} {q : Cursor} (i : code blr.rse NotDue s c ≡ read k q) where
+    module _ {n : ℕ} {q₁ : Cursor} (j : stream_count most s q ≡ read n q₁) where
       first-went : Passed s c (blr.rse ∷ n ∷ []) q₁
-      first-went = onward (code-went blr.rse NotDue s c coded.1) (stream-count-went most s q (byte-read (stream_count most s q) (sym j ∙ v))).0
+      first-went = onward (code-went blr.rse NotDue s c i) (stream-count-went most s q j).0
 
       ready-head : Prepared s d sc q₁
       ready-head = record {
@@ -255,22 +240,21 @@ module _ {s d sc : List ℕ} {c : Cursor} (ready : Prepared s d sc c) (most o : 
         labels_fit = ready.labels_fit;
       }
 
-      pub opens-head : {ct ct' sc' : List ℕ} {r : Step} →
+      pub opens-head : {ct ct' sc' : List ℕ} {r : Result Cursor (Refused Refusal)} →
           (Prepared s d sc q₁ → OpensStreams o (streams n (relations d) o (scope_of d sc) s q₁) d q₁ ct ct' sc sc' r) →
           OpensHead o (rse_head most (relations d) o (scope_of d sc) s c) d c ct ct' sc sc' r
       unfolding rse_head
       opens-head h =
           let w : q₁.at ≡ c.at + 2 = first-went.place in
           let z : q₁.contexts ≡ c.contexts = first-went.declared ∙ add-zero _ in
-          rw (rse_head, coded.1, byte-read (stream_count most s q) (sym j ∙ v), sym z, sym w) (h ready-head)
+          rw (rse_head, i, j, sym z, sym w) (h ready-head)
 
-    pub head-uncounted : {ct : List ℕ} {r : Refusal} {p : ℕ} → a ≡ ByteStep.Refused r p →
-        OpensHead o (rse_head most (relations d) o (scope_of d sc) s c) d c ct ct sc sc (Step.Refused r p)
+    pub head-uncounted : {ct : List ℕ} {y : Refused Refusal} → stream_count most s q ≡ refused y.refusal y.place →
+        OpensHead o (rse_head most (relations d) o (scope_of d sc) s c) d c ct ct sc sc (Err y)
     unfolding rse_head
-    head-uncounted j = opens-nothing ready.scope_whole
-        (rw (rse_head, (step-read no_kind (code blr.rse NotDue s c) (sym i ∙ u)).1, byte-refused (stream_count most s q) (sym j ∙ v)))
+    head-uncounted j = opens-nothing ready.scope_whole (rw (rse_head, i, j))
 
-  pub head-refused : {ct : List ℕ} {r : Refusal} {p : ℕ} → b ≡ Step.Refused r p →
-      OpensHead o (rse_head most (relations d) o (scope_of d sc) s c) d c ct ct sc sc (Step.Refused r p)
+  pub head-refused : {ct : List ℕ} {y : Refused Refusal} → code blr.rse NotDue s c ≡ refused y.refusal y.place →
+      OpensHead o (rse_head most (relations d) o (scope_of d sc) s c) d c ct ct sc sc (Err y)
   unfolding rse_head
-  head-refused i = opens-nothing ready.scope_whole (rw (rse_head, step-refused no_kind (code blr.rse NotDue s c) (sym i ∙ u)))
+  head-refused i = opens-nothing ready.scope_whole (rw (rse_head, i))

@@ -1,16 +1,15 @@
 -- The code of a statement, and ends.
-use Rattle.std.specs.Prelude.{ℕ, cond, eqb, ltb}
+use Rattle.std.specs.Prelude.{ℕ, Option, Some, None, Result, Ok, Err, cond, eqb, ltb}
 use Rattle.wire.specs.Codes as blr
 use Rattle.wire.specs.Classes.{statement_class}
+use Rattle.wire.specs.Options.{refused_at}
 use Rattle.wire.specs.declared.codes.StatementCode.{StatementCode}
+use Rattle.wire.specs.declared.refused.Refused.{Refused}
 use Rattle.grammar.specs.declared.Cursor.{Cursor}
+use Rattle.grammar.specs.declared.Refusal.{Refusal}
 use Rattle.grammar.specs.declared.Refusal.TheVariants.{TooGreat}
 use Rattle.grammar.specs.Reader.{Read, read, refused, Reader, ◌>>=◌, ◌>>◌, return, need, place, on, coded, count_statement}
 use Rattle.openings.specs.declared.heads.Coded.{Coded}
-use Rattle.openings.specs.declared.heads.StatementHead.{StatementHead}
-use Rattle.openings.specs.declared.heads.StatementHead.TheVariants as StatementHead
-use Rattle.openings.specs.declared.heads.Ending.{Ending}
-use Rattle.openings.specs.declared.heads.Ending.TheVariants as Ending
 
 -- a statement whose code stands at p, with l levels left for it and what stands in it; it is counted
 unfoldable pub entered : ℕ → ℕ → Reader (Unit {0})
@@ -30,11 +29,7 @@ statement_coded l = do
 abbrev pub coded_at : ℕ → StatementCode → Cursor → Coded
 coded_at p k c = record { code = k; at = p; after = c }
 
-abbrev pub statement_head : ℕ → Read StatementCode → StatementHead
-statement_head p (read k c) = StatementHead.Is (coded_at p k c)
-statement_head p (refused r q) = StatementHead.Refused r q
-
--- an end, which is passed, or another code, which stays
-abbrev pub ending_of : Read ℕ → Ending
-ending_of (read x c) = cond (eqb x blr.end) (Ending.Done (on c 1)) Ending.Goes
-ending_of (refused r p) = Ending.Refused r p
+-- an end, which is passed, or none where another code stands, which stays
+abbrev pub ending_of : Read ℕ → Result (Option Cursor) (Refused Refusal)
+ending_of (read x c) = Ok (cond (eqb x blr.end) (Some (on c 1)) None)
+ending_of (refused r p) = Err (refused_at r p)

@@ -1,16 +1,15 @@
 -- What is opened: the rows of contexts, and the scope below.
-use Rattle.std.specs.Prelude.{ℕ, ◌+◌, ◌*◌, ◌<◌, ◌≤◌, ◌≡◌, List, length}
+use Rattle.std.specs.Prelude.{ℕ, ◌+◌, ◌*◌, ◌<◌, ◌≤◌, ◌≡◌, List, length, Result, Ok, Err}
 use Rattle.std.proofs.lemmas.List.Edits.{sets}
 use Rattle.wire.specs.Codes as blr
 use Rattle.wire.specs.Limits.{max_request_bytes, max_depth, max_streams, context_row_numbers}
+use Rattle.wire.specs.declared.refused.Refused.{Refused}
 use Rattle.wire.specs.declared.codes.StatementCode.{StatementCode}
 use Rattle.wire.specs.declared.codes.StatementCode.TheVariants as Code
 use Rattle.dictionary.specs.Internal.Walk.{relation_at}
 use Rattle.grammar.specs.declared.Cursor.{Cursor}
+use Rattle.grammar.specs.declared.Refusal.{Refusal}
 use Rattle.grammar.specs.declared.Refusal.TheVariants.{TooGreat}
-use Rattle.grammar.specs.declared.Fit.TheVariants as Fit
-use Rattle.grammar.specs.declared.Step.{Step}
-use Rattle.grammar.specs.declared.Step.TheVariants as Step
 use Rattle.grammar.specs.Tree.{Stream, Heading, loop, handler}
 use Rattle.grammar.specs.Environment as Grammar
 use Rattle.grammar.specs.Environment.{Environment, under_streams, under_heading}
@@ -18,14 +17,12 @@ use Rattle.grammar.specs.Sizes.{heading_contexts}
 use Rattle.grammar.specs.Rows.{stream_rows}
 use Rattle.grammar.specs.Reader.{Read, Reader, return, refuse}
 use Rattle.grammar.specs.Statements.{rse_head, modify_heading, receive_heading, send_heading, store_heading, label_heading}
-use Rattle.grammar.specs.Internal.Steps.{step_of, no_kind}
+use Rattle.grammar.specs.Internal.Steps.{cursor_of}
 use Rattle.scopes.specs.Internal.Columns.{scope_numbers}
 use Rattle.scopes.specs.declared.scope.Context.{Context}
 use Rattle.scopes.specs.Scopes.{contexts_held, sends_held, labels_held, with_context, with_target, scope_of}
 use Rattle.tables.specs.Tables.{after, open_row}
 use Rattle.tables.specs.Written.{with_context_row}
-use Rattle.openings.specs.declared.streams.StreamStep.{StreamStep}
-use Rattle.openings.specs.declared.streams.StreamStep.TheVariants as StreamStep
 use Rattle.openings.specs.Streams.{Proper, relations}
 
 -- a context's row, and the scope with it
@@ -34,10 +31,11 @@ pub record Added (d : List ℕ) (x : Context) (row place : ℕ) (ct ct' sc sc' :
   pub filled : ct' ≡ with_context_row ct row x.number.0 place (relation_at d x.relation).id x.opener
 
 -- what a store or a modify does with the context that it declares
-abbrev pub Updated : List ℕ → StreamStep → ℕ → ℕ → List ℕ → List ℕ → List ℕ → List ℕ → Step → Type 0
-Updated d (StreamStep.Is x q) row place ct ct' sc sc' r =
-    (mid : List ℕ) × Added d x row place ct ct' sc mid × (sc' ≡ with_target mid x.number.0) × (r ≡ Step.Next Fit.NoKind q)
-Updated d (StreamStep.Refused z p) row place ct ct' sc sc' r = (ct' ≡ ct) × (sc' ≡ sc) × (r ≡ Step.Refused z p)
+abbrev pub Updated : List ℕ → Result (Context × Cursor) (Refused Refusal) → ℕ → ℕ → List ℕ → List ℕ → List ℕ → List ℕ →
+    Result Cursor (Refused Refusal) → Type 0
+Updated d (Ok (x, q)) row place ct ct' sc sc' r =
+    (mid : List ℕ) × Added d x row place ct ct' sc mid × (sc' ≡ with_target mid x.number.0) × (r ≡ Ok q)
+Updated d (Err z) row place ct ct' sc sc' r = (ct' ≡ ct) × (sc' ≡ sc) × (r ≡ Err z)
 
 -- what a promise about contexts takes for granted: 01's sizes, a dictionary that was checked, a place in the request, a scope that has no
 -- more contexts than were counted, and room for one more send and label
@@ -52,8 +50,8 @@ pub record Prepared (s d sc : List ℕ) (c : Cursor) : Type 0 where
 
 -- a reading that opened contexts: the rows, the scope below, and how many contexts, sends and labels that has
 pub record Opens {A : Type 0} (x : Read A) (d ct : List ℕ) (row : ℕ) (rows : A → List ℕ) (below : A → Grammar.Scope) (opened : A → ℕ)
-    (ct' sc sc' : List ℕ) (r : Step) : Type 0 where
-  pub answer : r ≡ step_of no_kind x
+    (ct' sc sc' : List ℕ) (r : Result Cursor (Refused Refusal)) : Type 0 where
+  pub answer : r ≡ cursor_of x
   pub contexts_filled : ct' ≡ after (λ a. sets ct (row * context_row_numbers) (rows a)) ct' x
   pub scope_below : scope_of d sc' ≡ after below (scope_of d sc') x
   pub count_below : contexts_held sc' ≡ after (λ a. contexts_held sc + opened a) (contexts_held sc') x
@@ -62,19 +60,22 @@ pub record Opens {A : Type 0} (x : Read A) (d ct : List ℕ) (row : ℕ) (rows :
   pub labels_below : labels_held sc' ≤ labels_held sc + 1
 
 -- streams from a cursor on, which a code opens
-abbrev pub OpensStreams : ℕ → Read (List Stream) → List ℕ → Cursor → List ℕ → List ℕ → List ℕ → List ℕ → Step → Type 0
+abbrev pub OpensStreams : ℕ → Read (List Stream) → List ℕ → Cursor → List ℕ → List ℕ → List ℕ → List ℕ →
+    Result Cursor (Refused Refusal) → Type 0
 OpensStreams o x d c ct ct' sc sc' r =
     Opens x d ct c.contexts (λ ss. stream_rows (relations d) o ss c.at 0 0) (λ ss. under_streams (relations d) o (scope_of d sc) ss)
     length ct' sc sc' r
 
 -- the head of an rse, whose code stands at the cursor
-abbrev pub OpensHead : ℕ → Read (List Stream) → List ℕ → Cursor → List ℕ → List ℕ → List ℕ → List ℕ → Step → Type 0
+abbrev pub OpensHead : ℕ → Read (List Stream) → List ℕ → Cursor → List ℕ → List ℕ → List ℕ → List ℕ →
+    Result Cursor (Refused Refusal) → Type 0
 OpensHead o x d c ct ct' sc sc' r =
     Opens x d ct c.contexts (λ ss. stream_rows (relations d) o ss (c.at + 2) 0 0) (λ ss. under_streams (relations d) o (scope_of d sc) ss)
     length ct' sc sc' r
 
 -- a heading after the code of its statement at p
-abbrev pub OpensHeading : Read Heading → List ℕ → ℕ → Cursor → List ℕ → List ℕ → List ℕ → List ℕ → Step → Type 0
+abbrev pub OpensHeading : Read Heading → List ℕ → ℕ → Cursor → List ℕ → List ℕ → List ℕ → List ℕ →
+    Result Cursor (Refused Refusal) → Type 0
 OpensHeading x d p c ct ct' sc sc' r =
     Opens x d ct c.contexts (λ h. open_row (relations d) (scope_of d sc) h p) (λ h. under_heading (relations d) (scope_of d sc) h)
     heading_contexts ct' sc sc' r
@@ -114,7 +115,7 @@ plain_reader e sc p Code.If = refuse TooGreat p
 plain_reader e sc p Code.Select = refuse TooGreat p
 
 -- what opens a scope after the code at p: the head of a for's rse, or a heading
-pub record OpensCoded (k : StatementCode) (e : Environment) (s d : List ℕ) (p : ℕ) (c : Cursor) (ct ct' sc sc' : List ℕ) (r : Step)
-    : Type 0 where
+pub record OpensCoded (k : StatementCode) (e : Environment) (s d : List ℕ) (p : ℕ) (c : Cursor) (ct ct' sc sc' : List ℕ)
+    (r : Result Cursor (Refused Refusal)) : Type 0 where
   pub for_opens : k ≡ Code.For → OpensHead blr.for (rse_head max_streams e.relations blr.for (scope_of d sc) s c) d c ct ct' sc sc' r
   pub heading_opens : (k ≡ Code.For → ⊥) → OpensHeading (opening_reader e (scope_of d sc) p k s c) d p c ct ct' sc sc' r

@@ -1,130 +1,93 @@
 // A stream: its code, a relation by name or by id, and a context that is not in scope.
 ghost use Rattle.std.specs.Prelude.{◌≡◌};
-ghost use Rattle.wire.specs.Classes.{stream_class};
-ghost use Rattle.grammar.specs.Reader.{coded};
 ghost use Rattle.grammar.specs.Statements.{naming, stream, stream_count};
-ghost use Rattle.grammar.specs.Internal.Steps.{byte_step};
+ghost use Rattle.grammar.specs.Internal.Steps.{answer_of, same};
 ghost use Rattle.scopes.specs.Scopes.{scope_of};
 ghost use Rattle.openings.specs.Streams.{relations};
-ghost use Rattle.openings.specs.Streams.{Proper, Counted, Fresh, code_step, placed_step};
-ghost use Rattle.openings.specs.Streams.{relation_step, relation_named, stream_step, stream_under};
+ghost use Rattle.openings.specs.Streams.{Proper, Counted, Fresh, placed_step, entry_of};
+ghost use Rattle.openings.specs.Streams.{relation_named, context_in, stream_under};
 
-use classes::{StreamClass, stream_class};
-use dictionary::lookup::{Place, relation_named, relation_numbered};
+use dictionary::lookup::{relation_named, relation_numbered};
 use dictionary::names::name_at;
-use grammar::{ByteStep, ContextStep, Cursor, Fit, Refusal, Step, WordStep};
-use scopes::scope::{Context, Found, SCOPE, find};
-use steps::{count_byte, next_byte, next_context, next_word, skip_name};
+use grammar::{Cursor, Passed, Read, Refusal};
+use scopes::scope::{Context, SCOPE, find};
+use steps::{count_byte, next_code, next_number, next_word, skip_name};
 use wire::codes::StreamCode;
 use wire::limits::MAX_CONTEXTS;
-
-// The code of a stream that was read.
-#[derive(Clone, Copy)]
-pub(crate) enum CodeStep {
-    Is(StreamCode, Cursor),
-    Refused(Refusal, usize),
-}
-
-// The place of the entry of a relation, in a dictionary of at most 65,535 bytes.
-#[derive(Clone, Copy)]
-pub(crate) enum RelationStep {
-    Is(u16, Cursor),
-    Refused(Refusal, usize),
-}
-
-// A context that was declared.
-#[derive(Clone, Copy)]
-pub(crate) enum StreamStep {
-    Is(Context, Cursor),
-    Refused(Refusal, usize),
-}
-
-// The code of a stream.
-fn stream_code(request: &[u8], c: Cursor) -> CodeStep
-    ensures { result ≡ code_step (coded stream_class request.now c) }
-{
-    match next_byte(request, c) {
-        ByteStep::Is(x, next) => match stream_class(x) {
-            StreamClass::Due(k) => CodeStep::Is(k, next),
-            StreamClass::LeftOut => CodeStep::Refused(Refusal::LeftOut, c.at),
-            StreamClass::Foreign => CodeStep::Refused(Refusal::NotDue, c.at),
-        },
-        ByteStep::Refused(r, p) => CodeStep::Refused(r, p),
-    }
-}
+use wire::numbers::ContextNumber;
+use wire::refused::Refused;
 
 // The count of an rse's streams, so many at most.
-pub(crate) fn stream_count(request: &[u8], most: usize, c: Cursor) -> ByteStep
-    ensures { result ≡ byte_step (stream_count most request.now c) }
+#[tactic(auto, unfolding(grammar::specs::Statements::stream_count, grammar::specs::Reader::tested))]
+pub(crate) fn stream_count(request: &[u8], most: usize, c: Cursor) -> Read<u8>
+    ensures { result ≡ answer_of same (stream_count most request.now c) }
 {
-    match count_byte(request, c) {
-        ByteStep::Is(n, next) => if n as usize <= most {
-            ByteStep::Is(n, next)
-        } else {
-            ByteStep::Refused(Refusal::TooGreat, c.at)
-        },
-        ByteStep::Refused(r, p) => ByteStep::Refused(r, p),
+    let (n, next) = count_byte(request, c)?;
+    if most < n as usize {
+        return Err(Refused::new(Refusal::TooGreat, c.at));
     }
+    Ok((n, next))
 }
 
 // "32 context declarations": one more, whose code stands at a place.
-pub(crate) fn open_context(c: Cursor, at: usize) -> Step
+#[tactic(auto, unfolding(grammar::specs::Reader::opened))]
+pub(crate) fn open_context(c: Cursor, at: usize) -> Passed
     ensures { Counted at c result }
 {
-    if (c.contexts as usize) < MAX_CONTEXTS {
-        let mut next = c;
-        next.contexts = c.contexts + 1;
-        Step::Next(Fit::NoKind, next)
-    } else {
-        Step::Refused(Refusal::TooGreat, at)
+    if MAX_CONTEXTS <= c.contexts as usize {
+        return Err(Refused::new(Refusal::TooGreat, at));
     }
+    let mut next = c;
+    next.contexts = c.contexts + 1;
+    Ok(next)
 }
 
-// The relation that was looked up for what stands at a place.
-fn placed(found: Place, at: usize, next: Cursor) -> RelationStep
+// The relation that was looked up for what stands at a place: the place of its entry, in a dictionary of at most 65,535 bytes.
+fn placed(found: Option<usize>, at: usize, next: Cursor) -> Read<u16>
     ensures { result ≡ placed_step found at next }
 {
-    match found {
-        Place::At(q) => RelationStep::Is((q % 65536) as u16, next),
-        Place::Unknown => RelationStep::Refused(Refusal::Unknown, at),
-    }
+    let Some(q) = found else {
+        return Err(Refused::new(Refusal::Unknown, at));
+    };
+    Ok(((q % 65536) as u16, next))
 }
 
 // The relation of a stream, by its name or by its id.
-fn read_relation(request: &[u8], dictionary: &[u8], k: StreamCode, c: Cursor) -> RelationStep
-    ensures { Proper dictionary.now → result ≡ relation_step dictionary.now
+#[tactic(auto, unfolding(crate::specs::Streams::relation_named, grammar::specs::Reader::tested))]
+fn read_relation(request: &[u8], dictionary: &[u8], k: StreamCode, c: Cursor) -> Read<u16>
+    ensures { Proper dictionary.now → result ≡ answer_of (entry_of dictionary.now)
         (relation_named (relations dictionary.now) (naming k) request.now c) }
 {
     match k {
-        StreamCode::Relation => match skip_name(request, c) {
-            Step::Next(_, next) => placed(
+        StreamCode::Relation => {
+            let next = skip_name(request, c)?;
+            placed(
                 relation_named(dictionary, name_at(request, c.at)),
                 c.at,
                 next,
-            ),
-            Step::Refused(r, p) => RelationStep::Refused(r, p),
-        },
-        StreamCode::Rid => match next_word(request, c) {
-            WordStep::Is(i, next) => placed(relation_numbered(dictionary, i), c.at, next),
-            WordStep::Refused(r, p) => RelationStep::Refused(r, p),
-        },
+            )
+        }
+        StreamCode::Rid => {
+            let (i, next) = next_word(request, c)?;
+            placed(relation_numbered(dictionary, i), c.at, next)
+        }
     }
 }
 
 // The number of a context that is not in scope.
-pub(crate) fn fresh_context(request: &[u8], scope: &[u16; SCOPE], c: Cursor) -> ContextStep
+#[tactic(auto, unfolding(crate::specs::Streams::fresh_byte, grammar::specs::Reader::tested))]
+pub(crate) fn fresh_context(request: &[u8], scope: &[u16; SCOPE], c: Cursor) -> Read<ContextNumber>
     ensures { Fresh scope.now request.now c result }
 {
-    match next_context(request, c) {
-        ContextStep::Is(n, next) => match find(scope, n) {
-            Found::At(_) => ContextStep::Refused(Refusal::BadContext, c.at),
-            Found::Nothing => ContextStep::Is(n, next),
-        },
-        ContextStep::Refused(r, p) => ContextStep::Refused(r, p),
+    let (n, next) = next_number(request, c)?;
+    if find(scope, n).is_some() {
+        return Err(Refused::new(Refusal::BadContext, c.at));
     }
+    Ok((n, next))
 }
 
 // A stream after its code.
+#[tactic(auto, unfolding(crate::specs::Streams::stream_under))]
 fn stream_under(
     request: &[u8],
     dictionary: &[u8],
@@ -132,44 +95,37 @@ fn stream_under(
     opener: u8,
     k: StreamCode,
     c: Cursor,
-) -> StreamStep
-    ensures { Proper dictionary.now → result ≡ stream_step dictionary.now opener
+) -> Read<Context>
+    ensures { Proper dictionary.now → result ≡ answer_of (context_in dictionary.now opener)
         (stream_under (relations dictionary.now) (scope_of dictionary.now scope.now)
         k request.now c) }
 {
-    match read_relation(request, dictionary, k, c) {
-        RelationStep::Is(q, next) => match fresh_context(request, scope, next) {
-            ContextStep::Is(n, last) => StreamStep::Is(
-                Context {
-                    relation: q,
-                    number: n,
-                    opener: opener,
-                },
-                last,
-            ),
-            ContextStep::Refused(r, p) => StreamStep::Refused(r, p),
+    let (relation, next) = read_relation(request, dictionary, k, c)?;
+    let (number, last) = fresh_context(request, scope, next)?;
+    Ok((
+        Context {
+            relation,
+            number,
+            opener,
         },
-        RelationStep::Refused(r, p) => StreamStep::Refused(r, p),
-    }
+        last,
+    ))
 }
 
 // A stream, of an rse or of a store.
+#[tactic(auto, unfolding(grammar::specs::Statements::stream, crate::specs::Streams::stream_under, crate::specs::Streams::relation_named, crate::specs::Streams::fresh_byte))]
 pub(crate) fn read_stream(
     request: &[u8],
     dictionary: &[u8],
     scope: &[u16; SCOPE],
     opener: u8,
     c: Cursor,
-) -> StreamStep
-    ensures { Proper dictionary.now → result ≡ stream_step dictionary.now opener
+) -> Read<Context>
+    ensures { Proper dictionary.now → result ≡ answer_of (context_in dictionary.now opener)
         (stream (relations dictionary.now) (scope_of dictionary.now scope.now)
         request.now c) }
 {
-    match stream_code(request, c) {
-        CodeStep::Is(k, first) => match open_context(first, c.at) {
-            Step::Next(_, next) => stream_under(request, dictionary, scope, opener, k, next),
-            Step::Refused(r, p) => StreamStep::Refused(r, p),
-        },
-        CodeStep::Refused(r, p) => StreamStep::Refused(r, p),
-    }
+    let (k, first) = next_code::<StreamCode>(request, c)?;
+    let next = open_context(first, c.at)?;
+    stream_under(request, dictionary, scope, opener, k, next)
 }

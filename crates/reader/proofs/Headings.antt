@@ -6,17 +6,15 @@ use mathlib.Core.List.{List, [], ◌++◌}
 use native.Mathlib.Omega.{arith}
 use lib.ListN.{length, length-append}
 use lib.Seq.{sets}
-use Rattle.wire.specs.Lists.{all_of}
+use Rattle.std.specs.Prelude.{Result, Ok, Err}
 use Rattle.wire.specs.Limits.{max_statements, context_row_numbers}
+use Rattle.wire.specs.Options.{refused_at}
+use Rattle.wire.specs.declared.refused.Refused.{Refused}
 use Rattle.wire.specs.declared.codes.StatementCode.{StatementCode}
 use Rattle.wire.specs.declared.codes.StatementCode.TheVariants as Code
 use Rattle.dictionary.specs.Dictionary.{Relation}
 use Rattle.grammar.specs.declared.Cursor.{Cursor}
-use Rattle.grammar.specs.declared.Fit.{Fit}
-use Rattle.grammar.specs.declared.Fit.TheVariants as Fit
 use Rattle.grammar.specs.declared.Refusal.{Refusal}
-use Rattle.grammar.specs.declared.Step.{Step}
-use Rattle.grammar.specs.declared.Step.TheVariants as Step
 use Rattle.grammar.specs.Tree as Tree
 use Rattle.grammar.specs.Tree.{Heading, loop, handler, Statement, headed}
 use Rattle.grammar.specs.Bytes.{heading_bytes, statement_bytes}
@@ -26,9 +24,9 @@ use Rattle.grammar.specs.Rows.{size, heading_rows, rows_below, context_rows}
 use Rattle.grammar.specs.Conditions.{conditions}
 use Rattle.grammar.specs.Reader.{Read, read, refused, Reader}
 use Rattle.grammar.specs.Statements.{exchanged, receive_heading, headed_under, statement_under, read_statement}
-use Rattle.grammar.specs.Internal.Steps.{step_of, no_kind}
+use Rattle.grammar.specs.Internal.Steps.{cursor_of}
 use Rattle.grammar.specs.Demands.{Octets}
-use Rattle.grammar.proofs.StepLaws.{absurd-eq, step-read, step-refused}
+use Rattle.grammar.proofs.StepLaws.{absurd-eq, cursor-read, cursor-refused}
 use Rattle.grammar.proofs.Went.{inside, undo, same, within-one}
 use Rattle.grammar.proofs.SoundRses.{HeadingSound, plain-heading-sound, receive-heading-sound, send-heading-sound, label-heading-sound, modify-heading-sound, store-heading-sound}
 use Rattle.grammar.proofs.SoundStatements.{statement-sound}
@@ -41,11 +39,10 @@ use Rattle.openings.specs.declared.heads.Coded.{Coded}
 use Rattle.openings.specs.Streams.{relations}
 use Rattle.openings.specs.Openings.{OpensHeading, opening_reader, plain_reader}
 use Rattle.expressions.proofs.Parts.{rows-after}
-use Rattle.reader.specs.declared.statements.Headed.{Headed}
 use Rattle.reader.specs.declared.statements.Level.{Level}
 use Rattle.reader.specs.Given.{Given, Inside, Below, opens_scope, has_heading}
-use Rattle.reader.specs.Readers.{level_under, inner_at, statement_tables, StatementRead, CodedRead, OpenedRead, HeadingRead}
-use Rattle.reader.proofs.Matches.{tested}
+use Rattle.reader.specs.Readers.{Passed, level_under, inner_at, statement_tables, StatementRead, CodedRead, OpenedRead, HeadingRead}
+use Rattle.reader.proofs.Matches.{opening-has}
 use Rattle.reader.proofs.Parts.{under-stop, under-fill}
 use Rattle.reader.proofs.Ready.{fine_of, fine-went, given-at, given-opened}
 
@@ -118,9 +115,9 @@ module _ (s : List ℕ) (octets : Octets s) (e : Environment) (sc : Scope) (leve
     abbrev rows : Statement → Cursor → List ℕ
     rows t q₁ = heading_rows e.relations sc h x.at q₁.at ++ context_rows e.relations below t q.at
 
-    headed-wrote : {st ct nd ct₁ st₁ ct₂ nd₁ ct₃ : List ℕ} {r : Step} →
+    headed-wrote : {st ct nd ct₁ st₁ ct₂ nd₁ ct₃ : List ℕ} {r : Passed} →
         StatementRead level e below s q (tables st ct₁ nd) (tables st₁ ct₂ nd₁) r →
-        ((t : Statement) (q₁ : Cursor) → read_statement level.left e below s q ≡ read t q₁ → r ≡ Step.Next Fit.NoKind q₁ →
+        ((t : Statement) (q₁ : Cursor) → read_statement level.left e below s q ≡ read t q₁ → r ≡ Ok q₁ →
         ct₂ ≡ sets ct₁ (q.contexts * context_row_numbers) (context_rows e.relations below t q.at) →
         ct₃ ≡ sets ct (x.after.contexts * context_row_numbers) (rows t q₁)) →
         CodedRead level.left e sc s x (tables st ct nd) (tables st₁ ct₃ nd₁) r
@@ -129,7 +126,7 @@ module _ (s : List ℕ) (octets : Octets s) (e : Environment) (sc : Scope) (leve
         (λ t q₁ y.
         let o = k.sound h q i in
         let m = (statement-sound s octets e level.left below q t q₁ y).went in
-        let re : r ≡ Step.Next Fit.NoKind q₁ = w.answer ∙ rw y in
+        let re : r ≡ Ok q₁ = w.answer ∙ rw y in
         let te : tables st₁ ct₂ nd₁ ≡ laid (tables st ct₁ nd) q
         (statement_tables e.relations below t q.at q.statements level.parent q.conditions) =
         rw y at w.filled in
@@ -140,32 +137,32 @@ module _ (s : List ℕ) (octets : Octets s) (e : Environment) (sc : Scope) (leve
         let shut = closing t q₁ y re (ap (λ (z : Tables). z.contexts) te) in
         rw re (under-fill {a = headed h t} (k.under ∙ rw (headed_under, i, y)) refl
         (rw (ap (λ (z : Tables). z.statements) te, shut, ap (λ (z : Tables). z.conditions) te, same₁, same₂, parent, beyond, there))))
-        (λ n p y. let re : r ≡ Step.Refused n p = w.answer ∙ rw y in rw re (under-stop (k.under ∙ rw (headed_under, i, y))))
+        (λ n p y. let re : r ≡ Err (refused_at n p) = w.answer ∙ rw y in rw re (under-stop (k.under ∙ rw (headed_under, i, y))))
 
 -- one that opens no scope
 module _ (s : List ℕ) (octets : Octets s) (e : Environment) (sc : Scope) (level : Level) (x : Coded) (here : x.after.at ≡ x.at + 1)
-    (parent : level.parent ≡ x.after.statements) (has : has_heading x.code ≡ true) (none : opens_scope x.code ≡ false) {a : Step}
-    (u : a ≡ step_of no_kind (plain_reader e sc x.at x.code s x.after)) where
+    (parent : level.parent ≡ x.after.statements) (has : has_heading x.code ≡ true) (none : opens_scope x.code ≡ false) {a : Passed}
+    (u : a ≡ cursor_of (plain_reader e sc x.at x.code s x.after)) where
   no-for : x.code ≡ Code.For → ⊥
   no-for z = absurd (false≢true (sym none ∙ rw z))
 
   known : HeadingFirst s e sc level.left x
   known = headed-at s octets e sc level.left x.at x.after x.code has no-for
 
-  pub plain-stopped : {n : Refusal} {i : ℕ} {t t₁ : Tables} → a ≡ Step.Refused n i → CodedRead level.left e sc s x t t₁ a
-  plain-stopped j = rw j (under-stop (heading-refused s octets e sc level x here parent known
-      (rw none (step-refused no_kind (plain_reader e sc x.at x.code s x.after) (sym j ∙ u)))))
+  pub plain-stopped : {y : Refused Refusal} {t t₁ : Tables} → a ≡ Err y → CodedRead level.left e sc s x t t₁ (Err y)
+  plain-stopped j = under-stop (heading-refused s octets e sc level x here parent known
+      (rw none (cursor-refused (plain_reader e sc x.at x.code s x.after) (sym j ∙ u))))
 
-  module _ {f : Fit} {q : Cursor} (j : a ≡ Step.Next f q) where
+  module _ {q : Cursor} (j : a ≡ Ok q) where
     pub plain-given : {d scope : List ℕ} {l l' : ℕ} → Given s d scope x.after l → l' ≤ l → Given s d scope q l'
     plain-given g h =
-        let v = step-read no_kind (plain_reader e sc x.at x.code s x.after) (sym j ∙ u) in
+        let v = cursor-read (plain_reader e sc x.at x.code s x.after) (sym j ∙ u) in
         let o = known.sound v.0 q (rw none v.1) in
         given-at g (fine-went (fine_of g) o.went (within-one o.went o.few) (omega arith)) (omega (arith, o.went.declared)) h
 
-    pub plain-wrote : {t t₁ : Tables} {r : Step} → StatementRead level e sc s q t t₁ r → CodedRead level.left e sc s x t t₁ r
+    pub plain-wrote : {t t₁ : Tables} {r : Passed} → StatementRead level e sc s q t t₁ r → CodedRead level.left e sc s x t t₁ r
     plain-wrote {t} {t₁} {r} w =
-        let v = step-read no_kind (plain_reader e sc x.at x.code s x.after) (sym j ∙ u) in after v.0 v.1
+        let v = cursor-read (plain_reader e sc x.at x.code s x.after) (sym j ∙ u) in after v.0 v.1
       where
         after : (h : Heading) → plain_reader e sc x.at x.code s x.after ≡ read h q → CodedRead level.left e sc s x t t₁ r
         after h y =
@@ -190,75 +187,71 @@ open-row-length rs sc (Tree.send m) p = refl
 open-row-length rs sc (Tree.store r) p = refl
 open-row-length rs sc (Tree.label n) p = refl
 
-next-at : {f₁ f₂ : Fit} {q₁ q₂ : Cursor} → Step.Next f₁ q₁ ≡ Step.Next f₂ q₂ → q₁ ≡ q₂
-next-at i = cc
+-- the statement after what opens a scope
+module _ (level : Level) {e : Environment} {s d : List ℕ} {x : Coded} {t t₁ : Tables} {scope scope' : List ℕ}
+    {b : Result (Cursor × Cursor) (Refused Refusal)} (g : Below s d scope x level) (w : HeadingRead level.left e s d x t t₁ scope scope' b) where
+  pub opened-stopped : {y : Refused Refusal} {t₂ t₃ : Tables} → b ≡ Err y → CodedRead level.left e (scope_of d scope) s x t₂ t₃ (Err y)
+  opened-stopped j = under-stop (w.refuses j)
 
--- what stands before the statement was refused, or read
-module _ (l : ℕ) (e : Environment) (s d : List ℕ) (x : Coded) {t t₁ : Tables} {scope scope' : List ℕ} {b : Headed} where
-  pub headed-refused : {n : Refusal} {p : ℕ} → b.ready ≡ Step.Refused n p →
-      statement_under (inner_at l e) e (scope_of d scope) x.at x.code s x.after ≡ refused n p →
-      HeadingRead l e s d x t t₁ scope scope' b
-  headed-refused j u = record { refuses = λ k. let same' = sym j ∙ k in cc; goes = λ k. let other = sym j ∙ k in absurd-eq (cc) }
-
-  pub headed-goes : {f : Fit} {q : Cursor} → b.ready ≡ Step.Next f q →
-      OpenedRead l e s d x t t₁ scope scope' b.opened q → HeadingRead l e s d x t t₁ scope scope' b
-  headed-goes j o = record { refuses = λ k. let other = sym j ∙ k in absurd-eq (cc); goes = λ k. rw (next-at (sym j ∙ k)) at o }
-
--- the statement after it
-module _ (level : Level) {e : Environment} {s d : List ℕ} {x : Coded} {t t₁ : Tables} {scope scope' : List ℕ} {b : Headed}
-    (g : Below s d scope x level) (w : HeadingRead level.left e s d x t t₁ scope scope' b) where
-  pub opened-stopped : {n : Refusal} {p : ℕ} {t₂ t₃ : Tables} → b.ready ≡ Step.Refused n p →
-      CodedRead level.left e (scope_of d scope) s x t₂ t₃ b.ready
-  opened-stopped j = rw j (under-stop (w.refuses j))
-
-  pub opened-begins : {f : Fit} {q : Cursor} {n : Refusal} {p : ℕ} {A : Type 0} → b.ready ≡ Step.Next f q →
-      b.opened ≡ Step.Refused n p → A
-  opened-begins j k = let other = sym (w.goes j).begins ∙ k in absurd-eq (cc)
-
-  pub opened-given : {f : Fit} {q : Cursor} → b.ready ≡ Step.Next f q → Given s d scope' q level.left × (level.parent ≤ max_statements)
+  pub opened-given : {first q : Cursor} → b ≡ Ok (first, q) → Given s d scope' q level.left × (level.parent ≤ max_statements)
   opened-given j = ((w.goes j).given, omega (arith, g.parent, g.inside.given.statements_few))
 
-  pub opened-wrote : {f f₁ : Fit} {q first : Cursor} {st₁ ct₂ nd₂ ct₃ : List ℕ} {r : Step} →
-      b.ready ≡ Step.Next f q → b.opened ≡ Step.Next f₁ first →
+  pub opened-wrote : {first q : Cursor} {st₁ ct₂ nd₂ ct₃ : List ℕ} {r : Passed} → b ≡ Ok (first, q) →
       StatementRead level e (scope_of d scope') s q t₁ (tables st₁ ct₂ nd₂) r →
       ct₃ ≡ closed_after ct₂ x.after.contexts first r →
       CodedRead level.left e (scope_of d scope) s x t (tables st₁ ct₃ nd₂) r
-  opened-wrote j k v ce = (w.goes j).whole (rw g.parent at v) (ce ∙ rw (next-at (sym k ∙ (w.goes j).begins)))
+  opened-wrote j v ce = (w.goes j).whole (rw g.parent at v) ce
+
+-- what stands before it was refused, or read
+module _ (l : ℕ) (e : Environment) (s d : List ℕ) (x : Coded) {t t₁ : Tables} {scope scope' : List ℕ} where
+  pub heading-stops : {m : Refused Refusal} → statement_under (inner_at l e) e (scope_of d scope) x.at x.code s x.after ≡ refused m.refusal m.place →
+      HeadingRead l e s d x t t₁ scope scope' (Err m)
+  heading-stops {m} u = record {
+    refuses = λ {y} k. let same' : m ≡ y = cc in u ∙ ap (λ (z : Refused Refusal). refused z.refusal z.place) same';
+    goes = λ k. absurd-eq (cc);
+  }
+
+  pub heading-goes : {m n : Cursor} → OpenedRead l e s d x t t₁ scope scope' m n → HeadingRead l e s d x t t₁ scope scope' (Ok (m, n))
+  heading-goes {m} {n} o = record {
+    refuses = λ k. absurd-eq (cc);
+    goes = λ {first} {q} k.
+        let p : ◌≡◌ {A = Cursor × Cursor} (m, n) (first, q) = cc in
+        rw (ap (λ (z : Cursor × Cursor). z.0) p, ap (λ (z : Cursor × Cursor). z.1) p) at o;
+  }
 
 -- a heading
 module _ (s d scope : List ℕ) (e : Environment) (known : e.relations ≡ relations d) (l : ℕ) (x : Coded)
     (g : Inside s d scope x (l + 1)) (opens : opens_scope x.code ≡ true) (no-for : x.code ≡ Code.For → ⊥)
-    {ct ct₁ scope' : List ℕ} {a : Step}
+    {ct ct₁ scope' : List ℕ} {a : Passed}
     (w : OpensHeading (opening_reader e (scope_of d scope) x.at x.code s x.after) d x.at x.after ct ct₁ scope scope' a) where
   abbrev reading : Read Heading
   reading = opening_reader e (scope_of d scope) x.at x.code s x.after
 
   has : has_heading x.code ≡ true
-  unfolding all_of
-  has = tested opens_scope has_heading x.code refl opens
+  has = opening-has x.code opens
 
   stands : HeadingFirst s e (scope_of d scope) l x
   stands = headed-at s g.given.octets e (scope_of d scope) l x.at x.after x.code has no-for
 
-  opening-refused : {n : Refusal} {i : ℕ} → a ≡ Step.Refused n i →
-      statement_under (inner_at l e) e (scope_of d scope) x.at x.code s x.after ≡ refused n i
+  opening-refused : {y : Refused Refusal} → a ≡ Err y →
+      statement_under (inner_at l e) e (scope_of d scope) x.at x.code s x.after ≡ refused y.refusal y.place
   opening-refused j = heading-refused s g.given.octets e (scope_of d scope) (level_under x.after l) x g.here refl stands
-      (rw opens (step-refused no_kind reading (sym j ∙ w.answer)))
+      (rw opens (cursor-refused reading (sym j ∙ w.answer)))
 
-  module _ {f : Fit} {q : Cursor} (j : a ≡ Step.Next f q) where
+  module _ {q : Cursor} (j : a ≡ Ok q) where
     opening-given : Given s d scope' q l
     opening-given =
-        let v = step-read no_kind reading (sym j ∙ w.answer) in
+        let v = cursor-read reading (sym j ∙ w.answer) in
         let o = stands.sound v.0 q (rw opens v.1) in
         given-opened g.given w v.1 o.went.declared
         (fine-went (fine_of g.given) o.went (within-one o.went o.few) (omega arith)) (omega arith)
 
-    opening-wrote : {st nd st₁ ct₂ nd₁ ct₃ : List ℕ} {r : Step} →
+    opening-wrote : {st nd st₁ ct₂ nd₁ ct₃ : List ℕ} {r : Passed} →
         StatementRead (level_under x.after l) e (scope_of d scope') s q (tables st ct₁ nd) (tables st₁ ct₂ nd₁) r →
         ct₃ ≡ closed_after ct₂ x.after.contexts q r →
         CodedRead l e (scope_of d scope) s x (tables st ct nd) (tables st₁ ct₃ nd₁) r
     opening-wrote {st} {nd} {st₁} {ct₂} {nd₁} {ct₃} {r} v ce =
-        let u = step-read no_kind reading (sym j ∙ w.answer) in after u.0 u.1
+        let u = cursor-read reading (sym j ∙ w.answer) in after u.0 u.1
       where
         after : (h : Heading) → reading ≡ read h q → CodedRead l e (scope_of d scope) s x (tables st ct nd) (tables st₁ ct₃ nd₁) r
         after h y =
@@ -280,19 +273,13 @@ module _ (s d scope : List ℕ) (e : Environment) (known : e.relations ≡ relat
             let opened : ct₂ ≡ sets ct (x.after.contexts * context_row_numbers)
             (open_row e.relations (scope_of d scope) h x.at ++ rest) =
             rows-after (open_row e.relations (scope_of d scope) h x.at) rest ct (x.after.contexts * context_row_numbers) first row te in
-            ce ∙ rw (re, opened) (heading-closed ct rest x.after.contexts q q₁ Fit.NoKind (omega (arith, fine.inside, fine.short))
+            ce ∙ rw (re, opened) (heading-closed ct rest x.after.contexts q q₁ (omega (arith, fine.inside, fine.short))
             (omega (arith, inside m fine.inside, fine.short)) fine.contexts_few e.relations (scope_of d scope) h x.at there
             o.went.declared))
 
-  pub opening-read : {st nd : List ℕ} →
-      HeadingRead l e s d x (tables st ct nd) (tables st ct₁ nd) scope scope' (record { opened = a; ready = a })
-  opening-read = record {
-    refuses = λ j. opening-refused j;
-    goes = λ {f} {q} j. record {
-      fit = f;
-      first = q;
-      begins = j;
-      given = opening-given j;
-      whole = λ v ce. opening-wrote j v ce;
-    };
-  }
+  pub opening-stopped : {y : Refused Refusal} {t t₁ : Tables} → a ≡ Err y → HeadingRead l e s d x t t₁ scope scope' (Err y)
+  opening-stopped j = heading-stops l e s d x (opening-refused j)
+
+  pub opening-read : {st nd : List ℕ} {q : Cursor} → a ≡ Ok q →
+      HeadingRead l e s d x (tables st ct nd) (tables st ct₁ nd) scope scope' (Ok (q, q))
+  opening-read j = heading-goes l e s d x (record { given = opening-given j; whole = λ v ce. opening-wrote j v ce })

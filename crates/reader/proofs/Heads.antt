@@ -8,10 +8,13 @@ use native.Mathlib.Omega.{arith}
 use lib.Dec.{ltb, leb, eqb}
 use lib.ListN.{length}
 use borrow.Author.Tests.{lt-ltb, ltb-true}
+use Rattle.std.specs.Prelude.{Option as Maybe, Some, None, Result, Ok, Err}
 use Rattle.wire.specs.Codes as blr
 use Rattle.wire.specs.Words.{byte_at}
+use Rattle.wire.specs.Options.{refused_at}
 use Rattle.wire.specs.Classes.{statement_class}
 use Rattle.wire.specs.declared.codes.StatementCode.{StatementCode}
+use Rattle.wire.specs.declared.refused.Refused.{Refused}
 use Rattle.grammar.specs.declared.Cursor.{Cursor}
 use Rattle.grammar.specs.declared.Refusal.{Refusal}
 use Rattle.grammar.specs.Environment.{Environment, Scope}
@@ -21,32 +24,13 @@ use Rattle.grammar.proofs.StepLaws.{absurd-eq, taken-cut, peek-here, peek-past}
 use Rattle.grammar.proofs.Went.{Went, Within, never, undo, same, needed, taken-read, coded-read, peek-read, byte-went}
 use Rattle.grammar.proofs.Codes.{statement_code, statement-due}
 use Rattle.grammar.proofs.SoundStatements.{counted-code}
-use Rattle.tables.proofs.Chains.{by_read}
+use Rattle.tables.specs.Tables.{result_of}
+use Rattle.tables.proofs.Chains.{by_read, result-read, result-refused}
 use Rattle.openings.specs.declared.heads.Coded.{Coded}
-use Rattle.openings.specs.declared.heads.StatementHead.{StatementHead}
-use Rattle.openings.specs.declared.heads.StatementHead.TheVariants as StatementHead
-use Rattle.openings.specs.declared.heads.Ending.{Ending}
-use Rattle.openings.specs.declared.heads.Ending.TheVariants as Ending
-use Rattle.openings.specs.Heads.{statement_coded, statement_head, ending_of}
+use Rattle.openings.specs.Heads.{statement_coded, coded_at, ending_of}
 use Rattle.reader.specs.Readers.{inner_at}
 
 -- ---- the code of a statement
-
-abbrev code_back : StatementHead → Read StatementCode
-code_back (StatementHead.Is x) = read x.code x.after
-code_back (StatementHead.Refused n p) = refused n p
-
-code-back : (p : ℕ) (x : Read StatementCode) → x ≡ code_back (statement_head p x)
-code-back p (read k q) = refl
-code-back p (refused n i) = refl
-
-abbrev place_back : ℕ → StatementHead → ℕ
-place_back p (StatementHead.Is x) = x.at
-place_back p (StatementHead.Refused n i) = p
-
-place-back : (p : ℕ) (x : Read StatementCode) → p ≡ place_back p (statement_head p x)
-place-back p (read k q) = refl
-place-back p (refused n i) = refl
 
 -- the way to a statement's code, which is counted
 pub record Entered (s : List ℕ) (c : Cursor) (l : ℕ) (x : Coded) : Type 0 where
@@ -57,15 +41,16 @@ pub record Entered (s : List ℕ) (c : Cursor) (l : ℕ) (x : Coded) : Type 0 wh
   pub within : Within c x.after
   pub deep : 0 < l
 
-module _ (s : List ℕ) (c : Cursor) (l : ℕ) {h : StatementHead} (u : h ≡ statement_head c.at (statement_coded l s c)) where
-  pub code-refused : {n : Refusal} {p : ℕ} → h ≡ StatementHead.Refused n p → statement_coded l s c ≡ refused n p
-  code-refused i = code-back c.at (statement_coded l s c) ∙ ap code_back (sym u ∙ i)
+module _ (s : List ℕ) (c : Cursor) (l : ℕ) {h : Result Coded (Refused Refusal)}
+    (u : h ≡ result_of (coded_at c.at) (statement_coded l s c)) where
+  pub code-refused : {y : Refused Refusal} → h ≡ Err y → statement_coded l s c ≡ refused y.refusal y.place
+  code-refused i = result-refused (coded_at c.at) (statement_coded l s c) (sym i ∙ u)
 
-  pub entered : {x : Coded} → h ≡ StatementHead.Is x → Entered s c l x
+  pub entered : {x : Coded} → h ≡ Ok x → Entered s c l x
   unfolding statement_coded
   entered {x} i =
-      let e : statement_coded l s c ≡ read x.code x.after = code-back c.at (statement_coded l s c) ∙ ap code_back (sym u ∙ i) in
-      let at = place-back c.at (statement_coded l s c) ∙ ap (place_back c.at) (sym u ∙ i) in
+      let m = result-read (coded_at c.at) (statement_coded l s c) (sym i ∙ u) in
+      let e : statement_coded l s c ≡ read x.code x.after = rw m.3 m.2 in
       undo (coded statement_class s c) _ e (λ k q e₁ w. needed (ltb 0 l) _ _ _ _ _ w (λ t w₁.
       undo (count_statement c.at s q) _ w₁ (λ v q₁ e₂ w₂.
       let o = coded-read s c statement_class e₁ in
@@ -76,7 +61,7 @@ module _ (s : List ℕ) (c : Cursor) (l : ℕ) {h : StatementHead} (u : h ≡ st
       let qe : q₁ ≡ x.after = same w₂ (λ a q. q₁ ≡ q) refl in
       record {
         is = e;
-        place = sym at;
+        place = ap (λ (z : Coded). z.at) m.3;
         first = sym b.1 ∙ d ∙ ap statement_code ke;
         went = rw (d, ke, qe) at g.0;
         within = rw qe at g.1;
@@ -105,10 +90,10 @@ module _ (s : List ℕ) (e : Environment) (sc : Scope) (c : Cursor) where
 
 -- ---- an end, or more
 
-module _ (s : List ℕ) (c : Cursor) {h : Ending} (u : h ≡ ending_of (peek s c)) where
-  by-ending : {G : Type 0} → ((y : ℕ) → peek s c ≡ read y c → eqb y blr.end ≡ true → h ≡ Ending.Done (on c 1) → G) →
-      ((y : ℕ) → peek s c ≡ read y c → eqb y blr.end ≡ false → h ≡ Ending.Goes → G) →
-      ((n : Refusal) (p : ℕ) → peek s c ≡ refused n p → h ≡ Ending.Refused n p → G) → G
+module _ (s : List ℕ) (c : Cursor) {h : Result (Maybe Cursor) (Refused Refusal)} (u : h ≡ ending_of (peek s c)) where
+  by-ending : {G : Type 0} → ((y : ℕ) → peek s c ≡ read y c → eqb y blr.end ≡ true → h ≡ Ok (Some (on c 1)) → G) →
+      ((y : ℕ) → peek s c ≡ read y c → eqb y blr.end ≡ false → h ≡ Ok None → G) →
+      ((n : Refusal) (p : ℕ) → peek s c ≡ refused n p → h ≡ Err (refused_at n p) → G) → G
   by-ending {G} f g k = by_read (peek s c) (λ y d e. at y (e ∙ ap (read y) (peek-read s c e).0) (eqb y blr.end) refl)
       (λ n p e. k n p e (u ∙ rw e))
     where
@@ -123,7 +108,7 @@ module _ (s : List ℕ) (c : Cursor) {h : Ending} (u : h ≡ ending_of (peek s c
     pub is-end : eqb code blr.end ≡ true
     pub after : byte s c ≡ read code q
 
-  pub ended : {q : Cursor} → h ≡ Ending.Done q → Ended q
+  pub ended : {q : Cursor} → h ≡ Ok (Some q) → Ended q
   ended {q} i = by-ending
       (λ y e t k.
       let z : on c 1 ≡ q = cc in
@@ -136,12 +121,12 @@ module _ (s : List ℕ) (c : Cursor) {h : Ending} (u : h ≡ ending_of (peek s c
     pub seen : peek s c ≡ read code c
     pub no_end : eqb code blr.end ≡ false
 
-  pub going : h ≡ Ending.Goes → Going
+  pub going : h ≡ Ok None → Going
   going i = by-ending (λ y e t k. absurd-eq (cc)) (λ y e t k. record { code = y; seen = e; no_end = t }) (λ n p e k. absurd-eq (cc))
 
-  pub cut : {n : Refusal} {p : ℕ} → h ≡ Ending.Refused n p → peek s c ≡ refused n p
-  cut {n} {p} i = by-ending (λ y e t k. absurd-eq (cc)) (λ y e t k. absurd-eq (cc)) (λ m o e k.
-      let z : ◌≡◌ {A = Read ℕ} (refused m o) (refused n p) = cc in e ∙ z)
+  pub cut : {y : Refused Refusal} → h ≡ Err y → peek s c ≡ refused y.refusal y.place
+  cut {y} i = by-ending (λ y e t k. absurd-eq (cc)) (λ y e t k. absurd-eq (cc)) (λ m o e k.
+      let z : refused_at m o ≡ y = cc in e ∙ ap (λ (z : Refused Refusal). refused z.refusal z.place) z)
 
 pub byte_cut : (s : List ℕ) (c : Cursor) {r : Refusal} {p : ℕ} → peek s c ≡ refused r p → byte s c ≡ refused r p
 byte_cut s c {r} {p} e = go (leb (c.at + 1) (length s)) refl

@@ -7,30 +7,21 @@ use lib.ListN.{length, length-append}
 use lib.Seq.{sets}
 use Rattle.wire.specs.Limits.{max_request_bytes, max_statements, statement_row_numbers, context_row_numbers}
 use Rattle.wire.specs.Internal.Columns.{statement_boolean}
+use Rattle.std.specs.Prelude.{Option, Some, Result, Ok, Err}
+use Rattle.wire.specs.declared.refused.Refused.{Refused}
 use Rattle.grammar.specs.declared.Cursor.{Cursor}
-use Rattle.grammar.specs.declared.Fit.{Fit}
-use Rattle.grammar.specs.declared.Fit.TheVariants as Fit
 use Rattle.grammar.specs.declared.Refusal.{Refusal}
-use Rattle.grammar.specs.declared.Step.{Step}
-use Rattle.grammar.specs.declared.Step.TheVariants as Step
 use Rattle.grammar.specs.Tree.{Statement}
 use Rattle.grammar.specs.Sizes.{own_conditions}
 use Rattle.grammar.specs.Rows.{boolean_number}
 use Rattle.grammar.specs.Reader.{Read, read, refused, on_read, with_conditions}
-use Rattle.grammar.specs.Internal.Steps.{no_kind}
 use Rattle.grammar.proofs.Went.{Went}
-use Rattle.tables.specs.Tables.{Tables, tables, contexts_alone, nothing, joined, laid, Wrote}
-use Rattle.tables.specs.Written.{listed, numbered, with_place, with_number}
+use Rattle.tables.specs.Tables.{Tables, tables, contexts_alone, nothing, joined, laid, cursor_after, Wrote}
+use Rattle.tables.specs.Written.{listed, listed_number, numbered, with_place, with_number}
 use Rattle.tables.proofs.Laid.{Follows, laid-laid}
 use Rattle.tables.proofs.Rows.{numbered_is, place-noted, number-noted}
 use Rattle.tables.proofs.Chains.{by_read, stop, fill, on-next, stopped}
-use Rattle.reader.specs.Readers.{Under}
-
--- tables of the same lengths
-pub record SameLengths (t t' : Tables) : Type 0 where
-  pub statements : length t'.statements ≡ length t.statements
-  pub contexts : length t'.contexts ≡ length t.contexts
-  pub conditions : length t'.conditions ≡ length t.conditions
+use Rattle.reader.specs.Readers.{Passed, Under}
 
 -- rows laid from one cursor on, up to another
 pub record Reached (c q : Cursor) (rows t t' : Tables) : Type 0 where
@@ -54,28 +45,32 @@ reached-on {c} {q} {q₁} {a} {b} {t} i j = record {
 pub reached-as : {c q : Cursor} {a b t t' : Tables} → a ≡ b → Reached c q a t t' → Reached c q b t t'
 reached-as e i = rw e at i
 
+-- what was passed, and what was written
+pub on-passed : {A : Type 0} {x : Read A} {c q : Cursor} {rows : A → Tables} {t t' : Tables} {r : Passed} {G : Type 0} →
+    Wrote x cursor_after c rows t t' r → r ≡ Ok q → ((a : A) → x ≡ read a q → t' ≡ laid t c (rows a) → G) → G
+on-passed {x} w e g = on-next w e (λ a q₁ i j h. g a (rw (← j) at i) h)
+
 -- a part that was read from a cursor on, and its rows
-pub record Part {A : Type 0} (x : Read A) (k : A → Fit) (rows : A → Tables) (c : Cursor) (t t' : Tables) (f : Fit) (q : Cursor) : Type 0 where
+pub record Part {A : Type 0} (x : Read A) (rows : A → Tables) (c : Cursor) (t t' : Tables) (q : Cursor) : Type 0 where
   pub part : A
   pub is : x ≡ read part q
-  pub fit : f ≡ k part
   pub reached : Reached c q (rows part) t t'
 
-pub part-read : {A : Type 0} {x : Read A} {k : A → Fit} {rows : A → Tables} {c q : Cursor} {t t' : Tables} {r : Step} {f : Fit} →
-    ((a : A) → x ≡ read a q → Follows c (rows a) q) → Wrote x k c rows t t' r → r ≡ Step.Next f q → Part x k rows c t t' f q
+pub part-read : {A : Type 0} {x : Read A} {rows : A → Tables} {c q : Cursor} {t t' : Tables} {r : Passed} →
+    ((a : A) → x ≡ read a q → Follows c (rows a) q) → Wrote x cursor_after c rows t t' r → r ≡ Ok q → Part x rows c t t' q
 part-read follows w e =
-    on-next w e (λ a i j h. record { part = a; is = i; fit = j; reached = record { filled = h; follows = follows a i } })
+    on-passed w e (λ a i h. record { part = a; is = i; reached = record { filled = h; follows = follows a i } })
 
 -- a part that was refused: the whole is
-pub stops : {A C : Type 0} {x : Read A} {y : Read C} {k : A → Fit} {k' : C → Fit} {c c' : Cursor} {rows : A → Tables} {rows' : C → Tables}
-    {t t₁ t₂ t₃ : Tables} {r : Step} {n : Refusal} {i : ℕ} → Wrote x k c rows t t₁ r → r ≡ Step.Refused n i →
-    (x ≡ refused n i → y ≡ refused n i) → Wrote y k' c' rows' t₂ t₃ r
-stops w e f = rw e (stop (f (stopped w e)))
+pub stops : {A C R R' : Type 0} {x : Read A} {y : Read C} {k : A → Cursor → R} {k' : C → Cursor → R'} {c c' : Cursor} {rows : A → Tables}
+    {rows' : C → Tables} {t t₁ t₂ t₃ : Tables} {r : Result R (Refused Refusal)} {n : Refused Refusal} → Wrote x k c rows t t₁ r → r ≡ Err n →
+    (x ≡ refused n.refusal n.place → y ≡ refused n.refusal n.place) → Wrote y k' c' rows' t₂ t₃ (Err n)
+stops w e f = stop (f (stopped w e))
 
 -- the whole is made of the last part, read or refused
-pub made_of : {A C : Type 0} {x : Read A} {one : A → Tables} {rows : C → Tables} {c q : Cursor} {before t t₁ t₂ : Tables} {r : Step}
+pub made_of : {A C : Type 0} {x : Read A} {one : A → Tables} {rows : C → Tables} {c q : Cursor} {before t t₁ t₂ : Tables} {r : Passed}
     (made : A → C) → Reached c q before t t₁ → ((a : A) (q₁ : Cursor) → x ≡ read a q₁ → joined before (one a) ≡ rows (made a)) →
-    Wrote x no_kind q one t₁ t₂ r → Wrote (on_read x (λ a q₁. read (made a) q₁)) no_kind c rows t t₂ r
+    Wrote x cursor_after q one t₁ t₂ r → Wrote (on_read x (λ a q₁. read (made a) q₁)) cursor_after c rows t t₂ r
 made_of {x} {one} {c} {q} {before} {t} made i both w = by_read x
     (λ a q₁ e. record {
       answer = w.answer ∙ rw e;
@@ -87,7 +82,8 @@ made_of {x} {one} {c} {q} {before} {t} made i both w = by_read x
 -- ---- rows of contexts alone
 
 -- a reading that wrote rows of contexts, beside the other tables
-pub beside : {A : Type 0} {x : Read A} {k : A → Fit} {c : Cursor} {rows : A → List ℕ} {ct ct' : List ℕ} {r : Step} (st nd : List ℕ) →
+pub beside : {A R : Type 0} {x : Read A} {k : A → Cursor → R} {c : Cursor} {rows : A → List ℕ} {ct ct' : List ℕ}
+    {r : Result R (Refused Refusal)} (st nd : List ℕ) →
     Wrote x k c (λ a. contexts_alone (rows a)) (contexts_alone ct) (contexts_alone ct') r →
     Wrote x k c (λ a. contexts_alone (rows a)) (tables st ct nd) (tables st ct' nd) r
 beside {x} st nd w = by_read x
@@ -104,17 +100,17 @@ pub record Noted {A : Type 0} (x : Read A) (bytes : A → List ℕ) (contexts pl
   pub place : q.at ≡ c.at + length (bytes part)
   pub counted : q.statements ≡ c.statements
   pub own : t.statements ≡ sets st ((c.statements - 1) * statement_row_numbers + statement_boolean)
-      (listed (boolean_number (length (places part)) c.conditions))
+      (listed_number (boolean_number (length (places part)) c.conditions))
   pub reached : Reached c q (tables [] (contexts part) (places part)) t t'
 
 -- a place, or none, is noted after a part
-pub noted-part : {A : Type 0} {x : Read A} {bytes contexts places : A → List ℕ} {s : List ℕ} {c q q₁ : Cursor} {st st₁ ct nd ct₁ nd₁ : List ℕ} {r : Step}
-    {f : Fit} (many : A → ℕ) (p : ℕ) → ((a : A) → x ≡ read a q → Went s c (bytes a) 0 (many a) 0 q) → ((a : A) → length (contexts a) ≡ many a * context_row_numbers) →
+pub noted-part : {A : Type 0} {x : Read A} {bytes contexts places : A → List ℕ} {s : List ℕ} {c q q₁ : Cursor} {st st₁ ct nd ct₁ nd₁ : List ℕ}
+    (many : A → ℕ) (p : Option ℕ) → ((a : A) → x ≡ read a q → Went s c (bytes a) 0 (many a) 0 q) → ((a : A) → length (contexts a) ≡ many a * context_row_numbers) →
     ((a : A) → x ≡ read a q → listed p ≡ places a) →
-    Wrote x no_kind c (λ a. contexts_alone (contexts a)) (contexts_alone ct) (contexts_alone ct₁) r → r ≡ Step.Next f q →
-    c.statements ≤ max_statements → c.conditions < c.statements → p ≤ max_request_bytes → q₁ ≡ numbered q p → nd₁ ≡ with_place nd q p →
+    (a : A) → x ≡ read a q → contexts_alone ct₁ ≡ laid (contexts_alone ct) c (contexts_alone (contexts a)) →
+    c.statements ≤ max_statements → c.conditions < c.statements → ((n : ℕ) → p ≡ Some n → n ≤ max_request_bytes) → q₁ ≡ numbered q p → nd₁ ≡ with_place nd q p →
     st₁ ≡ with_number st (c.statements - 1) q p → Noted x bytes contexts places c st (tables st₁ ct nd) (tables st₁ ct₁ nd₁) q₁
-noted-part {places} {c} {q} {q₁} {st} {ct} {nd} {ct₁} {nd₁} many p went counted listing w e rows few short i j m = on-next w e (λ a h k o.
+noted-part {places} {c} {q} {q₁} {st} {ct} {nd} {ct₁} {nd₁} many p went counted listing a h o rows few short i j m =
     let g = went a h in
     let same : q.conditions ≡ c.conditions = omega (arith, g.noted) in
     let small : q.conditions ≤ max_statements = omega (arith, same) in
@@ -136,21 +132,17 @@ noted-part {places} {c} {q} {q₁} {st} {ct} {nd} {ct₁} {nd₁} many p went co
           conditions = rw number (omega (arith, same));
         };
       };
-    })
+    }
 
 -- ---- a statement under its code
 
 module _ {x : Read Statement} {c : Cursor} {rows : Statement → Tables} {t t' : Tables} where
   -- it was refused
-  pub under-stop : {n : Refusal} {p : ℕ} → x ≡ refused n p → Under x c rows t t' (Step.Refused n p)
+  pub under-stop : {y : Refused Refusal} → x ≡ refused y.refusal y.place → Under x c rows t t' (Err y)
   under-stop e = record { numbered = t.statements; number = rw e; wrote = stop e }
 
-  pub under-stopped : {t₀ : Tables} {r : Step} {n : Refusal} {p : ℕ} → Wrote x no_kind c rows t₀ t' r → r ≡ Step.Refused n p →
-      Under x c rows t t' r
-  under-stopped w e = rw e (under-stop (stopped w e))
-
   -- it has no boolean of its own
-  pub unnumbered : {r : Step} → ((a : Statement) (q : Cursor) → x ≡ read a q → own_conditions a ≡ 0) → Wrote x no_kind c rows t t' r →
+  pub unnumbered : {r : Passed} → ((a : Statement) (q : Cursor) → x ≡ read a q → own_conditions a ≡ 0) → Wrote x cursor_after c rows t t' r →
       Under x c rows t t' r
   unnumbered h w = record {
     numbered = t.statements;
@@ -159,5 +151,5 @@ module _ {x : Read Statement} {c : Cursor} {rows : Statement → Tables} {t t' :
   }
 
   pub under-fill : {a : Statement} {q : Cursor} → x ≡ read a q → own_conditions a ≡ 0 → t' ≡ laid t c (rows a) →
-      Under x c rows t t' (Step.Next Fit.NoKind q)
+      Under x c rows t t' (Ok q)
   under-fill e h g = record { numbered = t.statements; number = rw (e, h); wrote = fill e refl g }

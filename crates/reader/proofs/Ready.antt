@@ -4,38 +4,35 @@ use mathlib.Core.Path.{◌≡◌, refl, sym, ap, ◌∙◌}
 use mathlib.Core.List.{List}
 use native.Mathlib.Omega.{arith}
 use lib.ListN.{length}
+use Rattle.std.specs.Prelude.{Option, Some, None, Result, Ok, Err}
 use Rattle.wire.specs.Limits.{max_statements, max_contexts}
+use Rattle.wire.specs.declared.refused.Refused.{Refused}
 use Rattle.grammar.specs.declared.Cursor.{Cursor}
-use Rattle.grammar.specs.declared.Fit.{Fit}
-use Rattle.grammar.specs.declared.Step.{Step}
-use Rattle.grammar.specs.declared.Step.TheVariants as Step
+use Rattle.grammar.specs.declared.Refusal.{Refusal}
 use Rattle.grammar.specs.Environment.{Environment, Scope}
 use Rattle.grammar.specs.Reader.{Read, read}
 use Rattle.grammar.specs.Values.{read_boolean}
 use Rattle.grammar.specs.Statements.{read_statement}
-use Rattle.grammar.specs.Internal.Steps.{no_kind}
-use Rattle.grammar.proofs.StepLaws.{step-read}
 use Rattle.grammar.proofs.Went.{Went, Within, inside, within-one}
 use Rattle.grammar.proofs.FewConditions.{conditions_few}
 use Rattle.grammar.proofs.SoundValues.{boolean-sound}
 use Rattle.grammar.proofs.SoundStatements.{statement-sound}
 use Rattle.scopes.specs.Scopes.{contexts_held}
-use Rattle.tables.specs.Tables.{Tables}
+use Rattle.tables.specs.Tables.{Tables, result_of}
 use Rattle.tables.specs.Written.{listed, numbered}
 use Rattle.tables.proofs.Rows.{numbered_is}
+use Rattle.tables.proofs.Chains.{on-next}
 use Rattle.openings.specs.declared.heads.Coded.{Coded}
-use Rattle.openings.specs.declared.heads.StatementHead.{StatementHead}
-use Rattle.openings.specs.declared.heads.StatementHead.TheVariants as StatementHead
-use Rattle.openings.specs.Heads.{statement_coded, statement_head}
+use Rattle.openings.specs.Heads.{statement_coded, coded_at}
 use Rattle.openings.specs.Openings.{Prepared, Opens}
-use Rattle.expressions.specs.declared.clauses.Clauses.{Clauses}
-use Rattle.expressions.specs.Promises.{Ready, BooleanRead, ClausesRead}
+use Rattle.expressions.specs.Promises.{Ready, BooleanRead, ClausesRead, PlaceAnswer}
 use Rattle.expressions.proofs.ClauseLaws.{reads_clauses, reads-sound}
 use Rattle.expressions.proofs.ReadyLaws.{ready-prepared}
 use Rattle.reader.specs.declared.statements.Level.{Level}
 use Rattle.reader.specs.Given.{Given, Inside, Below}
-use Rattle.reader.specs.Readers.{level_below, StatementRead}
+use Rattle.reader.specs.Readers.{Passed, level_below, StatementRead}
 use Rattle.reader.proofs.Heads.{entered}
+use Rattle.reader.proofs.Parts.{on-passed}
 
 -- a cursor within 01's sizes
 pub record Fine (s : List ℕ) (c : Cursor) : Type 0 where
@@ -54,7 +51,7 @@ fine-went f w h few = record {
 }
 
 -- one condition more, in a statement that has none yet
-pub fine-noted : {s : List ℕ} {c q : Cursor} (p : ℕ) → Fine s c → c.conditions < c.statements → q ≡ numbered c p → Fine s q
+pub fine-noted : {s : List ℕ} {c q : Cursor} (p : Option ℕ) → Fine s c → c.conditions < c.statements → q ≡ numbered c p → Fine s q
 fine-noted {s} {c} {q} p f h e = rw (e ∙ numbered_is c (omega (arith, f.statements_few)) p) (record {
   inside = f.inside;
   statements_few = f.statements_few;
@@ -62,9 +59,9 @@ fine-noted {s} {c} {q} p f h e = rw (e ∙ numbered_is c (omega (arith, f.statem
   conditions_few = omega (arith, one-listed p);
 })
   where
-    one-listed : (p : ℕ) → length (listed p) ≤ 1
-    one-listed zero = omega arith
-    one-listed (suc p) = omega arith
+    one-listed : (p : Option ℕ) → length (listed p) ≤ 1
+    one-listed None = omega arith
+    one-listed (Some p) = omega arith
 
 module _ {s d sc : List ℕ} {c : Cursor} {l : ℕ} (g : Given s d sc c l) where
   pub fine_of : Fine s c
@@ -112,7 +109,7 @@ module _ {s d sc : List ℕ} {c : Cursor} {l : ℕ} (g : Given s d sc c l) where
 
   -- under a scope that was opened
   pub given-opened : {A : Type 0} {x : Read A} {ct ct' sc' : List ℕ} {row : ℕ} {rows : A → List ℕ} {below : A → Scope} {opened : A → ℕ}
-      {r : Step} {a : A} {q : Cursor} {l' : ℕ} → Opens x d ct row rows below opened ct' sc sc' r → x ≡ read a q →
+      {r : Passed} {a : A} {q : Cursor} {l' : ℕ} → Opens x d ct row rows below opened ct' sc sc' r → x ≡ read a q →
       q.contexts ≡ c.contexts + opened a → Fine s q → suc l' ≤ l → Given s d sc' q l'
   given-opened {sc'} {opened} {a} w e more f h =
       let held : contexts_held sc' ≡ contexts_held sc + opened a = rw e at w.count_below in
@@ -133,8 +130,8 @@ module _ {s d sc : List ℕ} {c : Cursor} {l : ℕ} (g : Given s d sc c l) where
 -- ---- under a code
 
 -- the code of a statement was read
-pub coded-inside : {s d sc : List ℕ} {c : Cursor} {l : ℕ} {h : StatementHead} {x : Coded} → Given s d sc c l →
-    h ≡ statement_head c.at (statement_coded l s c) → h ≡ StatementHead.Is x → Inside s d sc x l
+pub coded-inside : {s d sc : List ℕ} {c : Cursor} {l : ℕ} {h : Result Coded (Refused Refusal)} {x : Coded} → Given s d sc c l →
+    h ≡ result_of (coded_at c.at) (statement_coded l s c) → h ≡ Ok x → Inside s d sc x l
 coded-inside {s} {c} {l} g u i =
     let o = entered s c l u i in
     record {
@@ -160,7 +157,7 @@ module _ (level : Level) {s d sc : List ℕ} {x : Coded} {inner : Level} (i : In
 -- ---- after a part
 
 -- a part with conditions, which get their numbers after it
-pub noted-given : {s d sc bs : List ℕ} {c q q₁ : Cursor} {l n : ℕ} (p : ℕ) → Given s d sc c l → c.conditions < c.statements →
+pub noted-given : {s d sc bs : List ℕ} {c q q₁ : Cursor} {l n : ℕ} (p : Option ℕ) → Given s d sc c l → c.conditions < c.statements →
     Went s c bs 0 n 0 q → (c.contexts ≤ max_contexts → q.contexts ≤ max_contexts) → q₁ ≡ numbered q p → Given s d sc q₁ l
 noted-given {q} {q₁} p g h w few e =
     let fine = fine-went (fine_of g) w (within-one w few) (omega arith) in
@@ -169,24 +166,24 @@ noted-given {q} {q₁} p g h w few e =
     given-at g (fine-noted p fine (omega (arith, w.counted, w.noted)) e) (omega (arith, w.declared)) (omega arith)
 
 module _ {s d sc : List ℕ} {c : Cursor} {l : ℕ} (g : Given s d sc c l) (e : Environment) (sc' : Scope) where
-  pub statement-given : (level : Level) {t t' : Tables} {r : Step} {f : Fit} {q : Cursor} → StatementRead level e sc' s c t t' r →
-      r ≡ Step.Next f q → Given s d sc q l
-  statement-given level {q} w i =
-      let u = step-read no_kind (read_statement level.left e sc' s c) (sym i ∙ w.answer) in
-      let o = statement-sound s g.octets e level.left sc' c u.0 q u.1 in
-      given-at g (fine-went (fine_of g) o.went o.within (conditions_few e sc' u.0 c.at o.allowed))
-      (omega (arith, o.went.declared)) (omega arith)
+  pub statement-given : (level : Level) {t t' : Tables} {r : Passed} {q : Cursor} → StatementRead level e sc' s c t t' r →
+      r ≡ Ok q → Given s d sc q l
+  statement-given level {q} w i = on-passed w i (λ a y h.
+      let o = statement-sound s g.octets e level.left sc' c a q y in
+      given-at g (fine-went (fine_of g) o.went o.within (conditions_few e sc' a c.at o.allowed))
+      (omega (arith, o.went.declared)) (omega arith))
 
-  pub boolean-given : (l' : ℕ) {ct ct₁ : List ℕ} {r : Step} {f : Fit} {q q₁ : Cursor} → c.conditions < c.statements →
-      BooleanRead l' e sc' s c ct ct₁ r → r ≡ Step.Next f q → q₁ ≡ numbered q c.at → Given s d sc q₁ l
-  boolean-given l' {q} h w i =
-      let u = step-read no_kind (read_boolean l' e sc' s c) (sym i ∙ w.answer) in
-      let o = boolean-sound s g.octets e sc' l' c u.0 q u.1 in
-      noted-given c.at g h o.went o.few
+  pub boolean-given : (l' : ℕ) {ct ct₁ : List ℕ} {r : Passed} {q q₁ : Cursor} → c.conditions < c.statements →
+      BooleanRead l' e sc' s c ct ct₁ r → r ≡ Ok q → q₁ ≡ numbered q (Some c.at) → Given s d sc q₁ l
+  boolean-given l' {q} h w i m = on-passed w i (λ a y f.
+      let o = boolean-sound s g.octets e sc' l' c a q y in
+      noted-given (Some c.at) g h o.went o.few m)
 
-  pub clauses-given : (l' : ℕ) {ct ct₁ : List ℕ} {a : Clauses} {f : Fit} {q q₁ : Cursor} → c.conditions < c.statements →
-      ClausesRead l' e sc' s c ct ct₁ a → a.step ≡ Step.Next f q → q₁ ≡ numbered q a.such → Given s d sc q₁ l
-  clauses-given l' {a} {q} h w i =
-      let u = step-read no_kind (reads_clauses s e sc' l' c) (sym i ∙ w.wrote.answer) in
-      let o = reads-sound s g.octets e sc' l' c u.0 q u.1 in
-      noted-given a.such g h o.went o.few
+  pub clauses-given : (l' : ℕ) {ct ct₁ : List ℕ} {a : PlaceAnswer} {place : Option ℕ} {q q₁ : Cursor} → c.conditions < c.statements →
+      ClausesRead l' e sc' s c ct ct₁ a → a ≡ Ok (place, q) → q₁ ≡ numbered q place → Given s d sc q₁ l
+  clauses-given l' {a} {place} {q} h w i m =
+      on-next w.wrote i (λ cs q' y k f.
+      let same : q' ≡ q = sym (ap (λ z. z.1) k) in
+      let y' : reads_clauses s e sc' l' c ≡ read cs q = rw same at y in
+      let o = reads-sound s g.octets e sc' l' c cs q y' in
+      noted-given place g h o.went o.few m)

@@ -9,20 +9,17 @@ use lib.Dec.{ltb, eqb}
 use lib.ListN.{length, get_or, set, replicate, length-set, length-replicate, length-map}
 use lib.Seq.{sets, get_or-set_same, get_or-set_other}
 use borrow.Author.Tests.{lt-ltb, ltb-true, eqb-true, eq-eqb}
+use Rattle.std.specs.Prelude.{Option, Some, None, Result, Ok, Err}
 use Rattle.wire.specs.Codes as blr
 use Rattle.wire.specs.Limits.{max_statements}
 use Rattle.wire.specs.Lists.{among, any_of}
 use Rattle.wire.specs.Words.{byte_at}
+use Rattle.wire.specs.Options.{refused_at}
 use Rattle.wire.specs.declared.numbers.MessageNumber.{MessageNumber}
+use Rattle.wire.specs.declared.refused.Refused.{Refused}
 use Rattle.grammar.specs.declared.Cursor.{Cursor}
-use Rattle.grammar.specs.declared.Fit.{Fit}
-use Rattle.grammar.specs.declared.Fit.TheVariants as Fit
-use Rattle.grammar.specs.declared.MessageStep.{MessageStep}
-use Rattle.grammar.specs.declared.MessageStep.TheVariants as MessageStep
 use Rattle.grammar.specs.declared.Refusal.{Refusal}
 use Rattle.grammar.specs.declared.Refusal.TheVariants.{NotDue, TooGreat, BadMessage, Misplaced}
-use Rattle.grammar.specs.declared.Step.{Step}
-use Rattle.grammar.specs.declared.Step.TheVariants as Step
 use Rattle.grammar.specs.Tree.{Statement, Receives, last, more}
 use Rattle.grammar.specs.Environment.{Environment, Scope}
 use Rattle.grammar.specs.Scope.{declared, updating}
@@ -32,9 +29,8 @@ use Rattle.grammar.specs.Rows.{size, statement_rows, receives_rows, receives_con
 use Rattle.grammar.specs.Conditions.{conditions, receives_conditions}
 use Rattle.grammar.specs.Reader.{Read, read, refused, on_read, Reader, byte, peek, code, count_statement, with_statement}
 use Rattle.grammar.specs.Statements.{many_receives, receive_under, read_statement, read_receive}
-use Rattle.grammar.specs.Internal.Steps.{message_step}
 use Rattle.grammar.specs.Demands.{Octets}
-use Rattle.grammar.proofs.StepLaws.{message-read, message-refused}
+use Rattle.grammar.proofs.StepLaws.{message-read, answer-refused}
 use Rattle.grammar.proofs.RowCounts.{statement-rows, context_rows_lem}
 use Rattle.grammar.proofs.FewConditions.{conditions-count}
 use Rattle.grammar.proofs.Went.{Went, inside, taken-read, onward, undo, needed, tested-read, byte-went, code-went, counted-went}
@@ -44,14 +40,13 @@ use Rattle.tables.specs.Written.{with_boolean, finished}
 use Rattle.tables.proofs.Laid.{row-whole}
 use Rattle.tables.proofs.Rows.{boolean-row, finished-next}
 use Rattle.tables.proofs.Chains.{by_read, stop, fill, likewise}
-use Rattle.openings.specs.declared.heads.Ending.{Ending}
-use Rattle.openings.specs.declared.heads.Ending.TheVariants as Ending
 use Rattle.openings.specs.Heads.{ending_of}
+use Rattle.openings.specs.Headings.{message_number, message_answer}
 use Rattle.openings.specs.Selected.{Holds, selected_byte, receive_coded}
 use Rattle.reader.specs.declared.statements.Level.{Level}
 use Rattle.reader.specs.Given.{Given}
-use Rattle.reader.specs.Readers.{level_below, StatementRead, receives_tables, ReceivesRead, SelectRead}
-use Rattle.reader.proofs.Parts.{SameLengths, Reached, stops, made_of}
+use Rattle.reader.specs.Readers.{Passed, level_below, StatementRead, receives_tables, ReceivesRead, SelectRead}
+use Rattle.reader.proofs.Parts.{Reached, stops, made_of}
 use Rattle.reader.proofs.Heads.{ended, going, cut}
 use Rattle.reader.proofs.Ready.{fine_of, given-at, statement-given}
 use Rattle.reader.proofs.StatementLaws.{StatementPart, statement-part}
@@ -196,14 +191,14 @@ received l e sc before s c h = undo (code blr.receive NotDue s c) _ h (λ x q₁
 
 -- ---- one receive of a select
 
-module _ (s : List ℕ) (e : Environment) (sc : Scope) (level : Level) (ms : List ℕ) (c : Cursor) {o : MessageStep}
-    (u : o ≡ message_step (receive_coded level.left e sc ms s c)) where
-  pub receive-refused : {n : ℕ} {r : Refusal} {p : ℕ} {t t' : Tables} → 0 < n → o ≡ MessageStep.Refused r p →
-      ReceivesRead n ms level e sc s c t t' (Step.Refused r p)
+module _ (s : List ℕ) (e : Environment) (sc : Scope) (level : Level) (ms : List ℕ) (c : Cursor) {o : Result (MessageNumber × Cursor) (Refused Refusal)}
+    (u : o ≡ message_answer (receive_coded level.left e sc ms s c)) where
+  pub receive-refused : {n : ℕ} {y : Refused Refusal} {t t' : Tables} → 0 < n → o ≡ Err y →
+      ReceivesRead n ms level e sc s c t t' (Err y)
   receive-refused {n} some i = stop (receives-coded e sc ms s c level.left n some ∙
-      rw (message-refused (receive_coded level.left e sc ms s c) (sym i ∙ u)))
+      rw (answer-refused message_number (receive_coded level.left e sc ms s c) (sym i ∙ u)))
 
-  module _ {m : MessageNumber} {q : Cursor} (i : o ≡ MessageStep.Is m q) where
+  module _ {m : MessageNumber} {q : Cursor} (i : o ≡ Ok (m, q)) where
     coded-is : receive_coded level.left e sc ms s c ≡ read m.0 q
     coded-is = message-read (receive_coded level.left e sc ms s c) (sym i ∙ u)
 
@@ -227,21 +222,21 @@ module _ (s : List ℕ) (e : Environment) (sc : Scope) (level : Level) (ms : Lis
         (read_statement (level.left - 1) e sc) ms m s q))
         coded-is
 
-    module _ {inner : Level} (ie : inner ≡ level_below q level) {st ct nd st₁ ct₁ nd₁ : List ℕ} {a : Step}
+    module _ {inner : Level} (ie : inner ≡ level_below q level) {st ct nd st₁ ct₁ nd₁ : List ℕ} {a : Passed}
         (w : StatementRead inner e sc s q (tables st ct nd) (tables st₁ ct₁ nd₁) a) where
       under : StatementRead (level_below q level) e sc s q (tables st ct nd) (tables st₁ ct₁ nd₁) a
       under = rw ie at w
 
-      pub receive-stopped : {n : ℕ} {r : Refusal} {p : ℕ} {t t' : Tables} → 0 < n → a ≡ Step.Refused r p →
-          ReceivesRead n ms level e sc s c t t' a
+      pub receive-stopped : {n : ℕ} {y : Refused Refusal} {t t' : Tables} → 0 < n → a ≡ Err y →
+          ReceivesRead n ms level e sc s c t t' (Err y)
       unfolding receive_rest
       receive-stopped some j = stops under j (λ y. whole some ∙ rw (receive_rest, y))
 
-      pub receive-body : Octets s → {f : Fit} {q₁ : Cursor} → a ≡ Step.Next f q₁ →
-          StatementPart s e sc (level_below q level) q (tables st ct nd) (tables st₁ ct₁ nd₁) f q₁
+      pub receive-body : Octets s → {q₁ : Cursor} → a ≡ Ok q₁ →
+          StatementPart s e sc (level_below q level) q (tables st ct nd) (tables st₁ ct₁ nd₁) q₁
       receive-body octets j = statement-part s e sc (level_below q level) q octets under j
 
-      pub after-given : {d scope : List ℕ} → Given s d scope c level.left → {f : Fit} {q₁ : Cursor} → a ≡ Step.Next f q₁ →
+      pub after-given : {d scope : List ℕ} → Given s d scope c level.left → {q₁ : Cursor} → a ≡ Ok q₁ →
           Given s d scope q₁ level.left
       after-given g {q₁} j =
           let v = receive-body g.octets j in
@@ -249,16 +244,16 @@ module _ (s : List ℕ) (e : Environment) (sc : Scope) (level : Level) (ms : Lis
           given-at g (fine_of (statement-given (receive-given g) e sc (level_below q level) under j))
           (omega (arith, receive-way.went.declared, o.declared)) (omega arith)
 
-    module _ (octets : Octets s) {f : Fit} {q₁ : Cursor} {st ct nd st₁ ct₁ nd₁ : List ℕ}
-        (v : StatementPart s e sc (level_below q level) q (tables st ct nd) (tables st₁ ct₁ nd₁) f q₁) where
+    module _ (octets : Octets s) {q₁ : Cursor} {st ct nd st₁ ct₁ nd₁ : List ℕ}
+        (v : StatementPart s e sc (level_below q level) q (tables st ct nd) (tables st₁ ct₁ nd₁) q₁) where
       body-went : Went s q (statement_bytes v.part) (statement_count v.part) (context_count v.part)
           (length (conditions e.relations sc v.part q.at)) q₁
       body-went = (statement-sound s octets e (level.left - 1) sc q v.part q₁ v.is).went
 
       -- its row stands above those of its statement
-      pub receive-reached : {d scope : List ℕ} {a : Step} {st₀ st₂ : List ℕ} → Given s d scope c level.left → Given s d scope q₁
+      pub receive-reached : {d scope : List ℕ} {a : Passed} {st₀ st₂ : List ℕ} → Given s d scope c level.left → Given s d scope q₁
           level.left →
-          level.parent ≤ max_statements → st ≡ with_boolean st₀ c.statements 0 → a ≡ Step.Next f q₁ →
+          level.parent ≤ max_statements → st ≡ with_boolean st₀ c.statements 0 → a ≡ Ok q₁ →
           st₂ ≡ finished s st₁ c level.parent a →
           Reached c q₁ (receives_tables e sc level.parent c (last m.0 v.part)) (tables st₀ ct nd) (tables st₂ ct₁ nd₁)
       unfolding receives_rows receives_context_rows receives_conditions
@@ -274,7 +269,7 @@ module _ (s : List ℕ) (e : Environment) (sc : Scope) (level : Level) (ms : Lis
           let none : st ≡ set st₀ (c.statements * 5 + 4) 0 = ze ∙ boolean-row st₀ c.statements 0 g.statements_few (omega arith) in
           let row : st₂ ≡ sets st₀ (c.statements * 5)
           (receives_rows (last m.0 v.part) c.at c.statements level.parent c.conditions) =
-          se ∙ rw j (finished-next s st₁ c level.parent f q₁ g.statements_few (omega (arith, g.inside, g.short)) few
+          se ∙ rw j (finished-next s st₁ c level.parent q₁ g.statements_few (omega (arith, g.inside, g.short)) few
           (omega (arith, g₁.inside, g.short)))
           ∙ ap (λ z. sets z (c.statements * 5) (c.at ∷ byte_at s c.at ∷ level.parent ∷ q₁.at ∷ []))
           (ap (λ (z : Tables). z.statements) te ∙
@@ -305,19 +300,18 @@ module _ (s : List ℕ) (e : Environment) (sc : Scope) (level : Level) (ms : Lis
 
       module _ {t t₂ : Tables} (reached : Reached c q₁ (receives_tables e sc level.parent c (last m.0 v.part)) t t₂) {n : ℕ}
           (some : 0 < n)
-          {h : Ending} (z : h ≡ ending_of (peek s q₁)) where
-        pub receives-cut : {r : Refusal} {p : ℕ} {t' : Tables} → h ≡ Ending.Refused r p → ReceivesRead n ms level e sc s c t t'
-            (Step.Refused r p)
+          {h : Result (Option Cursor) (Refused Refusal)} (z : h ≡ ending_of (peek s q₁)) where
+        pub receives-cut : {y : Refused Refusal} {t' : Tables} → h ≡ Err y → ReceivesRead n ms level e sc s c t t' (Err y)
         unfolding receive_rest
         receives-cut k = stop (whole some ∙ rw (receive_rest, v.is, cut s q₁ z k))
 
-        pub receives-done : {q₂ : Cursor} → h ≡ Ending.Done q₂ → ReceivesRead n ms level e sc s c t t₂ (Step.Next Fit.NoKind q₂)
+        pub receives-done : {q₂ : Cursor} → h ≡ Ok (Some q₂) → ReceivesRead n ms level e sc s c t t₂ (Ok q₂)
         unfolding receive_rest
         receives-done k =
             let y = ended s q₁ z k in
             fill {a = last m.0 v.part} (whole some ∙ rw (receive_rest, v.is, y.seen, y.is-end, y.after)) refl reached.filled
 
-        pub receives-goes : {t' : Tables} {r : Step} → h ≡ Ending.Goes → ReceivesRead (n - 1) (ms ++ (m.0 ∷ [])) level e sc s q₁ t₂ t' r →
+        pub receives-goes : {t' : Tables} {r : Passed} → h ≡ Ok None → ReceivesRead (n - 1) (ms ++ (m.0 ∷ [])) level e sc s q₁ t₂ t' r →
             ReceivesRead n ms level e sc s c t t' r
         unfolding receive_rest receives_rows receives_context_rows receives_conditions
         receives-goes k w₂ =
@@ -332,7 +326,7 @@ module _ (s : List ℕ) (e : Environment) (sc : Scope) (level : Level) (ms : Lis
 
 -- no receive is left
 pub receives-full : (s : List ℕ) (e : Environment) (sc : Scope) (level : Level) (n : ℕ) (ms : List ℕ) (c : Cursor) {t t' : Tables} → n ≡ 0 →
-    ReceivesRead n ms level e sc s c t t' (Step.Refused TooGreat c.at)
+    ReceivesRead n ms level e sc s c t t' (Err (refused_at TooGreat c.at))
 unfolding many_receives
 receives-full s e sc level n ms c z = stop (rw (z, many_receives))
 
@@ -344,40 +338,38 @@ receives-start g = record {
   before = [];
   holds = none_seen;
   given = g;
-  same = record { statements = refl; contexts = refl; conditions = refl };
   rest = λ w. w;
 }
 
 module _ {s d scope : List ℕ} {e : Environment} {sc : Scope} {level : Level} {c : Cursor} {t : Tables} {left : ℕ} {seen : List Bool} {at : Cursor}
     {st ct nd : List ℕ} (inv : ReceivesFrom s d scope e sc level c t left seen at (tables st ct nd)) where
-  pub turns-over : left ≡ 0 → {t' : Tables} → SelectRead level e sc s c t t' (Step.Refused TooGreat at.at)
+  pub turns-over : left ≡ 0 → {t' : Tables} → SelectRead level e sc s c t t' (Err (refused_at TooGreat at.at))
   turns-over none = inv.rest (receives-full s e sc level left inv.before at none)
 
-  module _ {o : MessageStep} (u : (ms : List ℕ) → Holds seen ms → o ≡ message_step (receive_coded level.left e sc ms s at)) where
-    abbrev told : o ≡ message_step (receive_coded level.left e sc inv.before s at)
+  module _ {o : Result (MessageNumber × Cursor) (Refused Refusal)} (u : (ms : List ℕ) → Holds seen ms → o ≡ message_answer (receive_coded level.left e sc ms s at)) where
+    abbrev told : o ≡ message_answer (receive_coded level.left e sc inv.before s at)
     told = u inv.before inv.holds
 
-    pub turn-refused : 0 < left → {r : Refusal} {p : ℕ} {t' : Tables} → o ≡ MessageStep.Refused r p → SelectRead level e sc s c t t'
-        (Step.Refused r p)
+    pub turn-refused : 0 < left → {y : Refused Refusal} {t' : Tables} → o ≡ Err y → SelectRead level e sc s c t t' (Err y)
     turn-refused some i = inv.rest (receive-refused s e sc level inv.before at told some i)
 
-    module _ {m : MessageNumber} {q : Cursor} (i : o ≡ MessageStep.Is m q) where
+    module _ {m : MessageNumber} {q : Cursor} (i : o ≡ Ok (m, q)) where
       pub turn-way : Received s at level.left m.0 q
       turn-way = receive-way s e sc level inv.before at told i
 
       pub turn-given : Given s d scope q (level.left - 1)
       turn-given = receive-given s e sc level inv.before at told i inv.given
 
-      module _ (some : 0 < left) {inner : Level} (ie : inner ≡ level_below q level) {st₁ ct₁ nd₁ : List ℕ} {a : Step}
+      module _ (some : 0 < left) {inner : Level} (ie : inner ≡ level_below q level) {st₁ ct₁ nd₁ : List ℕ} {a : Passed}
           {st₀ : List ℕ} (ze : st₀ ≡ with_boolean st at.statements 0)
           (w : StatementRead inner e sc s q (tables st₀ ct nd) (tables st₁ ct₁ nd₁) a) where
-        pub turn_stopped : {r : Refusal} {p : ℕ} {t' : Tables} → a ≡ Step.Refused r p → SelectRead level e sc s c t t' a
+        pub turn_stopped : {y : Refused Refusal} {t' : Tables} → a ≡ Err y → SelectRead level e sc s c t t' (Err y)
         turn_stopped j = inv.rest (receive-stopped s e sc level inv.before at told i ie w some j)
 
         module _ {st₂ : List ℕ} (few : level.parent ≤ max_statements)
-            (se : st₂ ≡ finished s st₁ at level.parent a) {f : Fit} {q₁ : Cursor}
-            (j : a ≡ Step.Next f q₁) {h : Ending} (z : h ≡ ending_of (peek s q₁)) where
-          abbrev body : StatementPart s e sc (level_below q level) q (tables st₀ ct nd) (tables st₁ ct₁ nd₁) f q₁
+            (se : st₂ ≡ finished s st₁ at level.parent a) {q₁ : Cursor}
+            (j : a ≡ Ok q₁) {h : Result (Option Cursor) (Refused Refusal)} (z : h ≡ ending_of (peek s q₁)) where
+          abbrev body : StatementPart s e sc (level_below q level) q (tables st₀ ct nd) (tables st₁ ct₁ nd₁) q₁
           body = receive-body s e sc level inv.before at told i ie w inv.given.octets j
 
           next-given : Given s d scope q₁ level.left
@@ -386,18 +378,17 @@ module _ {s d scope : List ℕ} {e : Environment} {sc : Scope} {level : Level} {
           reached : Reached at q₁ (receives_tables e sc level.parent at (last m.0 body.part)) (tables st ct nd) (tables st₂ ct₁ nd₁)
           reached = receive-reached s e sc level inv.before at told i inv.given.octets body inv.given next-given few ze j se
 
-          pub turn-cut : {r : Refusal} {p : ℕ} {t' : Tables} → h ≡ Ending.Refused r p → SelectRead level e sc s c t t' (Step.Refused r p)
+          pub turn-cut : {y : Refused Refusal} {t' : Tables} → h ≡ Err y → SelectRead level e sc s c t t' (Err y)
           turn-cut k = inv.rest (receives-cut s e sc level inv.before at told i inv.given.octets body reached some z k)
 
-          pub turn-done : {q₂ : Cursor} → h ≡ Ending.Done q₂ → SelectRead level e sc s c t (tables st₂ ct₁ nd₁) (Step.Next Fit.NoKind q₂)
+          pub turn-done : {q₂ : Cursor} → h ≡ Ok (Some q₂) → SelectRead level e sc s c t (tables st₂ ct₁ nd₁) (Ok q₂)
           turn-done k = inv.rest (receives-done s e sc level inv.before at told i inv.given.octets body reached some z k)
 
-          pub turn-goes : SameLengths t (tables st₂ ct₁ nd₁) → m.0 < 256 → h ≡ Ending.Goes →
+          pub turn-goes : m.0 < 256 → h ≡ Ok None →
               ReceivesFrom s d scope e sc level c t (left - 1) (set seen m.0 true) q₁ (tables st₂ ct₁ nd₁)
-          turn-goes same small k = record {
+          turn-goes small k = record {
             before = inv.before ++ (m.0 ∷ []);
             holds = one_seen m.0 inv.holds small;
             given = next-given;
-            same = same;
             rest = λ w₂. inv.rest (receives-goes s e sc level inv.before at told i inv.given.octets body reached some z k w₂);
           }

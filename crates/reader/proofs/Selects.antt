@@ -6,7 +6,6 @@ use mathlib.Core.List.{List, []}
 use Rattle.wire.specs.Limits.{max_statements}
 use Rattle.wire.specs.declared.codes.StatementCode.TheVariants as Code
 use Rattle.grammar.specs.declared.Cursor.{Cursor}
-use Rattle.grammar.specs.declared.Step.{Step}
 use Rattle.grammar.specs.Tree.{select}
 use Rattle.grammar.specs.Environment.{Environment, Scope}
 use Rattle.grammar.specs.Sizes.{own_conditions}
@@ -19,8 +18,8 @@ use Rattle.openings.specs.declared.heads.Coded.{Coded}
 use Rattle.openings.specs.Selected.{Holds}
 use Rattle.reader.specs.declared.statements.Level.{Level}
 use Rattle.reader.specs.Given.{Given}
-use Rattle.reader.specs.Readers.{CodedRead, ReceivesRead, SelectRead}
-use Rattle.reader.proofs.Parts.{SameLengths, at-start, made_of, unnumbered}
+use Rattle.reader.specs.Readers.{Passed, CodedRead, ReceivesRead, SelectRead}
+use Rattle.reader.proofs.Parts.{at-start, made_of, unnumbered}
 
 -- how far the loop has come: so many may follow, beside the messages of those before, and with them the whole is read
 pub record ReceivesFrom (s d scope : List ℕ) (e : Environment) (sc : Scope) (level : Level) (c : Cursor) (t : Tables) (left : ℕ) (seen : List Bool)
@@ -28,10 +27,9 @@ pub record ReceivesFrom (s d scope : List ℕ) (e : Environment) (sc : Scope) (l
   pub before : List ℕ
   pub holds : Holds seen before
   pub given : Given s d scope at level.left
-  pub same : SameLengths t t₁
-  pub rest : {t' : Tables} {r : Step} → ReceivesRead left before level e sc s at t₁ t' r → SelectRead level e sc s c t t' r
+  pub rest : {t' : Tables} {r : Passed} → ReceivesRead left before level e sc s at t₁ t' r → SelectRead level e sc s c t t' r
 
-pub select-coded : (s : List ℕ) (e : Environment) (sc : Scope) (level : Level) (x : Coded) {t t₁ : Tables} {r : Step} → x.code ≡ Code.Select →
+pub select-coded : (s : List ℕ) (e : Environment) (sc : Scope) (level : Level) (x : Coded) {t t₁ : Tables} {r : Passed} → x.code ≡ Code.Select →
     x.after.at ≡ x.at + 1 → level.parent ≡ x.after.statements → SelectRead level e sc s x.after t t₁ r →
     CodedRead level.left e sc s x t t₁ r
 unfolding statement_under select_under rows_below context_rows conditions own_conditions

@@ -4,19 +4,17 @@ use mathlib.Core.Path.{◌≡◌, refl, sym, ap, subst, ◌∙◌}
 use mathlib.Core.List.{List, [], ◌∷◌}
 use native.Mathlib.Omega.{arith}
 use lib.ListN.{length, length-append}
+use Rattle.std.specs.Prelude.{Result, Ok, Err}
 use Rattle.wire.specs.Codes as blr
 use Rattle.wire.specs.Limits.{max_request_bytes, max_messages, max_depth}
 use Rattle.wire.specs.Words.{byte_at}
 use Rattle.wire.specs.Versions.{is_version, version_of}
 use Rattle.wire.specs.declared.codes.Version.{Version}
+use Rattle.wire.specs.declared.refused.Refused.{Refused}
 use Rattle.dictionary.specs.Dictionary.{Relation}
 use Rattle.grammar.specs.declared.Cursor.{Cursor}
 use Rattle.grammar.specs.declared.Refusal.{Refusal}
 use Rattle.grammar.specs.declared.Refusal.TheVariants.{BadVersion, NotDue}
-use Rattle.grammar.specs.declared.Fit.{Fit}
-use Rattle.grammar.specs.declared.Fit.TheVariants as Fit
-use Rattle.grammar.specs.declared.Step.{Step}
-use Rattle.grammar.specs.declared.Step.TheVariants as Step
 use Rattle.grammar.specs.Tree.{Message, Statements, Request}
 use Rattle.grammar.specs.Bytes.{messages_bytes, statements_bytes}
 use Rattle.grammar.specs.Environment.{Environment, outermost}
@@ -25,8 +23,8 @@ use Rattle.grammar.specs.Conditions.{request_conditions}
 use Rattle.grammar.specs.Reader.{Read, read, refused, on_read, byte, tested, code, count_statement}
 use Rattle.grammar.specs.Messages.{messages}
 use Rattle.grammar.specs.Reading.{outer_statements, nothing_more, version, request, start}
-use Rattle.grammar.specs.Internal.Steps.{step_of, no_kind}
-use Rattle.grammar.proofs.StepLaws.{step-read, step-refused}
+use Rattle.grammar.specs.Internal.Steps.{cursor_of}
+use Rattle.grammar.proofs.StepLaws.{cursor-read, cursor-refused}
 use Rattle.grammar.proofs.Went.{Went, inside, undo, same, taken-read, tested-read, code-went, counted-went}
 use Rattle.grammar.proofs.SoundMessages.{messages-sound}
 use Rattle.grammar.proofs.Sound.{version-went, outer-sound}
@@ -35,22 +33,22 @@ use Rattle.scopes.proofs.Scopes.{zeros, nothing-held, no_contexts, no-sends, no-
 use Rattle.messages.specs.Entries.{rows_held}
 use Rattle.messages.specs.Declaring.{Declares}
 use Rattle.references.specs.Promises.{environment_of}
-use Rattle.tables.specs.Tables.{Tables, tables, laid, Wrote}
+use Rattle.tables.specs.Tables.{Tables, tables, laid, cursor_after, Wrote}
 use Rattle.tables.proofs.Laid.{row-whole}
-use Rattle.tables.specs.Written.{with_boolean}
+use Rattle.tables.specs.Written.{with_boolean, with_statement_row}
 use Rattle.tables.proofs.Rows.{statement-row, boolean-row}
-use Rattle.tables.proofs.Chains.{by_read}
+use Rattle.tables.proofs.Chains.{by_read, stopped}
 use Rattle.openings.specs.Streams.{relations}
-use Rattle.reader.specs.declared.request.Whole.{Whole}
 use Rattle.reader.specs.declared.statements.Level.{Level}
 use Rattle.reader.specs.Given.{Given}
-use Rattle.reader.specs.Readers.{StatementsRead, statements_tables}
-use Rattle.reader.specs.Request.{Requested, request_tables, over, on_step, outer_row, head_of, body_of, end_of, Beside, Begun}
+use Rattle.reader.specs.Readers.{Passed, StatementsRead, statements_tables}
+use Rattle.reader.proofs.Parts.{on-passed}
+use Rattle.reader.specs.Request.{Requested, request_tables, over, head_of, body_of, end_of, Beside, Begun}
 
 -- a refusal leaves the tables free
-pub whole-refused : {x : Read Request} {d pt pt' : List ℕ} {t t' : Tables} {r : Whole} (n : Refusal) (p : ℕ) → x ≡ refused n p →
-    r.step ≡ Step.Refused n p → Requested x d pt pt' t t' r
-whole-refused n p e u = record { answer_is = rw (e, u); rows_are = rw e; parameters_filled = rw e; filled = rw e }
+pub whole-refused : {x : Read Request} {d pt pt' : List ℕ} {t t' : Tables} {y : Refused Refusal} → x ≡ refused y.refusal y.place →
+    Requested x d pt pt' t t' (Err y)
+whole-refused e = record { answer_is = rw e; parameters_filled = rw e; filled = rw e }
 
 -- ---- after the messages
 
@@ -96,7 +94,7 @@ module _ (v : Version) (s d pt : List ℕ) (c : Cursor) (begun : Begun s d pt c)
       -- the rows of the statements, then that of the outer begin
       rows_whole : (st st₀ ct nd : List ℕ) (t₁ : Tables) → st₀ ≡ with_boolean st 0 0 →
           t₁ ≡ laid (tables st₀ ct nd) c₁ (statements_tables (around ms) outermost 1 c₁ ss) →
-          tables (outer_row t₁.statements (Step.Next Fit.NoKind c₂)) t₁.contexts t₁.conditions ≡
+          tables (with_statement_row t₁.statements 0 1 blr.begin 0 c₂.at) t₁.contexts t₁.conditions ≡
           over (tables st ct nd) (request_tables d whole)
       unfolding request_statement_rows request_context_rows request_conditions
       rows_whole st st₀ ct nd t₁ h₀ h =
@@ -120,16 +118,15 @@ module _ (v : Version) (s d pt : List ℕ) (c : Cursor) (begun : Begun s d pt c)
 
   -- ---- the whole, from the answers of the parts
 
-  module _ (pt₁ a : List ℕ) (m : Step) (h : Declares v declared pt pt₁ a m) where
+  module _ (pt₁ a : List ℕ) {m : Passed} (h : Declares v declared pt pt₁ a m) where
     -- the messages were refused
-    pub undeclared : {n : Refusal} {p : ℕ} → m ≡ Step.Refused n p → (t : Tables) →
-        Requested (body_of v (relations d) s c) d pt pt₁ t t (record { step = m; parameters = 0 })
+    pub undeclared : {y : Refused Refusal} {t t' : Tables} → m ≡ Err y → Requested (body_of v (relations d) s c) d pt pt₁ t t' (Err y)
     unfolding body_of
-    undeclared {n} {p} e t = let u = step-refused no_kind declared (sym e ∙ h.answer) in whole-refused n p (rw (body_of, u)) e
+    undeclared e = let u = cursor-refused declared (sym e ∙ h.answer) in whole-refused (rw (body_of, u))
 
-    module _ (f : Fit) (c₁ : Cursor) (e : m ≡ Step.Next f c₁) where
-      was_read : (ms : List Message) × (declared ≡ read ms c₁) × (f ≡ no_kind ms)
-      was_read = step-read no_kind declared (sym e ∙ h.answer)
+    module _ {c₁ : Cursor} (e : m ≡ Ok c₁) where
+      was_read : (ms : List Message) × (declared ≡ read ms c₁)
+      was_read = cursor-read declared (sym e ∙ h.answer)
 
       -- what the reader of the statements is given
       pub given-after : Given s d zeros c₁ outer.left
@@ -149,43 +146,44 @@ module _ (v : Version) (s d pt : List ℕ) (c : Cursor) (begun : Begun s d pt c)
             labels_fit = omega (arith, no-labels);
           }
 
-      module _ (st st₀ ct nd : List ℕ) (t₁ : Tables) (r : Step) (h₀ : st₀ ≡ with_boolean st 0 0)
+      module _ (st st₀ ct nd : List ℕ) (t₁ : Tables) {r : Passed} (h₀ : st₀ ≡ with_boolean st 0 0)
           (w : StatementsRead outer (environment_of d a) (scope_of d zeros) s c₁ (tables st₀ ct nd) t₁ r) where
-        abbrev Goal : Type 0
-        Goal =
-            Requested (body_of v (relations d) s c) d pt pt₁ (tables st ct nd)
-            (tables (outer_row t₁.statements r) t₁.contexts t₁.conditions)
-            (record { step = on_step r (λ f q. step_of no_kind (end_of s q)); parameters = rows_held a })
+        abbrev Told : Tables → Result (ℕ × Cursor) (Refused Refusal) → Type 0
+        Told t' r = Requested (body_of v (relations d) s c) d pt pt₁ (tables st ct nd) t' r
 
         -- the statements were read beside the messages
-        by-messages : (ms : List Message) → declared ≡ read ms c₁ → Goal
-        unfolding body_of environment_of outer_statements
-        by-messages ms i =
-            let known : Wrote (outer_statements v (relations d) ms s c₁) no_kind c₁ (statements_tables (around ms) outermost 1 c₁)
-            (tables st₀ ct nd) t₁ r =
-            rw (rw i at h.held, h.version, nothing-held d) at w in
-            by_read (outer_statements v (relations d) ms s c₁)
-            (λ ss c₂ j.
-            let u : r ≡ Step.Next Fit.NoKind c₂ = rw j at known.answer in
-            let f₂ = rw j at known.filled in
-            by_read (end_of s c₂)
-            (λ x c₃ k.
-            let b : body_of v (relations d) s c ≡ read (record { version = v; messages = ms; statements = ss }) c₃ = rw (body_of, i, j, k) in
-            record {
-              answer_is = rw (b, u, k);
-              rows_are = rw (b, rw i at h.rows);
-              parameters_filled = rw (b, rw i at h.filled);
-              filled = rw (b, u) (rows_whole ms c₁ i ss c₂ j st st₀ ct nd t₁ h₀ f₂);
-            })
-            (λ n p k. whole-refused n p (rw (body_of, i, j, k)) (rw (u, k))))
-            (λ n p j. let u : r ≡ Step.Refused n p = rw j at known.answer in whole-refused n p (rw (body_of, i, j)) (rw u))
+        known : (ms : List Message) → declared ≡ read ms c₁ →
+            Wrote (outer_statements v (relations d) ms s c₁) cursor_after c₁ (statements_tables (around ms) outermost 1 c₁) (tables st₀ ct nd) t₁ r
+        unfolding environment_of outer_statements
+        known ms i = rw (rw i at h.held, h.version, nothing-held d) at w
 
-        pub whole-body : Goal
-        whole-body = by-messages was_read.0 was_read.1
+        pub unended : {y : Refused Refusal} {t' : Tables} → r ≡ Err y → Told t' (Err y)
+        unfolding body_of
+        unended j = whole-refused (rw (body_of, was_read.1, stopped (known was_read.0 was_read.1) j))
+
+        module _ {c₂ : Cursor} (j : r ≡ Ok c₂) {z : Passed} (k : z ≡ cursor_of (end_of s c₂)) where
+          pub not-ended : {y : Refused Refusal} {t' : Tables} → z ≡ Err y → Told t' (Err y)
+          unfolding body_of
+          not-ended o = on-passed (known was_read.0 was_read.1) j (λ ss i f.
+              whole-refused (rw (body_of, was_read.1, i, cursor-refused (end_of s c₂) (sym o ∙ k))))
+
+          pub whole-body : {c₃ : Cursor} {st₂ : List ℕ} → z ≡ Ok c₃ → st₂ ≡ with_statement_row t₁.statements 0 1 blr.begin 0 c₂.at →
+              Told (tables st₂ t₁.contexts t₁.conditions) (Ok (rows_held a, c₃))
+          unfolding body_of
+          whole-body {c₃} {st₂} o row = on-passed (known was_read.0 was_read.1) j (λ ss i f.
+              let ms = was_read.0 in
+              let n : declared ≡ read ms c₁ = was_read.1 in
+              let q = cursor-read (end_of s c₂) (sym o ∙ k) in
+              let b : body_of v (relations d) s c ≡ read (record { version = v; messages = ms; statements = ss }) c₃ = rw (body_of, n, i, q.1) in
+              record {
+                answer_is = rw (b, rw n at h.rows);
+                parameters_filled = rw b (rw n at h.filled);
+                filled = rw (b, row) (rows_whole ms c₁ n ss c₂ i st st₀ ct nd t₁ h₀ f);
+              })
 
 -- ---- the head, and the request from its head on
 
--- the cursor after the head, and the version that the first byte says
+-- the cursor after the head
 module _ (s d pt : List ℕ) (b : Beside s d pt) (v : Version) (c : Cursor) (h : head_of s start ≡ read v c) where
   pub begun-after : Begun s d pt c
   unfolding head_of
@@ -204,15 +202,6 @@ module _ (s d pt : List ℕ) (b : Beside s d pt) (v : Version) (c : Cursor) (h :
         conditions = omega (arith, i.noted, j.noted, k.noted);
       }))))
 
-  pub version-first : v ≡ version_of (byte_at s 0)
-  unfolding head_of version
-  version-first =
-      undo (version s start) _ h (λ x q e w. undo (code blr.begin NotDue s q) _ w (λ y q₁ e₁ w₁.
-      undo (count_statement q.at s q₁) _ w₁ (λ u q₂ e₂ w₂.
-      same w₂ (λ v c. v ≡ version_of (byte_at s 0))
-      (undo (tested byte is_version BadVersion s start) _ e (λ y q₃ e₃ w₃.
-      same w₃ (λ v c. v ≡ version_of (byte_at s 0)) (ap version_of (taken-read s start 1 byte_at (tested-read s start byte is_version _ e₃).0).1))))))
-
 -- readings one after another
 module _ {A B : Type 0} (x : Read A) where
   same_after : {f g : A → Cursor → Read B} → ((a : A) (q : Cursor) → f a q ≡ g a q) → on_read x f ≡ on_read x g
@@ -220,11 +209,6 @@ module _ {A B : Type 0} (x : Read A) where
 
   in-turn : {C : Type 0} (f : A → Cursor → Read C) (g : C → Cursor → Read B) → on_read (on_read x f) g ≡ on_read x (λ a q. on_read (f a q) g)
   in-turn f g = by_read x (λ a q e. rw e) (λ n p e. rw e)
-
--- what is handed on does not show in a step
-pub handed-on : {A B : Type 0} (x : Read A) (b : B) → step_of no_kind x ≡ step_of no_kind (on_read x (λ a c. read b c))
-handed-on (read a c) b = refl
-handed-on (refused r p) b = refl
 
 -- a request is its head and its body
 request-parts : (d : List Relation) (s : List ℕ) → request d s start ≡ on_read (head_of s start) (λ v c. body_of v d s c)

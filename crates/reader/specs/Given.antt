@@ -38,7 +38,7 @@ pub record Below (s d sc : List ℕ) (x : Coded) (level : Level) : Type 0 where
   pub inside : Inside s d sc x (level.left + 1)
   pub parent : level.parent ≡ x.after.statements
 
--- ---- the codes of statements that hold other statements, have a heading, open a scope
+-- ---- the codes of statements that have a heading, open a scope
 
 abbrev pub opens_scope : StatementCode → Bool
 opens_scope Code.Assignment = false
@@ -71,19 +71,3 @@ has_heading Code.Label = true
 has_heading Code.Leave = false
 has_heading Code.If = false
 has_heading Code.Select = false
-
-abbrev pub holds_statements : StatementCode → Bool
-holds_statements Code.Assignment = false
-holds_statements Code.Begin = false
-holds_statements Code.Erase = false
-holds_statements Code.For = true
-holds_statements Code.Loop = true
-holds_statements Code.Modify = true
-holds_statements Code.Handler = true
-holds_statements Code.Receive = true
-holds_statements Code.Send = true
-holds_statements Code.Store = true
-holds_statements Code.Label = true
-holds_statements Code.Leave = false
-holds_statements Code.If = true
-holds_statements Code.Select = true

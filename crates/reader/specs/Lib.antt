@@ -1,3 +1,4 @@
 pub mod Given
+pub mod Lent
 pub mod Readers
 pub mod Request

@@ -1,9 +1,13 @@
 -- What the reader of a whole request promises.
-use Rattle.std.specs.Prelude.{ℕ, ◌≤◌, ◌≡◌, cond, List, [], leb, length, replicate}
+use Rattle.std.specs.Prelude.{ℕ, ◌≤◌, ◌≡◌, cond, List, [], leb, length, replicate, Result, Ok, Err}
 use Rattle.std.proofs.lemmas.List.Edits.{sets}
 use Rattle.dictionary.specs.Dictionary.{Relation, Checked, proper, at_fault, dictionary}
 use Rattle.wire.specs.declared.codes.Version.{Version}
+use Rattle.wire.specs.Options.{refused_at}
+use Rattle.wire.specs.declared.refused.Refused.{Refused}
 use Rattle.grammar.specs.declared.Cursor.{Cursor}
+use Rattle.grammar.specs.declared.Counts.{Counts}
+use Rattle.grammar.specs.declared.Refusal.{Refusal}
 use Rattle.grammar.specs.Tree.{Request}
 use Rattle.grammar.specs.Sizes.{parameter_count}
 use Rattle.grammar.specs.Rows.{request_statement_rows, parameter_rows, request_context_rows}
@@ -14,19 +18,11 @@ use Rattle.grammar.specs.declared.Refusal.TheVariants.{TablesTooShort, RequestTo
 use Rattle.grammar.specs.Reader.{Read, read, refused, Reader, ◌>>=◌, ◌>>◌, return, place, code, count_statement}
 use Rattle.grammar.specs.Reading.{answer, room, nothing_more, version, outer_statements}
 use Rattle.grammar.specs.Messages.{messages}
-use Rattle.grammar.specs.Internal.Steps.{step_of, no_kind}
-use Rattle.grammar.specs.declared.Fit.{Fit}
-use Rattle.grammar.specs.declared.Step.{Step}
-use Rattle.grammar.specs.declared.Step.TheVariants as Step
-use Rattle.grammar.specs.declared.ReadAnswer.{ReadAnswer}
+use Rattle.grammar.specs.Internal.Steps.{answer_of}
 use Rattle.grammar.specs.Demands.{Octets}
 use Rattle.grammar.specs.Answered.{Answered}
-use Rattle.reader.specs.declared.request.Whole.{Whole}
-use Rattle.reader.specs.declared.before.Before.{Before}
-use Rattle.reader.specs.declared.before.Before.TheVariants as Before
 use Rattle.openings.specs.Streams.{relations}
 use Rattle.tables.specs.Tables.{Tables, tables, after}
-use Rattle.tables.specs.Written.{with_statement_row}
 use Rattle.reader.specs.Readers.{places}
 
 -- the rows of a request, and the places of its conditions
@@ -38,10 +34,10 @@ abbrev pub over : Tables → Tables → Tables
 over t rows =
     tables (sets t.statements 0 rows.statements) (sets t.contexts 0 rows.contexts) (sets t.conditions 0 rows.conditions)
 
--- a request that was read, with its rows in the tables
-pub record Requested (x : Read Request) (d pt pt' : List ℕ) (t t' : Tables) (r : Whole) : Type 0 where
-  pub answer_is : r.step ≡ step_of no_kind x
-  pub rows_are : r.parameters ≡ after (λ q. parameter_count q.messages) r.parameters x
+-- a request that was read, with its rows in the tables: the answer tells how many rows of parameters
+pub record Requested (x : Read Request) (d pt pt' : List ℕ) (t t' : Tables)
+    (r : Result (ℕ × Cursor) (Refused Refusal)) : Type 0 where
+  pub answer_is : r ≡ answer_of (λ q. parameter_count q.messages) x
   pub parameters_filled : pt' ≡ after (λ q. sets pt 0 (parameter_rows q.messages)) pt' x
   pub filled : t' ≡ after (λ q. over t (request_tables d q)) t' x
 
@@ -51,21 +47,9 @@ condition_table d (read r c) n = sets (replicate n 0) 0 (places (request_conditi
 condition_table d (refused x p) n = replicate n 0
 
 -- a reading, with the places of its conditions
-pub record AnsweredNoting (s d st pa ct nd st' pa' ct' nd' : List ℕ) (r : ReadAnswer) : Type 0 where
+pub record AnsweredNoting (s d st pa ct nd st' pa' ct' nd' : List ℕ) (r : Result Counts (Refused Refusal)) : Type 0 where
   pub answered : Answered s d st pa ct st' pa' ct' r
   pub conditions_filled : nd' ≡ condition_table d (answer s d (length st) (length pa) (length ct)) (length nd)
-
--- ---- steps one after another
-
--- a refusal passes through
-abbrev pub on_step : Step → (Fit → Cursor → Step) → Step
-on_step (Step.Next f c) g = g f c
-on_step (Step.Refused r p) g = Step.Refused r p
-
--- the row of the outer begin, which was read up to a step
-abbrev pub outer_row : List ℕ → Step → List ℕ
-outer_row t (Step.Next f c) = with_statement_row t 0 1 blr.begin 0 c.at
-outer_row t (Step.Refused r p) = t
 
 -- ---- the parts of a request, before its messages and after its statements
 
@@ -110,14 +94,14 @@ pub record Begun (s d pt : List ℕ) (c : Cursor) : Type 0 where
 -- ---- what comes before the request's first byte
 
 -- 01: "Order: 1, 2, 3, then reading order"
-abbrev pub beside_answer : Checked → Before
-beside_answer (proper rs) = Before.Go
-beside_answer (at_fault p) = Before.Stop BadDictionary p
+abbrev pub beside_answer : Checked → Result (Unit {0}) (Refused Refusal)
+beside_answer (proper rs) = Ok tt
+beside_answer (at_fault p) = Err (refused_at BadDictionary p)
 
-unfoldable pub before_of : List ℕ → List ℕ → ℕ → ℕ → ℕ → Before
+unfoldable pub before_of : List ℕ → List ℕ → ℕ → ℕ → ℕ → Result (Unit {0}) (Refused Refusal)
 before_of s d n m k =
-    cond (room n m k) (cond (leb (length s) max_request_bytes) (beside_answer (dictionary d)) (Before.Stop RequestTooLong 0))
-    (Before.Stop TablesTooShort 0)
+    cond (room n m k) (cond (leb (length s) max_request_bytes) (beside_answer (dictionary d)) (Err (refused_at RequestTooLong 0)))
+    (Err (refused_at TablesTooShort 0))
 
 -- tables of zeros
 pub record Zeros (st pa ct nd : List ℕ) : Type 0 where
@@ -125,10 +109,3 @@ pub record Zeros (st pa ct nd : List ℕ) : Type 0 where
   pub no_parameters : pa ≡ replicate (length pa) 0
   pub no_contexts : ct ≡ replicate (length ct) 0
   pub no_conditions : nd ≡ replicate (length nd) 0
-
--- what a reading after that is given
-pub record Cleared (s d st pa ct nd : List ℕ) : Type 0 where
-  pub before_goes : before_of s d (length st) (length pa) (length ct) ≡ Before.Go
-  pub request_octets : Octets s
-  pub dictionary_octets : Octets d
-  pub zeros : Zeros st pa ct nd

@@ -2,41 +2,27 @@
 ghost use Rattle.std.specs.Prelude.{◌≡◌};
 ghost use Rattle.reader.specs.Request.{before_of};
 
-use dictionary::check::{DictionaryCheck, check};
+use dictionary::check::check;
 use grammar::Refusal;
 use wire::limits::{CONTEXT_TABLE, MAX_REQUEST_BYTES, PARAMETER_TABLE, STATEMENT_TABLE};
-
-// Reading goes on, or stops with a refusal at a place.
-#[derive(Clone, Copy)]
-pub(crate) enum Before {
-    Go,
-    Stop(Refusal, usize),
-}
+use wire::refused::Refused;
 
 // Of three tables that hold so many numbers.
+#[tactic(auto, unfolding(crate::specs::Request::before_of))]
 pub(crate) fn judge(
     request: &[u8],
     dictionary: &[u8],
     statements: usize,
     parameters: usize,
     contexts: usize,
-) -> Before
+) -> Result<(), Refused<Refusal>>
     ensures { result ≡ before_of request.now dictionary.now statements parameters contexts }
 {
-    if statements < STATEMENT_TABLE {
-        return Before::Stop(Refusal::TablesTooShort, 0);
-    }
-    if parameters < PARAMETER_TABLE {
-        return Before::Stop(Refusal::TablesTooShort, 0);
-    }
-    if contexts < CONTEXT_TABLE {
-        return Before::Stop(Refusal::TablesTooShort, 0);
+    if statements < STATEMENT_TABLE || parameters < PARAMETER_TABLE || contexts < CONTEXT_TABLE {
+        return Err(Refused::new(Refusal::TablesTooShort, 0));
     }
     if MAX_REQUEST_BYTES < request.len() {
-        return Before::Stop(Refusal::RequestTooLong, 0);
+        return Err(Refused::new(Refusal::RequestTooLong, 0));
     }
-    match check(dictionary) {
-        DictionaryCheck::Proper => Before::Go,
-        DictionaryCheck::Fault(p) => Before::Stop(Refusal::BadDictionary, p),
-    }
+    check(dictionary).map_err(|p| Refused::new(Refusal::BadDictionary, p))
 }

@@ -4,81 +4,56 @@
 
 mod before;
 mod request;
+mod rows;
 mod statements;
 
-ghost use Rattle.std.specs.Prelude.{◌≡◌};
 ghost use Rattle.grammar.specs.Answered.{Answered};
-ghost use Rattle.reader.specs.Request.{AnsweredNoting, Zeros, Cleared};
+ghost use Rattle.reader.specs.Lent.{Kept};
+ghost use Rattle.reader.specs.Request.{AnsweredNoting, Zeros};
 
-use before::{Before, judge};
-use grammar::{ReadAnswer, Step};
+use before::judge;
+use grammar::{Counts, Refusal};
 use request::read_whole;
+use rows::Rows;
 use wire::limits::MAX_STATEMENTS;
-use wire::table::clear;
+use wire::refused::Refused;
 
-// A request that nothing before its first byte refuses; the tables hold zeros.
-fn read_beside(
+// What is judged before the request's first byte, and then the request; the tables hold zeros.
+fn read_cleared(
     request: &[u8],
     dictionary: &[u8],
-    statements: &mut [u32],
     parameters: &mut [u32],
-    contexts: &mut [u32],
-    conditions: &mut [u32],
-) -> ReadAnswer
-    requires { Cleared request.now dictionary.now statements.old parameters.old contexts.old conditions.old }
-    ensures { AnsweredNoting request.now dictionary.now statements.old parameters.old
-        contexts.old conditions.old statements.new parameters.new contexts.new
-        conditions.new result }
+    rows: &mut Rows,
+) -> Result<Counts, Refused<Refusal>>
+    requires { Zeros rows.old.statements.now parameters.old rows.old.contexts.now rows.old.conditions.now }
+    ensures kept { Kept rows.old rows.new }
+    ensures answered { AnsweredNoting request.now dictionary.now rows.old.statements.now parameters.old
+        rows.old.contexts.now rows.old.conditions.now rows.new.statements.now parameters.new
+        rows.new.contexts.now rows.new.conditions.now result }
 {
-    let whole = read_whole(
-        request, dictionary, statements, parameters, contexts, conditions,
-    );
-    let step = whole.step;
-    match step {
-        Step::Next(_, c) => ReadAnswer::Accepted(
-            c.statements as usize,
-            whole.parameters,
-            c.contexts as usize,
-        ),
-        Step::Refused(r, p) => {
-            clear(statements);
-            clear(parameters);
-            clear(contexts);
-            clear(conditions);
-            ReadAnswer::Refused(r, p)
+    judge(
+        request,
+        dictionary,
+        rows.statements.len(),
+        parameters.len(),
+        rows.contexts.len(),
+    )?;
+    match read_whole(request, dictionary, parameters, rows) {
+        Ok((count, c)) => Ok(Counts {
+            statements: c.statements as usize,
+            parameters: count,
+            contexts: c.contexts as usize,
+        }),
+        Err(e) => {
+            parameters.fill(0);
+            rows.clear();
+            Err(e)
         }
     }
 }
 
-// What is judged before the request's first byte, and then the request; the tables hold zeros.
-fn read_judged(
-    request: &[u8],
-    dictionary: &[u8],
-    statements: &mut [u32],
-    parameters: &mut [u32],
-    contexts: &mut [u32],
-    conditions: &mut [u32],
-) -> ReadAnswer
-    requires { Zeros statements.old parameters.old contexts.old conditions.old }
-    ensures { AnsweredNoting request.now dictionary.now statements.old parameters.old
-        contexts.old conditions.old statements.new parameters.new contexts.new
-        conditions.new result }
-{
-    match judge(
-        request,
-        dictionary,
-        statements.len(),
-        parameters.len(),
-        contexts.len(),
-    ) {
-        Before::Go => read_beside(
-            request, dictionary, statements, parameters, contexts, conditions,
-        ),
-        Before::Stop(r, p) => ReadAnswer::Refused(r, p),
-    }
-}
-
 // Reads a request, fills the tables with its rows, and a fourth with the places of its conditions, which evaluation needs.
+// Kept, here and below: a public function, which keeps its parameters; the tables are those of C.
 pub fn read_noting(
     request: &[u8],
     dictionary: &[u8],
@@ -86,18 +61,19 @@ pub fn read_noting(
     parameters: &mut [u32],
     contexts: &mut [u32],
     conditions: &mut [u32],
-) -> ReadAnswer
+) -> Result<Counts, Refused<Refusal>>
     ensures { AnsweredNoting request.now dictionary.now statements.old parameters.old
         contexts.old conditions.old statements.new parameters.new contexts.new
         conditions.new result }
 {
-    clear(statements);
-    clear(parameters);
-    clear(contexts);
-    clear(conditions);
-    read_judged(
-        request, dictionary, statements, parameters, contexts, conditions,
-    )
+    let mut rows = Rows {
+        statements,
+        contexts,
+        conditions,
+    };
+    parameters.fill(0);
+    rows.clear();
+    read_cleared(request, dictionary, parameters, &mut rows)
 }
 
 // Reads a request, and fills the tables with its rows; a refusal leaves zeros in them.
@@ -107,15 +83,12 @@ pub fn read(
     statements: &mut [u32],
     parameters: &mut [u32],
     contexts: &mut [u32],
-) -> ReadAnswer
+) -> Result<Counts, Refused<Refusal>>
     ensures { Answered request.now dictionary.now statements.old parameters.old
         contexts.old statements.new parameters.new contexts.new result }
 {
-    clear(statements);
-    clear(parameters);
-    clear(contexts);
     let mut places = [0u32; MAX_STATEMENTS];
-    read_judged(
+    read_noting(
         request,
         dictionary,
         statements,

@@ -1,30 +1,35 @@
 // Statements: one cycle of calls. A refusal is handed back as it is.
+// Kept in all that follow: what Given says ties scope, cursor and level, which change at each call, so that a struct of them, and with
+// this fact, would be made and proved anew for each: no plainer. The tables of numbers are those of C, and a scope is an array of
+// numbers, since nothing is on the heap.
 ghost use Rattle.std.specs.Prelude.{◌≡◌, true, ℕ, ◌+◌, ◌-◌, ◌<◌, ◌≤◌};
 ghost use Rattle.wire.specs.Limits.{max_statements};
-ghost use Rattle.references.specs.Promises.{environment_of};
-ghost use Rattle.scopes.specs.Scopes.{scope_of};
-ghost use Rattle.tables.specs.Tables.{tables};
 ghost use Rattle.expressions.specs.Promises.{Ready};
-ghost use Rattle.reader.specs.Given.{Given, Inside, Below, holds_statements, has_heading, opens_scope};
+ghost use Rattle.reader.specs.Given.{Given, Inside, Below, opens_scope};
+ghost use Rattle.reader.specs.Lent.{Kept, tables_in, environment_in, scope_in};
 ghost use Rattle.reader.specs.Readers.{level_below, StatementRead, StatementsRead, CodedRead, HeadingRead, AssignmentRead, IfRead, SelectRead};
 
+use crate::rows::Rows;
 use expressions::booleans::read_boolean;
 use expressions::clauses::read_clauses;
 use expressions::fits::tested;
 use expressions::values::read_value;
-use grammar::{Cursor, Fit, MessageStep, Refusal, Step};
-use messages::declared::AROUND;
-use openings::heads::{Coded, Ending, StatementHead, ending_at, statement_at};
+use grammar::{Cursor, Passed, Read, Refusal};
+use openings::beside::Beside;
+use openings::heads::{Coded, ending_at, statement_at};
 use openings::opening::{read_opened, read_plain};
 use openings::parts::{MESSAGE_NUMBERS, erase, leave, receive_at};
 use references::reference::read_target;
 use scopes::kinds::one_kind;
 use scopes::scope::SCOPE;
+use steps::due_code;
 use tables::conditions::note;
 use tables::contexts::close;
 use tables::statements::{finish, put_boolean};
+use wire::blr::END;
 use wire::codes::StatementCode;
 use wire::limits::MAX_STATEMENTS;
+use wire::refused::Refused;
 
 // A statement's level: how many levels are left for it, and the row of the statement around it plus one.
 #[derive(Clone, Copy)]
@@ -47,424 +52,213 @@ fn below(c: Cursor, level: Level) -> Level
 // Statements up to an end, so many at most.
 #[cycle(statements)]
 pub(crate) fn read_statements(
-    request: &[u8],
-    dictionary: &[u8],
-    around: &[u32; AROUND],
+    beside: Beside,
     scope: &[u16; SCOPE],
-    statements: &mut [u32],
-    contexts: &mut [u32],
-    conditions: &mut [u32],
+    rows: &mut Rows,
     c: Cursor,
     level: Level,
-) -> Step
-    requires { (Given request.now dictionary.now scope.now c level.left) × (level.parent ≤ max_statements) }
-    ensures { StatementsRead level (environment_of dictionary.now around.now)
-        (scope_of dictionary.now scope.now) request.now c
-        (tables statements.old contexts.old conditions.old)
-        (tables statements.new contexts.new conditions.new) result }
+) -> Passed
+    requires { (Given beside.request.now beside.dictionary.now scope.now c level.left) × (level.parent ≤ max_statements) }
+    ensures kept { Kept rows.old rows.new }
+    ensures read { StatementsRead level (environment_in beside.entry)
+        (scope_in beside.entry scope.now) beside.entry.request.now c
+        (tables_in rows.old) (tables_in rows.new) result }
 {
     let mut at = c;
-    let mut left = MAX_STATEMENTS;
-    loop {
-        match ending_at(request, at) {
-            Ending::Done(after) => {
-                return Step::Next(Fit::NoKind, after);
-            }
-            Ending::Goes => {}
-            Ending::Refused(r, p) => {
-                return Step::Refused(r, p);
-            }
+    for _ in 0..MAX_STATEMENTS {
+        if let Some(after) = ending_at(beside.request, at)? {
+            return Ok(after);
         }
-        if left == 0 {
-            return Step::Refused(Refusal::TooGreat, at.at);
-        }
-        left -= 1;
-        let one = read_statement(
-            request, dictionary, around, scope, statements, contexts, conditions, at, level,
-        );
-        let Step::Next(_, next) = one else {
-            return one;
-        };
-        at = next;
+        at = read_statement(beside, scope, rows, at, level)?;
     }
+    due_code(beside.request, at, END, Refusal::TooGreat)
 }
 
 // A statement: its code, a level for it, what stands under the code, and its row.
 #[cycle(statements)]
 fn read_statement(
-    request: &[u8],
-    dictionary: &[u8],
-    around: &[u32; AROUND],
+    beside: Beside,
     scope: &[u16; SCOPE],
-    statements: &mut [u32],
-    contexts: &mut [u32],
-    conditions: &mut [u32],
+    rows: &mut Rows,
     c: Cursor,
     level: Level,
-) -> Step
-    requires { (Given request.now dictionary.now scope.now c level.left) × (level.parent ≤ max_statements) }
-    ensures { StatementRead level (environment_of dictionary.now around.now)
-        (scope_of dictionary.now scope.now) request.now c
-        (tables statements.old contexts.old conditions.old)
-        (tables statements.new contexts.new conditions.new) result }
+) -> Passed
+    requires { (Given beside.request.now beside.dictionary.now scope.now c level.left) × (level.parent ≤ max_statements) }
+    ensures kept { Kept rows.old rows.new }
+    ensures read { StatementRead level (environment_in beside.entry)
+        (scope_in beside.entry scope.now) beside.entry.request.now c
+        (tables_in rows.old) (tables_in rows.new) result }
 {
-    match statement_at(request, c, level.left) {
-        StatementHead::Is(x) => {
-            put_boolean(statements, c.statements as usize, 0);
-            let r = read_coded(
-                request, dictionary, around, scope, statements, contexts, conditions, x, level,
-            );
-            finish(request, statements, c, level.parent, r);
-            r
-        }
-        StatementHead::Refused(r, p) => Step::Refused(r, p),
-    }
+    let x = statement_at(beside.request, c, level.left)?;
+    put_boolean(rows.statements, c.statements as usize, 0);
+    let under = read_coded(beside, scope, rows, x, level);
+    finish(beside.request, rows.statements, c, level.parent, under);
+    under
 }
 
 // A statement after its code, which is counted.
 #[cycle(statements)]
 fn read_coded(
-    request: &[u8],
-    dictionary: &[u8],
-    around: &[u32; AROUND],
+    beside: Beside,
     scope: &[u16; SCOPE],
-    statements: &mut [u32],
-    contexts: &mut [u32],
-    conditions: &mut [u32],
+    rows: &mut Rows,
     x: Coded,
     level: Level,
-) -> Step
-    requires { Inside request.now dictionary.now scope.now x level.left }
-    ensures { CodedRead (level.left - 1) (environment_of dictionary.now around.now)
-        (scope_of dictionary.now scope.now) request.now x
-        (tables statements.old contexts.old conditions.old)
-        (tables statements.new contexts.new conditions.new) result }
+) -> Passed
+    requires { Inside beside.request.now beside.dictionary.now scope.now x level.left }
+    ensures kept { Kept rows.old rows.new }
+    ensures read { CodedRead (level.left - 1) (environment_in beside.entry)
+        (scope_in beside.entry scope.now) beside.entry.request.now x
+        (tables_in rows.old) (tables_in rows.new) result }
 {
     let k = x.code;
     let c = x.after;
     let inner = below(c, level);
     match k {
-        StatementCode::Assignment => {
-            read_assignment(request, dictionary, around, scope, contexts, x, inner.left)
-        }
-        StatementCode::Erase => erase(request, scope, x.at, c),
-        StatementCode::Leave => leave(request, scope, x.at, c),
-        StatementCode::Begin => read_statements(
-            request, dictionary, around, scope, statements, contexts, conditions, c, inner,
-        ),
-        _ => read_branches(
-            request, dictionary, around, scope, statements, contexts, conditions, x, inner,
-        ),
-    }
-}
-
-// An if, a select, or a statement with a heading, whose statements have a level.
-#[cycle(statements)]
-fn read_branches(
-    request: &[u8],
-    dictionary: &[u8],
-    around: &[u32; AROUND],
-    scope: &[u16; SCOPE],
-    statements: &mut [u32],
-    contexts: &mut [u32],
-    conditions: &mut [u32],
-    x: Coded,
-    level: Level,
-) -> Step
-    requires { (Below request.now dictionary.now scope.now x level) × (holds_statements x.code ≡ true) }
-    ensures { CodedRead level.left (environment_of dictionary.now around.now)
-        (scope_of dictionary.now scope.now) request.now x
-        (tables statements.old contexts.old conditions.old)
-        (tables statements.new contexts.new conditions.new) result }
-{
-    let k = x.code;
-    let c = x.after;
-    match k {
-        StatementCode::If => read_if(
-            request, dictionary, around, scope, statements, contexts, conditions, c, level,
-        ),
-        StatementCode::Select => read_select(
-            request, dictionary, around, scope, statements, contexts, conditions, c, level,
-        ),
-        _ => read_headed(
-            request, dictionary, around, scope, statements, contexts, conditions, x, level,
-        ),
-    }
-}
-
-// A statement with a heading and one statement under it, which has a level.
-#[cycle(statements)]
-fn read_headed(
-    request: &[u8],
-    dictionary: &[u8],
-    around: &[u32; AROUND],
-    scope: &[u16; SCOPE],
-    statements: &mut [u32],
-    contexts: &mut [u32],
-    conditions: &mut [u32],
-    x: Coded,
-    level: Level,
-) -> Step
-    requires { (Below request.now dictionary.now scope.now x level) × (has_heading x.code ≡ true) }
-    ensures { CodedRead level.left (environment_of dictionary.now around.now)
-        (scope_of dictionary.now scope.now) request.now x
-        (tables statements.old contexts.old conditions.old)
-        (tables statements.new contexts.new conditions.new) result }
-{
-    let k = x.code;
-    match k {
+        StatementCode::Assignment => read_assignment(beside, scope, rows.contexts, x, inner.left),
+        StatementCode::Erase => erase(beside.request, scope, x.at, c),
+        StatementCode::Leave => leave(beside.request, scope, x.at, c),
+        StatementCode::Begin => read_statements(beside, scope, rows, c, inner),
+        StatementCode::If => read_if(beside, scope, rows, c, inner),
+        StatementCode::Select => read_select(beside, scope, rows, c, inner),
         StatementCode::Loop | StatementCode::Handler | StatementCode::Receive => {
-            let m = read_plain(request, around, scope, x);
-            let Step::Next(_, first) = m else {
-                return m;
-            };
-            read_statement(
-                request, dictionary, around, scope, statements, contexts, conditions, first, level,
-            )
+            let first = read_plain(beside.request, beside.around, scope, x)?;
+            read_statement(beside, scope, rows, first, inner)
         }
-        _ => read_opening(
-            request, dictionary, around, scope, statements, contexts, conditions, x, level,
-        ),
+        _ => read_opening(beside, scope, rows, x, inner),
     }
 }
 
 // An assignment: a value, and a target of its kind.
 fn read_assignment(
-    request: &[u8],
-    dictionary: &[u8],
-    around: &[u32; AROUND],
+    beside: Beside,
     scope: &[u16; SCOPE],
     contexts: &mut [u32],
     x: Coded,
     levels: usize,
-) -> Step
-    requires { (Ready request.now dictionary.now scope.now x.after levels) × (x.after.at ≡ x.at + 1) }
-    ensures { AssignmentRead levels (environment_of dictionary.now around.now)
-        (scope_of dictionary.now scope.now) request.now x
+) -> Passed
+    requires { (Ready beside.request.now beside.dictionary.now scope.now x.after levels) × (x.after.at ≡ x.at + 1) }
+    ensures { AssignmentRead levels (environment_in beside.entry)
+        (scope_in beside.entry scope.now) beside.entry.request.now x
         contexts.old contexts.new result }
 {
-    let c = x.after;
-    let v = read_value(request, dictionary, around, scope, contexts, c, levels);
-    let Step::Next(a, second) = v else {
-        return v;
-    };
-    let t = read_target(request, dictionary, around, scope, x.at, second);
-    let Step::Next(b, after) = t else {
-        return t;
-    };
-    tested(one_kind(a, b), x.at, after)
+    let (a, second) = read_value(beside, scope, contexts, x.after, levels)?;
+    let (b, after) = read_target(
+        beside.request,
+        beside.dictionary,
+        beside.around,
+        scope,
+        x.at,
+        second,
+    )?;
+    let (_, last) = tested(one_kind(a, b), x.at, after)?;
+    Ok(last)
 }
 
-// What stands before the statement of one that opens a scope: read up to where the scope begins, and up to the statement.
-#[derive(Clone, Copy)]
-pub(crate) struct Headed {
-    pub opened: Step,
-    pub ready: Step,
-}
-
-// A heading, or the streams of a for with its clauses, whose boolean gets a number.
+// A heading, or the streams of a for with its clauses, whose boolean gets a number. What is read is where its scope begins; then stands
+// its statement.
 fn read_heading(
-    request: &[u8],
-    dictionary: &[u8],
-    around: &[u32; AROUND],
-    statements: &mut [u32],
-    contexts: &mut [u32],
-    conditions: &mut [u32],
+    beside: Beside,
+    rows: &mut Rows,
     inside: &mut [u16; SCOPE],
     x: Coded,
     levels: usize,
-) -> Headed
-    requires { (Inside request.now dictionary.now inside.old x (levels + 1)) × (opens_scope x.code ≡ true) }
-    ensures { HeadingRead levels (environment_of dictionary.now around.now) request.now
-        dictionary.now x (tables statements.old contexts.old conditions.old)
-        (tables statements.new contexts.new conditions.new) inside.old inside.new result }
+) -> Read<Cursor>
+    requires { (Inside beside.request.now beside.dictionary.now inside.old x (levels + 1)) × (opens_scope x.code ≡ true) }
+    ensures kept { Kept rows.old rows.new }
+    ensures read { HeadingRead levels (environment_in beside.entry) beside.entry.request.now
+        beside.entry.dictionary.now x (tables_in rows.old) (tables_in rows.new) inside.old inside.new result }
 {
     let k = x.code;
-    let opened = read_opened(request, dictionary, around, contexts, inside, x);
-    let StatementCode::For = k else {
-        return Headed {
-            opened: opened,
-            ready: opened,
-        };
-    };
-    let Step::Next(_, first) = opened else {
-        return Headed {
-            opened: opened,
-            ready: opened,
-        };
-    };
-    let cs = read_clauses(request, dictionary, around, inside, contexts, first, levels);
-    let clauses = cs.step;
-    let Step::Next(_, second) = clauses else {
-        return Headed {
-            opened: opened,
-            ready: clauses,
-        };
-    };
     let c = x.after;
+    let first = read_opened(beside, rows.contexts, inside, x)?;
+    let StatementCode::For = k else {
+        return Ok((first, first));
+    };
+    let (such, second) = read_clauses(beside, inside, rows.contexts, first, levels)?;
     let at = note(
-        statements,
-        conditions,
+        rows.statements,
+        rows.conditions,
         c.statements as usize - 1,
         second,
-        cs.such,
+        such,
     );
-    Headed {
-        opened: opened,
-        ready: Step::Next(Fit::NoKind, at),
-    }
+    Ok((first, at))
 }
 
 // A statement that opens a scope: a for, a modify, a store, a send or a label. The rows of its contexts get their scope at its end.
 #[cycle(statements)]
 fn read_opening(
-    request: &[u8],
-    dictionary: &[u8],
-    around: &[u32; AROUND],
+    beside: Beside,
     scope: &[u16; SCOPE],
-    statements: &mut [u32],
-    contexts: &mut [u32],
-    conditions: &mut [u32],
+    rows: &mut Rows,
     x: Coded,
     level: Level,
-) -> Step
-    requires { (Below request.now dictionary.now scope.now x level) × (opens_scope x.code ≡ true) }
-    ensures { CodedRead level.left (environment_of dictionary.now around.now)
-        (scope_of dictionary.now scope.now) request.now x
-        (tables statements.old contexts.old conditions.old)
-        (tables statements.new contexts.new conditions.new) result }
+) -> Passed
+    requires { (Below beside.request.now beside.dictionary.now scope.now x level) × (opens_scope x.code ≡ true) }
+    ensures kept { Kept rows.old rows.new }
+    ensures read { CodedRead level.left (environment_in beside.entry)
+        (scope_in beside.entry scope.now) beside.entry.request.now x
+        (tables_in rows.old) (tables_in rows.new) result }
 {
-    let c = x.after;
     let mut inside = *scope;
-    let b = read_heading(
-        request,
-        dictionary,
-        around,
-        statements,
-        contexts,
-        conditions,
-        &mut inside,
-        x,
-        level.left,
-    );
-    let ready = b.ready;
-    let Step::Next(_, at) = ready else {
-        return ready;
-    };
-    let opened = b.opened;
-    let Step::Next(_, first) = opened else {
-        return opened;
-    };
-    let r = read_statement(
-        request, dictionary, around, &inside, statements, contexts, conditions, at, level,
-    );
-    close(contexts, c.contexts as usize, first, r);
-    r
+    let (first, at) = read_heading(beside, rows, &mut inside, x, level.left)?;
+    let under = read_statement(beside, &inside, rows, at, level);
+    close(rows.contexts, x.after.contexts as usize, first, under);
+    under
 }
 
 // An if: its condition, a statement, and an end or a second statement.
 #[cycle(statements)]
-fn read_if(
-    request: &[u8],
-    dictionary: &[u8],
-    around: &[u32; AROUND],
-    scope: &[u16; SCOPE],
-    statements: &mut [u32],
-    contexts: &mut [u32],
-    conditions: &mut [u32],
-    c: Cursor,
-    level: Level,
-) -> Step
-    requires { (Given request.now dictionary.now scope.now c level.left) × ((level.parent ≡ c.statements) × (c.conditions < c.statements)) }
-    ensures { (p : ℕ) → c.at ≡ p + 1 → IfRead level.left (environment_of dictionary.now around.now)
-        (scope_of dictionary.now scope.now) request.now p c
-        (tables statements.old contexts.old conditions.old)
-        (tables statements.new contexts.new conditions.new) result }
+fn read_if(beside: Beside, scope: &[u16; SCOPE], rows: &mut Rows, c: Cursor, level: Level) -> Passed
+    requires { (Given beside.request.now beside.dictionary.now scope.now c level.left) × ((level.parent ≡ c.statements) × (c.conditions < c.statements)) }
+    ensures kept { Kept rows.old rows.new }
+    ensures read { (p : ℕ) → c.at ≡ p + 1 → IfRead level.left (environment_in beside.entry)
+        (scope_in beside.entry scope.now) beside.entry.request.now p c
+        (tables_in rows.old) (tables_in rows.new) result }
 {
-    let b = read_boolean(request, dictionary, around, scope, contexts, c, level.left);
-    let Step::Next(_, first) = b else {
-        return b;
-    };
+    let first = read_boolean(beside, scope, rows.contexts, c, level.left)?;
     let noted = note(
-        statements,
-        conditions,
+        rows.statements,
+        rows.conditions,
         c.statements as usize - 1,
         first,
-        c.at,
+        Some(c.at),
     );
-    let one = read_statement(
-        request, dictionary, around, scope, statements, contexts, conditions, noted, level,
-    );
-    let Step::Next(_, second) = one else {
-        return one;
-    };
-    match ending_at(request, second) {
-        Ending::Done(after) => Step::Next(Fit::NoKind, after),
-        Ending::Goes => read_statement(
-            request, dictionary, around, scope, statements, contexts, conditions, second, level,
-        ),
-        Ending::Refused(r, p) => Step::Refused(r, p),
+    let second = read_statement(beside, scope, rows, noted, level)?;
+    match ending_at(beside.request, second)? {
+        Some(after) => Ok(after),
+        None => read_statement(beside, scope, rows, second, level),
     }
 }
 
 // The receives of a select up to its end, so many at most: each of another message.
 #[cycle(statements)]
 fn read_select(
-    request: &[u8],
-    dictionary: &[u8],
-    around: &[u32; AROUND],
+    beside: Beside,
     scope: &[u16; SCOPE],
-    statements: &mut [u32],
-    contexts: &mut [u32],
-    conditions: &mut [u32],
+    rows: &mut Rows,
     c: Cursor,
     level: Level,
-) -> Step
-    requires { (Given request.now dictionary.now scope.now c level.left) × (level.parent ≤ max_statements) }
-    ensures { SelectRead level (environment_of dictionary.now around.now)
-        (scope_of dictionary.now scope.now) request.now c
-        (tables statements.old contexts.old conditions.old)
-        (tables statements.new contexts.new conditions.new) result }
+) -> Passed
+    requires { (Given beside.request.now beside.dictionary.now scope.now c level.left) × (level.parent ≤ max_statements) }
+    ensures kept { Kept rows.old rows.new }
+    ensures read { SelectRead level (environment_in beside.entry)
+        (scope_in beside.entry scope.now) beside.entry.request.now c
+        (tables_in rows.old) (tables_in rows.new) result }
 {
     let mut seen = [false; MESSAGE_NUMBERS];
     let mut at = c;
-    let mut left = MAX_STATEMENTS;
-    while 0 < left {
-        left -= 1;
-        match receive_at(request, around, scope, &seen, at, level.left) {
-            MessageStep::Is(m, first) => {
-                put_boolean(statements, at.statements as usize, 0);
-                let one = read_statement(
-                    request,
-                    dictionary,
-                    around,
-                    scope,
-                    statements,
-                    contexts,
-                    conditions,
-                    first,
-                    below(first, level),
-                );
-                finish(request, statements, at, level.parent, one);
-                let Step::Next(_, next) = one else {
-                    return one;
-                };
-                at = next;
-                seen[m.0 as usize] = true;
-            }
-            MessageStep::Refused(r, p) => {
-                return Step::Refused(r, p);
-            }
-        }
-        match ending_at(request, at) {
-            Ending::Done(after) => {
-                return Step::Next(Fit::NoKind, after);
-            }
-            Ending::Goes => {}
-            Ending::Refused(r, p) => {
-                return Step::Refused(r, p);
-            }
+    for _ in 0..MAX_STATEMENTS {
+        let (m, first) = receive_at(beside.request, beside.around, scope, &seen, at, level.left)?;
+        put_boolean(rows.statements, at.statements as usize, 0);
+        let one = read_statement(beside, scope, rows, first, below(first, level));
+        finish(beside.request, rows.statements, at, level.parent, one);
+        at = one?;
+        seen[m.0 as usize] = true;
+        if let Some(after) = ending_at(beside.request, at)? {
+            return Ok(after);
         }
     }
-    Step::Refused(Refusal::TooGreat, at.at)
+    Err(Refused::new(Refusal::TooGreat, at.at))
 }

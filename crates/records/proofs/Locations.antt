@@ -10,7 +10,8 @@ use lib.ListN.{length, take, get_elem?}
 use borrow.Author.Tests.{le-leb, lt-leb, leb-true, leb-false}
 use Rattle.dictionary.specs.Naming.{format_of}
 use Rattle.dictionary.specs.Internal.Walk.{is_field, next_place, fields_from, fields_of, relation_at}
-use Rattle.dictionary.specs.Internal.Answers.{place_answer}
+use Rattle.std.specs.Prelude.{Some}
+use Rattle.wire.specs.Options.{option_of}
 use Rattle.dictionary.proofs.Fields.{no_more, one_field, of-relation, few-fields}
 use Rattle.dictionary.proofs.FieldFormats.{format-found}
 use Rattle.dictionary.proofs.FieldSearches.{entry_next}
@@ -89,17 +90,10 @@ module _ (d : List ℕ) (q left sum : ℕ) where
       omega (arith, held_next d q left h e, there, k) in
       rw (entry_next d q left f e (λ z. omega arith), s)
 
-  rest-here : left ≡ 0 → is_field d q ≡ true → sum ≤ 4096 → rest d q left sum ≡ some (q, sum)
+  pub rest-here : left ≡ 0 → is_field d q ≡ true → sum ≤ 4096 → rest d q left sum ≡ some (q, sum)
   rest-here z e h =
       let s : sum + all_held d (take 0 (fields_from d q)) ≡ sum = omega (arith, held_none d q 0) in
       rw (z, s, one_field d q e, le-leb sum 4096 h)
-
-  pub rest_end : {b : Bool} → b ≡ is_field d q → left ≡ 0 → sum ≤ 4096 → cond b (some (q, sum)) none ≡ rest d q left sum
-  rest_end {b} e z h = by b (sym e)
-    where
-      by : (x : Bool) → is_field d q ≡ x → cond x (some (q, sum)) none ≡ rest d q left sum
-      by true t = sym (rest-here z t h)
-      by false t = sym (rest-none t)
 
 -- ---- the fields before an entry and from it on
 
@@ -141,50 +135,50 @@ module _ (d : List ℕ) (r i : ℕ) {q : ℕ} (start : q ≡ next_place d r) whe
       6 + (n + 7) / 8 + all_held d (take i (fields_from d q)) ≡ offset_of (relation_at d r) i
   offset-from n e = offset-is d r i n q e start
 
-  module _ (x : Located) (e : located_of x ≡ reached_from d q i) where
-    pub located-none : x.is ≡ false → none ≡ located_in d r i
-    unfolding reached_from located_in
-    located-none t =
-        let s : none ≡ reached_from d q i = rw t at e in
-        let o = offset-from (field_count (relation_at d r)) refl in
-        rw same-fields (sym (still-none (get_elem? (fields_from d q) i) (all_held d (take i (fields_from d q))) _ (omega (arith, o)) (sym s)))
+  pub located-none : none ≡ reached_from d q i → none ≡ located_in d r i
+  unfolding reached_from located_in
+  located-none s =
+      let o = offset-from (field_count (relation_at d r)) refl in
+      rw same-fields (sym (still-none (get_elem? (fields_from d q) i) (all_held d (take i (fields_from d q))) _ (omega (arith, o)) (sym s)))
 
-    module _ (t : x.is ≡ true) where
-      here : Found (get_elem? (fields_from d q) i) (all_held d (take i (fields_from d q))) x.entry x.offset
-      unfolding reached_from
-      here =
-          let s : ◌≡◌ {A = Option (ℕ × ℕ)} (some (x.entry, x.offset)) (reached_from d q i) = rw t at e in
-          found_in (get_elem? (fields_from d q) i) (all_held d (take i (fields_from d q))) x.entry x.offset (sym s)
+  module _ (x : Located) (e : located_of (Some x) ≡ reached_from d q i) where
+    here : Found (get_elem? (fields_from d q) i) (all_held d (take i (fields_from d q))) x.entry x.offset
+    unfolding reached_from
+    here = found_in (get_elem? (fields_from d q) i) (all_held d (take i (fields_from d q))) x.entry x.offset (sym e)
 
-      pub reached-few : i + length (fields_from d x.entry) ≤ length d
-      reached-few = omega (arith, count_at_lem d i q x.entry here.0, few-fields d q)
+    pub reached-few : i + length (fields_from d x.entry) ≤ length d
+    reached-few = omega (arith, count_at_lem d i q x.entry here.0, few-fields d q)
 
-      pub reached-small : x.offset ≤ 4096
-      reached-small = omega (arith, here.1, here.2)
+    pub reached-small : x.offset ≤ 4096
+    reached-small = omega (arith, here.1, here.2)
 
-      pub located_here : {c m : ℕ} → c ≡ length (fields_from d x.entry) → m ≡ (i + c + 7) / 8 →
-          cond (leb (6 + m + x.offset) 4096) (some (x.entry, 6 + m + x.offset)) none ≡ located_in d r i
+    module _ {c m : ℕ} (f : c ≡ length (fields_from d x.entry)) (g : m ≡ (i + c + 7) / 8) where
+      located_by : in_record (some x.entry) (6 + m + x.offset) ≡ located_in d r i
       unfolding located_in
-      located_here {c} {m} f g =
+      located_by =
           let n : i + c ≡ field_count (relation_at d r) =
           omega (arith, count_at_lem d i q x.entry here.0, f, ap (λ p. length (fields_from d p)) start, count_of d r) in
           let o : 6 + m + x.offset ≡ offset_of (relation_at d r) i = omega (arith, offset-from (i + c) n, here.1, g) in
           rw (same-fields, here.0, o)
 
+      pub located_here : 6 + m + x.offset ≤ 4096 → some (x.entry, 6 + m + x.offset) ≡ located_in d r i
+      located_here h = rw (← located_by, le-leb (6 + m + x.offset) 4096 h)
+
+      pub located-past : 4096 < 6 + m + x.offset → none ≡ located_in d r i
+      located-past h = rw (← located_by, lt-leb (6 + m + x.offset) 4096 h)
+
 -- ---- what is located
 
-module _ (d : List ℕ) (r i : ℕ) (x : Located) (e : located_of x ≡ located_in d r i) (t : x.is ≡ true) where
+module _ (d : List ℕ) (r i : ℕ) (x : Located) (e : located_of (Some x) ≡ located_in d r i) where
   located : Found (get_elem? (fields_of d r) i) (offset_of (relation_at d r) i) x.entry x.offset
   unfolding located_in
-  located =
-      let s : ◌≡◌ {A = Option (ℕ × ℕ)} (some (x.entry, x.offset)) (located_in d r i) = rw t at e in
-      found_in (get_elem? (fields_of d r) i) (offset_of (relation_at d r) i) x.entry x.offset (sym s)
+  located = found_in (get_elem? (fields_of d r) i) (offset_of (relation_at d r) i) x.entry x.offset (sym e)
 
   pub located-entry : get_elem? (fields_of d r) i ≡ some x.entry
   located-entry = located.0
 
   pub located-format : format_of (relation_at d r) i ≡ some (format_at d x.entry)
-  located-format = format-found d r i (ap place_answer (sym located.0))
+  located-format = format-found d r i (ap option_of (sym located.0))
 
   pub located-offset : x.offset ≡ offset_of (relation_at d r) i
   located-offset = located.1

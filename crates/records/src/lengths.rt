@@ -1,6 +1,5 @@
 // How long the records of a relation are, and where each field stands in them.
 ghost use Rattle.std.specs.Prelude.{◌≡◌, ◌+◌, ◌/◌, ◌≤◌, ◌<◌, length, take};
-ghost use Rattle.std.proofs.Math.Option.{none};
 ghost use Rattle.wire.specs.declared.codes.FieldType.TheVariants.{Plain};
 ghost use Rattle.dictionary.specs.Format.{type_bytes, held};
 ghost use Rattle.dictionary.specs.Internal.Walk.{fields_from, relation_at};
@@ -14,13 +13,6 @@ use wire::bytes::word_on;
 use wire::codes::{DataType, FieldType};
 use wire::entries::{FIELD_SIZE, RECORD_BITS};
 use wire::limits::{DATE_SIZE, MAX_RECORD_BYTES, READING_SIZE};
-
-// A length, or that it is above a limit.
-#[derive(Clone, Copy)]
-pub enum Length {
-    Is(usize),
-    Long,
-}
 
 // "date 35 (8 bytes)"
 fn plain_bytes(t: DataType, n: u32) -> usize
@@ -74,115 +66,100 @@ pub fn field_count(d: &[u8], relation: usize) -> usize
 pub fn missing_bytes(n: usize) -> usize
     ensures { result ≡ (n + 7) / 8 }
 {
-    n / 8 + (n % 8 + 7) / 8
+    n.div_ceil(8)
 }
 
-// A start and the bytes of i fields from a place on.
-fn packed_within(d: &[u8], from: usize, i: usize, start: usize, limit: usize) -> Length
+// A start and the bytes of i fields from a place on, up to a limit.
+fn packed_within(d: &[u8], from: usize, i: usize, start: usize, limit: usize) -> Option<usize>
     requires { start ≤ limit }
     ensures { result ≡ within limit (start + all_held d.now (take i (fields_from d.now from))) }
 {
     let mut q = from;
-    let mut left = i;
     let mut sum = start;
-    while 0 < left {
+    for _ in 0..i {
         if !is_field(d, q) {
-            return Length::Is(sum);
+            return Some(sum);
         }
         let n = held_bytes(d, q);
         if limit - sum < n {
-            return Length::Long;
+            return None;
         }
         sum += n;
-        left -= 1;
         q = next_place(d, q);
     }
-    Length::Is(sum)
+    Some(sum)
 }
 
 // "relation id word, one missing bit a field .., then the fields packed"
-pub fn offset_within(d: &[u8], relation: usize, i: usize, limit: usize) -> Length
+// Kept: a public function, which keeps its parameters.
+pub fn offset_within(d: &[u8], relation: usize, i: usize, limit: usize) -> Option<usize>
     ensures { result ≡ within limit (offset_of (relation_at d.now relation) i) }
 {
     let start = RECORD_BITS + missing_bytes(field_count(d, relation));
     if limit < start {
-        return Length::Long;
+        return None;
     }
     packed_within(d, next_place(d, relation), i, start, limit)
 }
 
-// Where a field's entry stands in the dictionary, and its bytes in a record's entry; or that there is no such field, or that it would stand
-// past the end of the longest record.
+// Where a field's entry stands in the dictionary, and its bytes in a record's entry.
 #[derive(Clone, Copy)]
 pub struct Located {
-    pub is: bool,
     pub entry: usize,
     pub offset: usize,
 }
 
-fn nowhere() -> Located
-    ensures { located_of result ≡ none }
-{
-    Located {
-        is: false,
-        entry: 0,
-        offset: 0,
-    }
-}
-
 // Field i of those from a place on, with the bytes of the fields before it.
-fn reached(d: &[u8], from: usize, i: usize) -> Located
+fn reached(d: &[u8], from: usize, i: usize) -> Option<Located>
     ensures { located_of result ≡ reached_from d.now from i }
 {
     let mut q = from;
-    let mut left = i;
     let mut sum: usize = 0;
-    while 0 < left {
+    for _ in 0..i {
         if !is_field(d, q) {
-            return nowhere();
+            return None;
         }
         let n = held_bytes(d, q);
         if MAX_RECORD_BYTES - sum < n {
-            return nowhere();
+            return None;
         }
         sum += n;
-        left -= 1;
         q = next_place(d, q);
     }
-    Located {
-        is: is_field(d, q),
+    if !is_field(d, q) {
+        return None;
+    }
+    Some(Located {
         entry: q,
         offset: sum,
-    }
+    })
 }
 
-// Field i of a relation, by one pass over the entries of its fields.
-pub fn locate(d: &[u8], relation: usize, i: usize) -> Located
+// Field i of a relation, by one pass over the entries of its fields; none if there is no such field, or if it would stand past the end of the
+// longest record.
+// Kept: a public function, which keeps its parameters.
+pub fn locate(d: &[u8], relation: usize, i: usize) -> Option<Located>
     ensures { located_of result ≡ located_in d.now relation i }
 {
-    let field = reached(d, next_place(d, relation), i);
-    if !field.is {
-        return nowhere();
-    }
-    let entry = field.entry;
-    let fields = i + count_from(d, entry);
+    let field = reached(d, next_place(d, relation), i)?;
+    let fields = i + count_from(d, field.entry);
     let offset = RECORD_BITS + missing_bytes(fields) + field.offset;
-    Located {
-        is: offset <= MAX_RECORD_BYTES,
-        entry,
-        offset,
+    if MAX_RECORD_BYTES < offset {
+        return None;
     }
+    Some(Located { offset, ..field })
 }
 
 // Where field i stands in a record's entry.
-pub fn field_offset(d: &[u8], relation: usize, i: usize) -> Length
+// Kept: a public function, which keeps its parameters.
+pub fn field_offset(d: &[u8], relation: usize, i: usize) -> Option<usize>
     ensures { result ≡ length_answer (offset_of (relation_at d.now relation) i) }
 {
     offset_within(d, relation, i, MAX_RECORD_BYTES)
 }
 
 // The length of a relation's record entry.
-pub fn record_length(d: &[u8], relation: usize) -> Length
+pub fn record_length(d: &[u8], relation: usize) -> Option<usize>
     ensures { result ≡ length_answer (record_length (relation_at d.now relation)) }
 {
     offset_within(d, relation, d.len(), MAX_RECORD_BYTES)

@@ -1,83 +1,66 @@
 // Parameters, by the message that they belong to.
 ghost use Rattle.std.specs.Prelude.{ℕ, ◌≡◌, List};
-ghost use Rattle.scopes.specs.Scopes.{scope_of};
-ghost use Rattle.references.specs.Promises.{parameter_in, flag_in, parameter_code, environment_of, reference_step};
+ghost use Rattle.references.specs.Promises.{parameter_in, flag_in, ParameterMessage};
 
-use crate::field::known;
-use crate::role::{parameter_allowed, target_place};
-use grammar::{Cursor, Fit, MessageStep, Refusal, Role, Step, WordStep};
-use messages::declared::{AROUND, FoundMessage, find, parameter_fit};
-use scopes::scope::SCOPE;
-use steps::{next_message, next_word};
+use crate::role::{allowed, target_place};
+use grammar::{Cursor, Kind, Read, Refusal, Role};
+use messages::declared::{AROUND, find, parameter_fit};
+use scopes::scope::{SCOPE, has_send};
+use steps::{next_number, next_word};
+use wire::refused::Refused;
 
 // The word of a parameter of a message.
-fn read_word(request: &[u8], around: &[u32; AROUND], x: usize, c: Cursor) -> Step
-    ensures { result ≡ parameter_in around.now x request.now c }
-{
-    match next_word(request, c) {
-        WordStep::Is(i, after) => known(
-            Refusal::NoParameter,
-            parameter_fit(around, x, i),
-            c.at,
-            after,
-        ),
-        WordStep::Refused(r, p) => Step::Refused(r, p),
-    }
-}
-
-// The flag word after a parameter of a kind, of the reference whose code stands at a place.
-fn read_flag(
+pub(crate) fn read_word(
     request: &[u8],
     around: &[u32; AROUND],
     x: usize,
-    fit: Fit,
+    c: Cursor,
+) -> Read<Option<Kind>>
+    ensures { result ≡ parameter_in around.now x request.now c }
+{
+    let (i, after) = next_word(request, c)?;
+    let fit = parameter_fit(around, x, i);
+    if fit.is_none() {
+        return Err(Refused::new(Refusal::NoParameter, c.at));
+    }
+    Ok((fit, after))
+}
+
+// The flag word after a parameter of a kind, of the reference whose code stands at a place.
+#[tactic(auto, unfolding(crate::specs::Promises::flag_in))]
+pub(crate) fn read_flag(
+    request: &[u8],
+    around: &[u32; AROUND],
+    x: usize,
+    fit: Option<Kind>,
     at: usize,
     c: Cursor,
-) -> Step
+) -> Read<Option<Kind>>
     ensures { result ≡ flag_in around.now x fit at request.now c }
 {
-    match read_word(request, around, x, c) {
-        Step::Next(flag, after) => match flag {
-            Fit::Number(_) => Step::Next(fit, after),
-            Fit::Text => Step::Refused(Refusal::Unfit, at),
-            Fit::Date => Step::Refused(Refusal::Unfit, at),
-            Fit::NoKind => Step::Refused(Refusal::Unfit, at),
-        },
-        Step::Refused(r, p) => Step::Refused(r, p),
+    match read_word(request, around, x, c)? {
+        (Some(Kind::Number(_)), after) => Ok((fit, after)),
+        _ => Err(Refused::new(Refusal::Unfit, at)),
     }
 }
 
-// A parameter after its code, which stands at a place: its message, its word, and a flag word if it has one. It is the same beside any
-// dictionary.
-pub(crate) fn read_parameter(
+// The message of a parameter after its code: its index. It is the same beside any dictionary, with a flag or without.
+pub(crate) fn read_message(
     request: &[u8],
     around: &[u32; AROUND],
     scope: &[u16; SCOPE],
     role: Role,
-    flagged: bool,
-    at: usize,
     c: Cursor,
-) -> Step
-    ensures { (d : List ℕ) → result ≡ reference_step (environment_of d around.now) (scope_of d scope.now) role at
-        (parameter_code flagged) request.now c }
+) -> Read<usize>
+    ensures { (d : List ℕ) → ParameterMessage d around.now scope.now role request.now c result }
 {
-    let MessageStep::Is(m, first) = next_message(request, c) else {
-        return Step::Refused(Refusal::EndsEarly, request.len());
+    let (m, first) = next_number(request, c)?;
+    let Some(x) = find(around, m) else {
+        return Err(Refused::new(Refusal::BadMessage, c.at));
     };
-    let FoundMessage::At(x) = find(around, m) else {
-        return Step::Refused(Refusal::BadMessage, c.at);
-    };
-    if !parameter_allowed(scope, role, m) {
-        return Step::Refused(Refusal::Misplaced, target_place(role));
+    // a parameter target stands inside a send of its message
+    if !allowed(role, has_send(scope, m)) {
+        return Err(Refused::new(Refusal::Misplaced, target_place(role)));
     }
-    match read_word(request, around, x, first) {
-        Step::Next(fit, second) => {
-            if flagged {
-                read_flag(request, around, x, fit, at, second)
-            } else {
-                Step::Next(fit, second)
-            }
-        }
-        Step::Refused(r, p) => Step::Refused(r, p),
-    }
+    Ok((x, first))
 }

@@ -10,7 +10,7 @@ use borrow.Author.Tests.{lt-ltb, le-ltb}
 use Rattle.wire.specs.Words.{word_at}
 use Rattle.dictionary.specs.Dictionary.{Relation}
 use Rattle.dictionary.specs.Internal.Walk.{relation_at}
-use Rattle.records.specs.declared.proper.RunAnswer.TheVariants.{AsDue, WrongAt}
+use Rattle.std.specs.Prelude.{Ok, Err}
 use Rattle.records.specs.Runs.{records_held, proper_run, runs}
 use Rattle.records.specs.Internal.Answers.{run_answer, held_within}
 use Rattle.records.proofs.RunLaws.{run-count}
@@ -44,7 +44,7 @@ module _ (d s : List ℕ) (rows from : ℕ) (t₀ : List ℕ) where
       more = omega arith
 
       -- a run that is not proper
-      pub check-wrong : (b : Bool) → b ≡ proper_run (relation_at d r) s p → b ≡ false → Checked d s (rows - from) from t₀ t (WrongAt p)
+      pub check-wrong : (b : Bool) → b ≡ proper_run (relation_at d r) s p → b ≡ false → Checked d s (rows - from) from t₀ t (Err p)
       unfolding row_relations runs filled
       check-wrong b u z =
           let e = sym u ∙ z in
@@ -73,13 +73,13 @@ module _ (d s : List ℕ) (rows from : ℕ) (t₀ : List ℕ) where
           }
 
     -- bytes after the last run
-    pub check-more : rows ≤ row → p < length s → Checked d s (rows - from) from t₀ t (WrongAt p)
+    pub check-more : rows ≤ row → p < length s → Checked d s (rows - from) from t₀ t (Err p)
     unfolding row_relations runs filled
     check-more h l =
         let z : rows - row ≡ 0 = omega arith in
         record { answer = rw (f.answered, z, lt-ltb p (length s) l); table_filled = rw (f.filling, z) }
 
-    pub check-due : rows ≤ row → length s ≤ p → Checked d s (rows - from) from t₀ t AsDue
+    pub check-due : rows ≤ row → length s ≤ p → Checked d s (rows - from) from t₀ t (Ok tt)
     unfolding row_relations runs filled
     check-due h l =
         let z : rows - row ≡ 0 = omega arith in

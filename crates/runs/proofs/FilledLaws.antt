@@ -10,8 +10,7 @@ use Rattle.wire.specs.Limits.{max_contexts}
 use Rattle.wire.specs.Words.{word_at}
 use Rattle.dictionary.specs.Dictionary.{Relation}
 use Rattle.dictionary.specs.Internal.Walk.{relation_at}
-use Rattle.records.specs.declared.proper.RunAnswer.{RunAnswer}
-use Rattle.records.specs.declared.proper.RunAnswer.TheVariants.{AsDue}
+use Rattle.std.specs.Prelude.{Result, Ok}
 use Rattle.records.specs.Record.{Run, as_due, wrong_at, next_record}
 use Rattle.records.specs.Runs.{records_held, proper_run, runs}
 use Rattle.records.specs.Internal.Answers.{run_answer}
@@ -173,14 +172,14 @@ module _ (d t : List ℕ) (outer bs : List Binding) (to : ℕ) (count : to ≡ l
 
 -- ---- the answer
 
-pub as-due : (x : Run) → AsDue ≡ run_answer x → x ≡ as_due
+pub as-due : (x : Run) → Ok tt ≡ run_answer x → x ≡ as_due
 as-due as_due e = refl
 as-due (wrong_at p) e = absurd (let z : ◌≡◌ {A = ℕ} 0 1 = cc in omega (arith, z))
 
 -- where the runs of the table's rows are found as due, it is that of the bindings with their runs
 pub checked-table : (d s : List ℕ) (outer bs : List Binding) (to : ℕ) → to ≡ length outer + length bs → to ≤ max_contexts →
-    (rest t t' : List ℕ) → t ≡ binding_rows (outer ++ bs) ++ rest → (r : RunAnswer) →
-    Checked d s (min to max_contexts - length outer) (length outer) t t' r → r ≡ AsDue →
+    (rest t t' : List ℕ) → t ≡ binding_rows (outer ++ bs) ++ rest → (r : Result (Unit {0}) ℕ) →
+    Checked d s (min to max_contexts - length outer) (length outer) t t' r → r ≡ Ok tt →
     (runs (relations_of d bs) s 0 ≡ as_due) × (t' ≡ binding_rows (outer ++ filled_bindings d s 0 bs) ++ rest)
 checked-table d s outer bs to count few rest t t' is r checked e =
     let same = table-relations d outer bs to count few rest t is in

@@ -48,7 +48,7 @@ module _ {S : Type 0} (run : ℕ → S → S) where
 
 -- a scan at a place, with so many due, so many rows, the row it is in, and its table
 abbrev pub seen : ℕ → ℕ → ℕ → ℕ → List ℕ → State
-seen p k r w t = state_of (record { place = p; due = k; rows = r; within = w }) t
+seen p k r w t = state_of (record { pass = record { place = p; due = k }; rows = r; within = w }) t
 
 module _ (d s : List ℕ) where
   -- a step, where something is due

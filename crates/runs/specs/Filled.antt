@@ -1,10 +1,9 @@
 -- Rows that get their runs.
-use Rattle.std.specs.Prelude.{ℕ, zero, suc, ◌+◌, ◌*◌, ◌≡◌, cond, List, [], ◌∷◌, map, set}
+use Rattle.std.specs.Prelude.{ℕ, zero, suc, ◌+◌, ◌*◌, ◌≡◌, cond, List, [], ◌∷◌, map, set, Result}
 use Rattle.wire.specs.Words.{word_at}
 use Rattle.wire.specs.Entries.{entry_body}
 use Rattle.dictionary.specs.Dictionary.{Relation}
 use Rattle.dictionary.specs.Internal.Walk.{relation_at}
-use Rattle.records.specs.declared.proper.RunAnswer.{RunAnswer}
 use Rattle.records.specs.Runs.{records_held, proper_run, runs}
 use Rattle.records.specs.Internal.Answers.{run_answer}
 use Rattle.surroundings.specs.Bindings.{Binding, cell, binding_row_numbers, binding_relation, binding_first, binding_count}
@@ -30,7 +29,7 @@ filled d s (suc n) row p t =
     (filled d s n (row + 1) (p + word_at s p) (with_run t row (p + entry_body) (records_held (relation_of_row d t row) (word_at s p)))) t
 
 -- the answer for the runs of n rows from a row on, and the table before and after
-pub record Checked (d s : List ℕ) (n row : ℕ) (t t' : List ℕ) (r : RunAnswer) : Type 0 where
+pub record Checked (d s : List ℕ) (n row : ℕ) (t t' : List ℕ) (r : Result (Unit {0}) ℕ) : Type 0 where
   pub answer : r ≡ run_answer (runs (row_relations d t n row) s 0)
   pub table_filled : t' ≡ filled d s n row 0 t
 

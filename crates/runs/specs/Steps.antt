@@ -17,7 +17,7 @@ use Rattle.runs.specs.declared.forms.Form.TheVariants.{Plain, Field, Literal, So
 use Rattle.runs.specs.declared.scan.Scan.{Scan}
 use Rattle.runs.specs.declared.stream.Opened.{Opened}
 use Rattle.runs.specs.Forms.{form_of, literal_length}
-use Rattle.runs.specs.Passes.{passed_by}
+use Rattle.runs.specs.Passes.{pass_at, on, passed_by}
 
 -- ---- the stream of an any, a unique or a statistic
 
@@ -49,11 +49,11 @@ state_of x t = record { scan = x; table = t }
 
 -- on to a place, with so many due instead of one
 abbrev pub moved : Scan → ℕ → ℕ → Scan
-moved x q more = record { place = q; due = x.due - 1 + more; rows = x.rows; within = x.within }
+moved x q more = record { pass = on x.pass q more; rows = x.rows; within = x.within }
 
 -- nothing more is due
 abbrev pub stopped : Scan → Scan
-stopped x = record { place = x.place; due = 0; rows = x.rows; within = x.within }
+stopped x = record { pass = pass_at x.pass.place 0; rows = x.rows; within = x.within }
 
 -- past a code that writes nothing
 abbrev pub past : State → ℕ → ℕ → State
@@ -67,14 +67,14 @@ open_row p o within more = p ∷ o.number ∷ o.relation ∷ 0 ∷ 0 ∷ within 
 abbrev pub opened : State → Opened → ℕ → State
 opened x o more =
     record {
-      scan = record { place = o.after; due = x.scan.due + more; rows = x.scan.rows + 1; within = x.scan.rows };
-      table = sets x.table (x.scan.rows * binding_row_numbers) (open_row x.scan.place o x.scan.within more);
+      scan = record { pass = pass_at o.after (x.scan.pass.due + more); rows = x.scan.rows + 1; within = x.scan.rows };
+      table = sets x.table (x.scan.rows * binding_row_numbers) (open_row x.scan.pass.place o x.scan.within more);
     }
 
 -- if there is room for a row
 unfoldable pub opened_here : List ℕ → List ℕ → State → ℕ → State
 opened_here d s x more =
-    cond (ltb x.scan.rows max_contexts) (opened x (opened_at d s (x.scan.place + 3)) more) (state_of (stopped x.scan) x.table)
+    cond (ltb x.scan.rows max_contexts) (opened x (opened_at d s (x.scan.pass.place + 3)) more) (state_of (stopped x.scan) x.table)
 
 -- the condition of an rse, the first if there are more
 abbrev pub such_noted : List ℕ → ℕ → ℕ → List ℕ
@@ -90,39 +90,38 @@ abbrev pub closed : List ℕ → State → State
 closed s x =
     record {
       scan = record {
-        place = x.scan.place + 1;
-        due = x.scan.due - 1;
+        pass = pass_at (x.scan.pass.place + 1) (x.scan.pass.due - 1);
         rows = x.scan.rows;
         within = cell x.table x.scan.within binding_end;
       };
-      table = closed_row s x.table x.scan.within (x.scan.place + 1);
+      table = closed_row s x.table x.scan.within (x.scan.pass.place + 1);
     }
 
 -- by the form of the code at the scan's place
 unfoldable pub step_by : List ℕ → List ℕ → State → Form → State
-step_by d s x (Plain n more) = past x (x.scan.place + n) more
-step_by d s x Field = past x (x.scan.place + 3 + byte_at s (x.scan.place + 2)) 0
-step_by d s x Literal = past x (x.scan.place + 1 + literal_length s (x.scan.place + 1)) 0
-step_by d s x Sort = past x (passed_by s (x.scan.place + 2) (byte_at s (x.scan.place + 1))) 1
+step_by d s x (Plain n more) = past x (x.scan.pass.place + n) more
+step_by d s x Field = past x (x.scan.pass.place + 3 + byte_at s (x.scan.pass.place + 2)) 0
+step_by d s x Literal = past x (x.scan.pass.place + 1 + literal_length s (x.scan.pass.place + 1)) 0
+step_by d s x Sort = past x (passed_by s (x.scan.pass.place + 2) (byte_at s (x.scan.pass.place + 1))) 1
 step_by d s x (Open more) = opened_here d s x more
 step_by d s x Such =
-    state_of (moved x.scan (x.scan.place + 1) 2) (such_noted x.table x.scan.within (x.scan.place + 1))
+    state_of (moved x.scan (x.scan.pass.place + 1) 2) (such_noted x.table x.scan.within (x.scan.pass.place + 1))
 step_by d s x Close = closed s x
 step_by d s x Other = state_of (stopped x.scan) x.table
 
 unfoldable pub stepped : List ℕ → List ℕ → State → State
-stepped d s x = step_by d s x (form_of (byte_at s x.scan.place))
+stepped d s x = step_by d s x (form_of (byte_at s x.scan.pass.place))
 
 -- ---- the scan
 
 -- n steps at most, as long as something is due
 unfoldable pub steps : List ℕ → List ℕ → ℕ → State → State
 steps d s zero x = x
-steps d s (suc n) x = cond (eqb x.scan.due 0) x (steps d s n (stepped d s x))
+steps d s (suc n) x = cond (eqb x.scan.pass.due 0) x (steps d s n (stepped d s x))
 
 -- a boolean or a value is due at a place; rows are written from a row on, and the place is in no rse
 abbrev pub start : ℕ → ℕ → List ℕ → State
-start p row t = state_of (record { place = p; due = 1; rows = row; within = max_contexts }) t
+start p row t = state_of (record { pass = pass_at p 1; rows = row; within = max_contexts }) t
 
 -- a step takes a byte or more; a request that is too long is not looked at
 unfoldable pub found : List ℕ → List ℕ → ℕ → ℕ → List ℕ → State

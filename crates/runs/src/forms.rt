@@ -2,7 +2,7 @@
 ghost use Rattle.std.specs.Prelude.{◌≡◌, ◌≤◌};
 ghost use Rattle.runs.specs.Forms.{form_of, literal_length};
 
-use classes::{LiteralClass, literal_class};
+use classes::Code;
 use dictionary::format::width_bytes;
 use wire::blr;
 use wire::bytes::{byte_at, word_on};
@@ -22,6 +22,7 @@ pub(crate) enum Form {
     Other,
 }
 
+#[tactic(auto, unfolding(crate::specs::Forms::form_of, crate::specs::Forms::form_in))]
 pub(crate) fn form_of(code: u8) -> Form
     ensures { result ≡ form_of code }
 {
@@ -59,16 +60,13 @@ pub(crate) fn form_of(code: u8) -> Form
 }
 
 // The bytes of a literal whose type stands at a place.
+#[tactic(auto, unfolding(crate::specs::Forms::literal_length))]
 pub(crate) fn literal_length(s: &[u8], p: usize) -> usize
     ensures { (result ≡ literal_length s.now p) × (result ≤ 65538) }
 {
-    let class = literal_class(byte_at(s, p));
-    match class {
-        LiteralClass::Due(t) => match t {
-            LiteralType::NumberLiteral(w) => 2 + width_bytes(w),
-            LiteralType::TextLiteral => 3 + word_on(s, p, 1) as usize,
-        },
-        LiteralClass::LeftOut => 1,
-        LiteralClass::Foreign => 1,
+    match LiteralType::of(byte_at(s, p)) {
+        Ok(LiteralType::NumberLiteral(w)) => 2 + width_bytes(w),
+        Ok(LiteralType::TextLiteral) => 3 + word_on(s, p, 1) as usize,
+        Err(_) => 1,
     }
 }

@@ -14,50 +14,50 @@ pub(crate) struct Pass {
     pub(crate) due: usize,
 }
 
-// On to a place, with so many due instead of one.
-fn go(pass: Pass, place: usize, more: usize) -> Pass
-    requires { (0 < pass.due) × (pass.due ≤ 8589934592) × (more ≤ 256) × (place ≤ 131080) }
-    ensures { (result ≡ on pass place more) × (result.due ≤ pass.due + 256) × (result.place ≤ 131080) }
-{
-    Pass {
-        place,
-        due: pass.due - 1 + more,
+impl Pass {
+    // On to a place, with so many due instead of one.
+    pub(crate) fn on(self, place: usize, more: usize) -> Pass
+        requires { (0 < self.due) × (self.due ≤ 8589934592) × (more ≤ 256) × (place ≤ 131080) }
+        ensures { (result ≡ on self place more) × (result.due ≤ self.due + 256) × (result.place ≤ 131080) }
+    {
+        Pass {
+            place,
+            due: self.due - 1 + more,
+        }
+    }
+
+    // Nothing more is due.
+    pub(crate) fn halt(self) -> Pass
+        ensures { result ≡ pass_at self.place 0 }
+    {
+        Pass { due: 0, ..self }
+    }
+
+    // Kept: the length is asked of four functions; a struct with that fact would be made for one call of find_runs (no plainer).
+    // On over the code at the place.
+    #[tactic(auto, unfolding(crate::specs::Passes::passed, crate::specs::Passes::pass_by), using(crate::proofs::PassLaws::passed_ended))]
+    pub(crate) fn over_code(self, request: &[u8]) -> Pass
+        requires { (length request.now ≤ max_request_bytes) × (0 < self.due) × (self.due ≤ 8589934592) × (self.place ≤ 131080) }
+        ensures { (result ≡ passed request.now self) × (result.due ≤ self.due + 256) × (result.place ≤ 131080) }
+    {
+        let p = self.place;
+        if request.len() <= p {
+            return self.halt();
+        }
+        match form_of(request[p]) {
+            Form::Plain(n, more) => self.on(p + n as usize, more as usize),
+            Form::Field => self.on(p + 3 + byte_on(request, p, 2) as usize, 0),
+            Form::Literal => self.on(p + 1 + literal_length(request, p + 1), 0),
+            Form::Sort => self.on(p + 2, byte_on(request, p, 1) as usize + 1),
+            Form::Open(more) => self.on(after_stream(request, p + 3), more as usize + 1),
+            Form::Such => self.on(p + 1, 2),
+            Form::Close => self.on(p + 1, 0),
+            Form::Other => self.halt(),
+        }
     }
 }
 
-// Nothing more is due.
-fn halt(pass: Pass) -> Pass
-    requires { pass.place ≤ 131080 }
-    ensures { (result ≡ pass_at pass.place 0) × (result.due ≤ pass.due + 256) × (result.place ≤ 131080) }
-{
-    Pass {
-        place: pass.place,
-        due: 0,
-    }
-}
-
-// A step over the code at the place.
-fn pass_on(request: &[u8], pass: Pass) -> Pass
-    requires { (length request.now ≤ max_request_bytes) × (0 < pass.due) × (pass.due ≤ 8589934592) × (pass.place ≤ 131080) }
-    ensures { (result ≡ passed request.now pass) × (result.due ≤ pass.due + 256) × (result.place ≤ 131080) }
-{
-    let p = pass.place;
-    if request.len() <= p {
-        return halt(pass);
-    }
-    let form = form_of(request[p]);
-    match form {
-        Form::Plain(n, more) => go(pass, p + n as usize, more as usize),
-        Form::Field => go(pass, p + 3 + byte_on(request, p, 2) as usize, 0),
-        Form::Literal => go(pass, p + 1 + literal_length(request, p + 1), 0),
-        Form::Sort => go(pass, p + 2, byte_on(request, p, 1) as usize + 1),
-        Form::Open(more) => go(pass, after_stream(request, p + 3), more as usize + 1),
-        Form::Such => go(pass, p + 1, 2),
-        Form::Close => go(pass, p + 1, 0),
-        Form::Other => halt(pass),
-    }
-}
-
+// Kept: as above.
 // The place after so many that stand from a place on.
 pub(crate) fn pass_over(request: &[u8], at: usize, count: usize) -> usize
     requires { (length request.now ≤ max_request_bytes) × (at ≤ 131080) × (count ≤ 4294967295) }
@@ -67,13 +67,11 @@ pub(crate) fn pass_over(request: &[u8], at: usize, count: usize) -> usize
         place: at,
         due: count,
     };
-    let mut left = request.len();
-    while 0 < left {
+    for _ in 0..request.len() {
         if pass.due == 0 {
-            return pass.place;
+            break;
         }
-        pass = pass_on(request, pass);
-        left -= 1;
+        pass = pass.over_code(request);
     }
     pass.place
 }

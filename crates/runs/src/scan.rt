@@ -3,24 +3,21 @@ ghost use Rattle.std.specs.Prelude.{◌≡◌, ◌+◌, ◌*◌, ◌≤◌, ◌<
 ghost use Rattle.std.proofs.lemmas.List.Edits.{sets};
 ghost use Rattle.wire.specs.Limits.{max_contexts, max_request_bytes};
 ghost use Rattle.surroundings.specs.Bindings.{binding_row_numbers};
-ghost use Rattle.runs.specs.Steps.{state_of, moved, stopped, open_row, opened_here, such_noted, closed, stepped, found};
+ghost use Rattle.runs.specs.Steps.{state_of, open_row, opened_here, such_noted, closed, stepped, found};
 
-use crate::forms::{Form, form_of, literal_length};
-use crate::pass::pass_over;
+use crate::forms::{Form, form_of};
+use crate::pass::{Pass, pass_over};
 use crate::stream::{Opened, opened_at};
-use surroundings::bindings::{
-    BINDING_AFTER, BINDING_END, BINDING_HALF, BINDING_ROW, BINDING_SUCH, put_half,
-};
+use surroundings::bindings::{BINDING_AFTER, BINDING_END, BINDING_ROW, BINDING_SUCH, put_numbers};
 use wire::bytes::byte_on;
 use wire::limits::{MAX_CONTEXTS, MAX_REQUEST_BYTES};
 use wire::table::{number_at, put};
 
-// Where a scan is: its place; how many values, booleans and clauses are due there; how many rows there are; and the row whose
-// rse the place is in, the most that there can be where it is in none.
+// Where a scan is: its place and what is due there; how many rows there are; and the row whose rse the place is in, the most that there can
+// be where it is in none.
 #[derive(Clone, Copy)]
 pub(crate) struct Scan {
-    pub(crate) place: usize,
-    pub(crate) due: usize,
+    pub(crate) pass: Pass,
     pub(crate) rows: usize,
     pub(crate) within: u32,
 }
@@ -28,77 +25,65 @@ pub(crate) struct Scan {
 // No row: a place that is in no rse.
 const NO_ROW: u32 = 32;
 
-// Nothing more is due.
-fn stop(scan: Scan) -> Scan
-    ensures { result ≡ stopped scan }
-{
-    Scan {
-        place: scan.place,
-        due: 0,
-        rows: scan.rows,
-        within: scan.within,
-    }
-}
-
-// On to a place, with so many due instead of one.
-fn go_on(scan: Scan, place: usize, more: usize) -> Scan
-    requires { (0 < scan.due) × (scan.due ≤ 4294967296) × (more ≤ 256) }
-    ensures { (result ≡ moved scan place more) × (result.due ≤ scan.due + 256) }
-{
-    Scan {
-        place,
-        due: scan.due - 1 + more,
-        rows: scan.rows,
-        within: scan.within,
-    }
-}
-
+// Kept: the rows of bindings are numbers of a lent table (surroundings, bindings.rt), here and below.
 // A row as it is opened.
 fn put_row(bindings: &mut [u32], row: usize, place: u32, opened: Opened, within: u32, more: u8)
     requires { row < max_contexts }
     ensures { bindings.new ≡ sets bindings.old (row * binding_row_numbers) (open_row place opened within more) }
 {
     let at = (row * BINDING_ROW) as u32;
-    put_half(
-        bindings,
-        at,
+    let number = u32::from(opened.number);
+    let numbers = [
         place,
-        opened.number as u32,
+        number,
         opened.relation,
         0,
         0,
-    );
-    put_half(bindings, at + BINDING_HALF, within, 0, 0, more as u32, 0);
+        within,
+        0,
+        0,
+        u32::from(more),
+        0,
+    ];
+    put_numbers(bindings, at, &numbers);
 }
 
+// Kept: as above.
 // An any, a unique or a statistic, with so many numbers due after its rse.
+#[tactic(auto, unfolding(crate::specs::Steps::opened_here))]
 fn open_row(request: &[u8], dictionary: &[u8], bindings: &mut [u32], scan: Scan, more: u8) -> Scan
-    requires { (scan.place ≤ max_request_bytes) × (scan.due ≤ 4294967296) }
+    requires { (scan.pass.place ≤ max_request_bytes) × (scan.pass.due ≤ 4294967296) }
     ensures { (result ≡ (opened_here dictionary.now request.now (state_of scan bindings.old) more).scan) ×
         (bindings.new ≡
         (opened_here dictionary.now request.now (state_of scan bindings.old) more).table) ×
-        (result.due ≤ scan.due + 256) }
+        (result.pass.due ≤ scan.pass.due + 256) }
 {
     if MAX_CONTEXTS <= scan.rows {
-        return stop(scan);
+        return Scan {
+            pass: scan.pass.halt(),
+            ..scan
+        };
     }
-    let opened = opened_at(request, dictionary, scan.place + 3);
+    let opened = opened_at(request, dictionary, scan.pass.place + 3);
     put_row(
         bindings,
         scan.rows,
-        scan.place as u32,
+        scan.pass.place as u32,
         opened,
         scan.within,
         more,
     );
     Scan {
-        place: opened.after,
-        due: scan.due + more as usize,
+        pass: Pass {
+            place: opened.after,
+            due: scan.pass.due + more as usize,
+        },
         rows: scan.rows + 1,
         within: scan.rows as u32,
     }
 }
 
+// Kept: as above.
 // The condition of an rse, the first if there are more.
 fn note_such(bindings: &mut [u32], within: u32, place: u32)
     ensures { bindings.new ≡ such_noted bindings.old within place }
@@ -109,57 +94,71 @@ fn note_such(bindings: &mut [u32], within: u32, place: u32)
     }
 }
 
+// Kept: as above; the length of the request is asked for as in pass.rt.
 // The end of an rse: back in the one that it stands in. Its row ends after the numbers that are due.
 fn close_row(request: &[u8], bindings: &mut [u32], scan: Scan) -> Scan
-    requires { (length request.now ≤ max_request_bytes) × (scan.place < max_request_bytes) × (0 < scan.due) }
+    requires { (length request.now ≤ max_request_bytes) × (scan.pass.place < max_request_bytes) × (0 < scan.pass.due) }
     ensures { (result ≡ (closed request.now (state_of scan bindings.old)).scan) ×
         (bindings.new ≡ (closed request.now (state_of scan bindings.old)).table) }
 {
     let at = scan.within as usize * BINDING_ROW;
     let outer = number_at(bindings, at + BINDING_END);
     let more = number_at(bindings, at + BINDING_AFTER) as usize;
-    let end = pass_over(request, scan.place + 1, more);
+    let end = pass_over(request, scan.pass.place + 1, more);
     put(bindings, at + BINDING_END, end as u32);
-    put(bindings, at + BINDING_AFTER, scan.place as u32 + 1);
+    put(bindings, at + BINDING_AFTER, scan.pass.place as u32 + 1);
     Scan {
-        place: scan.place + 1,
-        due: scan.due - 1,
-        rows: scan.rows,
+        pass: Pass {
+            place: scan.pass.place + 1,
+            due: scan.pass.due - 1,
+        },
         within: outer,
+        ..scan
     }
 }
 
+// Kept: as above.
 // A step over the code at a scan's place.
+#[tactic(auto, unfolding(crate::specs::Steps::stepped, crate::specs::Steps::step_by, crate::specs::Passes::passed, crate::specs::Passes::pass_by), using(crate::proofs::StepLaws::stepped_ended))]
 fn step(request: &[u8], dictionary: &[u8], bindings: &mut [u32], scan: Scan) -> Scan
-    requires { (length request.now ≤ max_request_bytes) × (0 < scan.due) × (scan.due ≤ 4294967296) }
+    requires { (length request.now ≤ max_request_bytes) × (0 < scan.pass.due) × (scan.pass.due ≤ 4294967296) }
     ensures { (result ≡ (stepped dictionary.now request.now (state_of scan bindings.old)).scan) ×
         (bindings.new ≡
         (stepped dictionary.now request.now (state_of scan bindings.old)).table) ×
-        (result.due ≤ scan.due + 256) }
+        (result.pass.due ≤ scan.pass.due + 256) }
 {
-    let p = scan.place;
+    let p = scan.pass.place;
     if request.len() <= p {
-        return stop(scan);
+        return Scan {
+            pass: scan.pass.halt(),
+            ..scan
+        };
     }
-    let form = form_of(request[p]);
-    match form {
-        Form::Plain(n, more) => go_on(scan, p + n as usize, more as usize),
-        Form::Field => go_on(scan, p + 3 + byte_on(request, p, 2) as usize, 0),
-        Form::Literal => go_on(scan, p + 1 + literal_length(request, p + 1), 0),
+    match form_of(request[p]) {
+        Form::Plain(_, _) | Form::Field | Form::Literal | Form::Other => Scan {
+            pass: scan.pass.over_code(request),
+            ..scan
+        },
         Form::Sort => {
             let keys = byte_on(request, p, 1) as usize;
-            go_on(scan, pass_over(request, p + 2, keys), 1)
+            Scan {
+                pass: scan.pass.on(pass_over(request, p + 2, keys), 1),
+                ..scan
+            }
         }
         Form::Open(more) => open_row(request, dictionary, bindings, scan, more),
         Form::Such => {
             note_such(bindings, scan.within, p as u32 + 1);
-            go_on(scan, p + 1, 2)
+            Scan {
+                pass: scan.pass.on(p + 1, 2),
+                ..scan
+            }
         }
         Form::Close => close_row(request, bindings, scan),
-        Form::Other => stop(scan),
     }
 }
 
+// Kept: as above.
 // The rows of the any, unique and statistic codes of the boolean or the value at a place, from a row on; the number of rows in all.
 pub fn find_runs(
     request: &[u8],
@@ -175,18 +174,15 @@ pub fn find_runs(
         return from;
     }
     let mut scan = Scan {
-        place: at,
-        due: 1,
+        pass: Pass { place: at, due: 1 },
         rows: from,
         within: NO_ROW,
     };
-    let mut left = request.len();
-    while 0 < left {
-        if scan.due == 0 {
-            return scan.rows;
+    for _ in 0..request.len() {
+        if scan.pass.due == 0 {
+            break;
         }
         scan = step(request, dictionary, bindings, scan);
-        left -= 1;
     }
     scan.rows
 }

@@ -4,4 +4,3 @@ pub mod Held
 pub mod Scopes
 pub mod Rests
 pub mod Scales
-pub mod Fits

@@ -10,22 +10,21 @@ use borrow.Author.Tests.{lt-ltb}
 use lib.Dec.{eqb}
 use lib.ListN.{length, take, get_or, replicate, length-take}
 use lib.Seq.{get_or-take}
+use Rattle.std.specs.Prelude.{Some, None}
+use Rattle.std.specs.Prelude as std
 use Rattle.wire.specs.Limits.{max_depth, max_contexts}
+use Rattle.wire.specs.Options.{option_of}
 use Rattle.wire.specs.Lists.{find, index_of, among, is_some}
 use Rattle.dictionary.specs.Internal.Walk.{relation_at}
-use Rattle.grammar.specs.Kind.{Kind}
-use Rattle.grammar.specs.Kind as Kind
-use Rattle.grammar.specs.declared.Fit.{Fit}
-use Rattle.grammar.specs.declared.Fit.TheVariants as Fit
+use Rattle.grammar.specs.declared.Kind.{Kind}
 use Rattle.grammar.specs.Internal.Steps.{fit_of, kind_in}
 use Rattle.grammar.specs.Environment as Grammar
 use Rattle.grammar.specs.Scope.{in_scope, of_for, updating, field_target, parameter_target, is_number}
 use Rattle.scopes.specs.declared.scope.Context.{Context}
-use Rattle.scopes.specs.declared.scope.Found.TheVariants.{At, Nothing}
 use Rattle.scopes.specs.Internal.Columns.{context_count, send_count, label_count, target_at}
 use Rattle.scopes.specs.Internal.Columns.{sends_from, labels_from, relations_from, scope_numbers}
 use Rattle.scopes.specs.Scopes.{each_from, context_in, contexts_held, contexts_in, with_context}
-use Rattle.scopes.specs.Scopes.{found_answer, found_of, relation_place, is_of_for}
+use Rattle.scopes.specs.Scopes.{found_of, relation_place, is_of_for}
 use Rattle.scopes.specs.Scopes.{sends_held, send_numbers, with_send, labels_held, label_numbers, with_label}
 use Rattle.scopes.specs.Scopes.{updating_in, is_target, with_target, context_of, scope_of}
 use Rattle.scopes.proofs.Runs.{each-length, each_at}
@@ -37,17 +36,13 @@ pub use Rattle.scopes.proofs.Held.{with-context-length, with-context-count, with
 
 -- ---- kinds as the code has them
 
-pub fit-kind : (f : Fit) → fit_of (kind_in f) ≡ f
-fit-kind (Fit.Number s) = refl
-fit-kind Fit.Text = refl
-fit-kind Fit.Date = refl
-fit-kind Fit.NoKind = refl
+pub fit-kind : (f : std.Option Kind) → fit_of (kind_in f) ≡ f
+fit-kind None = refl
+fit-kind (Some k) = refl
 
 pub kind-fit : (k : Option Kind) → kind_in (fit_of k) ≡ k
 kind-fit none = refl
-kind-fit (some (Kind.Number s)) = refl
-kind-fit (some Kind.Text) = refl
-kind-fit (some Kind.Date) = refl
+kind-fit (some k) = refl
 
 -- ---- lengths and counts
 
@@ -215,11 +210,11 @@ index-within test (x ∷ l) i e = by (test x) (index_of test l) (index-within te
     by false none f e = let z : ◌≡◌ {A = ℕ} 0 1 = cc in absurd (omega arith)
     by false (some k) f e = let z : i ≡ suc k = cc in omega (arith, f k refl)
 
-found_at : (o : Option ℕ) (i : ℕ) → found_answer o ≡ At i → o ≡ some i
+found_at : (o : Option ℕ) (i : ℕ) → option_of o ≡ Some i → o ≡ some i
 found_at none i e = let z : ◌≡◌ {A = ℕ} 0 1 = cc in absurd (omega arith)
 found_at (some k) i e = cc
 
-found_none : (o : Option ℕ) → found_answer o ≡ Nothing → o ≡ none
+found_none : (o : Option ℕ) → option_of o ≡ None → o ≡ none
 found_none none e = refl
 found_none (some k) e = let z : ◌≡◌ {A = ℕ} 0 1 = cc in absurd (omega arith)
 
@@ -235,7 +230,7 @@ module _ (d a : List ℕ) (n : ℕ) where
       ap (Option.map (context_of d)) (find-index (λ x. eqb x.number.0 n) (context_in a 0) (contexts_in a)) ∙
       ap (λ p. Option.map (context_of d) (Option.map (λ i. get_or (contexts_in a) i (context_in a 0)) p)) e
 
-  module _ (i : ℕ) (e : found_of (contexts_in a) n ≡ At i) where
+  module _ (i : ℕ) (e : option_of (found_of (contexts_in a) n) ≡ Some i) where
     index_below : i < length (contexts_in a)
     index_below = index-within (λ x. eqb x.number.0 n) (contexts_in a) i (found_at index i e)
 
@@ -271,7 +266,7 @@ module _ (d a : List ℕ) (n : ℕ) where
     unfolding Grammar.relation_of_context
     is-relation = rw (found-is, lt-ltb i max_contexts found_within)
 
-  module _ (e : found_of (contexts_in a) n ≡ Nothing) where
+  module _ (e : option_of (found_of (contexts_in a) n) ≡ None) where
     pub found_nothing : Grammar.context_of (scope_of d a) n ≡ none
     found_nothing = context-found none (found_none index e)
 

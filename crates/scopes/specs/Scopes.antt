@@ -6,11 +6,7 @@ use Rattle.wire.specs.Limits.{max_depth, max_contexts}
 use Rattle.wire.specs.Lists.{index_of}
 use Rattle.dictionary.specs.Internal.Walk.{relation_at}
 use Rattle.grammar.specs.Environment as Grammar
-use Rattle.grammar.specs.declared.Fit.{Fit}
-use Rattle.grammar.specs.declared.Fit.TheVariants as Fit
 use Rattle.scopes.specs.declared.scope.Context.{Context}
-use Rattle.scopes.specs.declared.scope.Found.{Found}
-use Rattle.scopes.specs.declared.scope.Found.TheVariants.{At, Nothing}
 use Rattle.scopes.specs.Internal.Columns.{context_count, send_count, label_count, updating_at, target_at}
 use Rattle.scopes.specs.Internal.Columns.{numbers_from, openers_from, sends_from, labels_from, relations_from}
 
@@ -67,12 +63,9 @@ contexts_held a = get_or a context_count 0
 abbrev pub contexts_in : List ℕ → List Context
 contexts_in a = take (contexts_held a) (each_from (context_in a) 0 max_contexts)
 
-abbrev pub found_answer : Option ℕ → Found
-found_answer none = Nothing
-found_answer (some i) = At i
-
-abbrev pub found_of : List Context → ℕ → Found
-found_of xs n = found_answer (index_of (λ x. eqb x.number.0 n) xs)
+-- the index of the context of a number
+abbrev pub found_of : List Context → ℕ → Option ℕ
+found_of xs n = index_of (λ x. eqb x.number.0 n) xs
 
 -- of the context of an index: the place of its relation's entry, and whether a for opened it; past the last index nothing
 abbrev pub relation_place : List ℕ → ℕ → ℕ
@@ -114,11 +107,3 @@ scope_of d a =
       sends = send_numbers a;
       labels = label_numbers a;
     }
-
--- ---- a number for each kind, and 3 for none
-
-unfoldable pub rank_of : Fit → ℕ
-rank_of (Fit.Number s) = 0
-rank_of Fit.Text = 1
-rank_of Fit.Date = 2
-rank_of Fit.NoKind = 3

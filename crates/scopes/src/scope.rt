@@ -1,7 +1,8 @@
 // What is in scope at a place: a lent array of numbers, which stays as it is below; what opens a scope lends another.
-ghost use Rattle.std.specs.Prelude.{◌≡◌, ◌+◌, ◌<◌, ◌≤◌};
+ghost use Rattle.std.specs.Prelude.{◌≡◌, ◌+◌, ◌<◌, ◌≤◌, eqb, take};
 ghost use Rattle.wire.specs.Limits.{max_depth};
-ghost use Rattle.wire.specs.Lists as Lists;
+ghost use Rattle.wire.specs.Lists.{among, index_of};
+ghost use Rattle.wire.specs.Options.{option_of};
 ghost use Rattle.scopes.specs.Internal.Columns.{scope_numbers};
 ghost use Rattle.scopes.specs.Scopes.{contexts_in, found_of, relation_place, is_of_for, updating_in, is_target};
 ghost use Rattle.scopes.specs.Scopes.{numbers_at, send_numbers, label_numbers};
@@ -38,43 +39,29 @@ pub const SCOPE: usize = 165;
 
 // A context: the place of its relation's entry in the dictionary, its number, and the code of the statement that opened it: for, store or
 // modify.
-#[derive(Clone, Copy)]
+#[derive(Clone, Copy, PartialEq, Eq)]
 pub struct Context {
     pub relation: u16,
     pub number: ContextNumber,
     pub opener: u8,
 }
 
-// The index of the context of a number, or that none is in scope.
-#[derive(Clone, Copy)]
-pub enum Found {
-    At(usize),
-    Nothing,
+// The index of a number among the first so many of a column.
+fn position(column: &[u16], count: u16, n: u8) -> Option<usize>
+    ensures { result ≡ option_of (index_of (λ x. eqb x n) (take count column.now)) }
+{
+    let number = u16::from(n);
+    column
+        .iter()
+        .take(usize::from(count))
+        .position(|x| *x == number)
 }
 
-// A number of a scope as an index.
-fn wide(x: u16) -> usize
-    ensures { result ≡ x }
+// The index of the context of a number.
+pub fn find(scope: &[u16; SCOPE], n: ContextNumber) -> Option<usize>
+    ensures { result ≡ option_of (found_of (contexts_in scope.now) n.0) }
 {
-    x as usize
-}
-
-// The context of a number.
-pub fn find(scope: &[u16; SCOPE], n: ContextNumber) -> Found
-    ensures { result ≡ found_of (contexts_in scope.now) n.0 }
-{
-    let count = wide(scope[CONTEXT_COUNT]);
-    let mut i: usize = 0;
-    while i < MAX_CONTEXTS {
-        if i == count {
-            return Found::Nothing;
-        }
-        if scope[NUMBERS + i] == n.0 as u16 {
-            return Found::At(i);
-        }
-        i += 1;
-    }
-    Found::Nothing
+    position(&scope[NUMBERS..OPENERS], scope[CONTEXT_COUNT], n.0)
 }
 
 // The place of the relation's entry of the context of an index, as the scope has it.
@@ -92,18 +79,14 @@ pub fn relation_of(scope: &[u16; SCOPE], i: usize) -> u16
 pub fn relation_at(scope: &[u16; SCOPE], i: usize) -> usize
     ensures { result ≡ relation_place scope.now i }
 {
-    wide(relation_of(scope, i))
+    usize::from(relation_of(scope, i))
 }
 
 // Whether a for opened the context of an index.
 pub fn is_of_for(scope: &[u16; SCOPE], i: usize) -> bool
     ensures { result ≡ is_of_for scope.now i }
 {
-    if i < MAX_CONTEXTS {
-        scope[OPENERS + i] == FOR as u16
-    } else {
-        false
-    }
+    i < MAX_CONTEXTS && scope[OPENERS + i] == u16::from(FOR)
 }
 
 // Whether a store or a modify is around.
@@ -117,54 +100,31 @@ pub fn updating(scope: &[u16; SCOPE]) -> bool
 pub fn is_target(scope: &[u16; SCOPE], n: ContextNumber) -> bool
     ensures { result ≡ is_target scope.now n.0 }
 {
-    if updating(scope) {
-        scope[TARGET] == n.0 as u16
-    } else {
-        false
-    }
-}
-
-// Whether a number is among those from a place on that a column counts, 32 at most.
-fn among(scope: &[u16; SCOPE], counted: usize, start: usize, n: u8) -> bool
-    requires { (counted < scope_numbers) × (start + max_depth ≤ scope_numbers) }
-    ensures { result ≡ Lists.among n (numbers_at scope.now counted start) }
-{
-    let count = wide(scope[counted]);
-    let mut i: usize = 0;
-    while i < MAX_DEPTH {
-        if i == count {
-            return false;
-        }
-        if scope[start + i] == n as u16 {
-            return true;
-        }
-        i += 1;
-    }
-    false
+    updating(scope) && scope[TARGET] == u16::from(n.0)
 }
 
 // Whether a message is being sent.
 pub fn has_send(scope: &[u16; SCOPE], m: MessageNumber) -> bool
-    ensures { result ≡ Lists.among m.0 (send_numbers scope.now) }
+    ensures { result ≡ among m.0 (send_numbers scope.now) }
 {
-    among(scope, SEND_COUNT, SENDS, m.0)
+    position(&scope[SENDS..LABELS], scope[SEND_COUNT], m.0).is_some()
 }
 
 // Whether a label is around.
 pub fn has_label(scope: &[u16; SCOPE], n: LabelNumber) -> bool
-    ensures { result ≡ Lists.among n.0 (label_numbers scope.now) }
+    ensures { result ≡ among n.0 (label_numbers scope.now) }
 {
-    among(scope, LABEL_COUNT, LABELS, n.0)
+    position(&scope[LABELS..RELATIONS], scope[LABEL_COUNT], n.0).is_some()
 }
 
 // One context more; a full scope stays as it is.
 pub fn add_context(scope: &mut [u16; SCOPE], x: Context)
     ensures { scope.new ≡ with_context scope.old x }
 {
-    let count = wide(scope[CONTEXT_COUNT]);
+    let count = usize::from(scope[CONTEXT_COUNT]);
     if count < MAX_CONTEXTS {
-        scope[NUMBERS + count] = x.number.0 as u16;
-        scope[OPENERS + count] = x.opener as u16;
+        scope[NUMBERS + count] = u16::from(x.number.0);
+        scope[OPENERS + count] = u16::from(x.opener);
         scope[RELATIONS + count] = x.relation;
         scope[CONTEXT_COUNT] = count as u16 + 1;
     }
@@ -175,9 +135,9 @@ fn add(scope: &mut [u16; SCOPE], counted: usize, start: usize, n: u8)
     requires { (counted < scope_numbers) × (start + max_depth ≤ scope_numbers) }
     ensures { scope.new ≡ with_number scope.old counted start n }
 {
-    let count = wide(scope[counted]);
+    let count = usize::from(scope[counted]);
     if count < MAX_DEPTH {
-        scope[start + count] = n as u16;
+        scope[start + count] = u16::from(n);
         scope[counted] = count as u16 + 1;
     }
 }
@@ -201,5 +161,5 @@ pub fn set_target(scope: &mut [u16; SCOPE], n: ContextNumber)
     ensures { scope.new ≡ with_target scope.old n.0 }
 {
     scope[UPDATING] = 1;
-    scope[TARGET] = n.0 as u16;
+    scope[TARGET] = u16::from(n.0);
 }

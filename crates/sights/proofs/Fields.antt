@@ -17,8 +17,8 @@ use Rattle.dictionary.specs.Format.{Format, held, type_bytes, text_bytes}
 use Rattle.dictionary.specs.Dictionary.{Relation}
 use Rattle.dictionary.specs.Naming.{format_of}
 use Rattle.records.specs.Record.{field_count, offset_of, record_length, bit_at, reading_missing, presence_of, field_presence}
-use Rattle.records.specs.declared.missing.Presence.{Presence}
-use Rattle.records.specs.declared.missing.Presence.TheVariants.{There, Missing}
+use Rattle.std.specs.Prelude.{Option as Maybe, Some, None}
+use Rattle.records.specs.declared.missing.Cause.{Cause}
 use Rattle.records.proofs.Records.{shortest}
 use Rattle.meaning.specs.Data.{number, date}
 use Rattle.meaning.specs.Inputs.{value, field_in, value_at, type_value, text_in, unless_missing}
@@ -109,13 +109,13 @@ module _ (r : Relation) (s : List ℕ) (p : ℕ) where
       let c : 6 + i / 8 < record_length r = omega (arith, x) in
       ap (λ z. eqb (z / 2 ^ (i % 8) % 2) 1) (ap (byte_at s) (sym a) ∙ byte-in s p (record_length r) (6 + i / 8) c ∙ ap (byte_at alone) b)
 
-  unless-alone : (b c : Presence) (f : Format) (j : ℕ) → b ≡ c → value_at f s (p + j) ≡ value_at f alone (0 + j) →
+  unless-alone : (b c : Maybe Cause) (f : Format) (j : ℕ) → b ≡ c → value_at f s (p + j) ≡ value_at f alone (0 + j) →
       unless_missing b f s (p + j) ≡ unless_missing c f alone (0 + j)
   unless-alone b c f j e h = ap (λ z. unless_missing z f s (p + j)) e ∙ by c
     where
-      by : (c : Presence) → unless_missing c f s (p + j) ≡ unless_missing c f alone (0 + j)
-      by (Missing w) = refl
-      by There = h
+      by : (c : Maybe Cause) → unless_missing c f s (p + j) ≡ unless_missing c f alone (0 + j)
+      by (Some w) = refl
+      by None = h
 
   pub field-alone : (i : ℕ) → field_in r s p i ≡ field_in r alone 0 i
   unfolding field_in field_presence value_at held

@@ -15,7 +15,7 @@ use Rattle.dictionary.specs.Internal.Walk.{relation_at}
 use Rattle.grammar.specs.Tree.{Stream, Reference, field, parameter, parameter2, Value, literal, reference, arithmetic, negate, statistic, count, Boolean, compare, search, between, connect, not, missing, quantify, Clauses, no_clauses, such, sorted, Rse, rse}
 use Rattle.grammar.specs.Bytes.{statistic_code, quantifier_code, keys_bytes, head_bytes, rse_bytes}
 use Rattle.grammar.specs.Environment.{Context, stream_context, context_of, under_streams, under_rse_of}
-use Rattle.grammar.specs.Kind as Grammar
+use Rattle.grammar.specs.declared.Kind as Grammar
 use Rattle.grammar.specs.Kinds.{kind_of}
 use Rattle.grammar.specs.Scope.{in_scope}
 use Rattle.grammar.specs.Rules.{ValueAllowed, BooleanAllowed, ClausesAllowed, RseAllowed}

@@ -5,7 +5,7 @@ use Rattle.wire.specs.Codes as blr
 use Rattle.grammar.specs.Tree.{Stream, Value, literal, reference, arithmetic, negate, statistic, count, Boolean, compare, search, between, connect, not, missing, quantify, Clauses, no_clauses, such, sorted, Rse, rse}
 use Rattle.grammar.specs.Bytes.{statistic_code, quantifier_code, value_bytes, boolean_bytes, keys_bytes, head_bytes, rse_bytes}
 use Rattle.grammar.specs.Environment.{Environment, Scope, under_streams, under_rse_of}
-use Rattle.grammar.specs.Kind as Grammar
+use Rattle.grammar.specs.declared.Kind as Grammar
 use Rattle.grammar.specs.Kinds.{kind_of}
 use Rattle.walking.specs.Sees.{such_place}
 

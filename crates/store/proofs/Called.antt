@@ -10,24 +10,20 @@ use lib.ListN.{length, replicate-append-replicate}
 use borrow.Author.Tests.{lt-ltb, le-ltb, ltb-true}
 use Rattle.wire.specs.Words.{word_bytes}
 use Rattle.wire.specs.Lists.{sum_of}
-use Rattle.dictionary.specs.declared.check.DictionaryCheck.TheVariants.{Proper, Fault}
-use Rattle.dictionary.specs.declared.lookup.Place.TheVariants.{At, Unknown}
+use Rattle.std.specs.Prelude.{Result as Answer, Ok, Err, Some, None}
+use Rattle.wire.specs.declared.refused.Refused.{Refused}
+use Rattle.wire.specs.Options.{option_of, refused_at}
 use Rattle.dictionary.specs.Dictionary.{Relation, Checked, proper, at_fault, dictionary}
 use Rattle.dictionary.specs.Naming.{numbered}
 use Rattle.dictionary.specs.Internal.Walk.{relation_place, relation_at}
-use Rattle.dictionary.specs.Internal.Answers.{answer_of as check_of, place_answer}
 use Rattle.store.specs.declared.Refusal.{Refusal}
-use Rattle.store.specs.declared.Refusal.TheVariants.{BadDictionary, UnknownRelation, MalformedStore, NoPosition, WrongRecord, NoRoom}
-use Rattle.store.specs.declared.Answer.{Answer}
-use Rattle.store.specs.declared.Answer.TheVariants as Answer
-use Rattle.store.specs.declared.Reading.TheVariants as Reading
-use Rattle.store.specs.declared.RecordPlace.TheVariants as RecordPlace
+use Rattle.store.specs.declared.Refusal.TheVariants.{UnknownRelation, MalformedStore, NoPosition, WrongRecord, NoRoom}
+use Rattle.store.specs.declared.Counts.{Counts}
 use Rattle.store.specs.declared.opening.Store.{Store}
-use Rattle.store.specs.declared.opening.Opened.TheVariants as Opened
 use Rattle.store.specs.Store.{Contents, missing_count, joined, header, used, image, contents}
 use Rattle.store.specs.Calls.{Change, add, erase, replace, make, change, Result, holds, refused, or_malformed, store_beside, store_in, empty_of, made_in, changed, refuse_if, refusal, unless_refused, called, left, answer_of, Called, reading_of, place_in}
 use Rattle.store.specs.Listing.{Octets}
-use Rattle.store.specs.Internal.Layouts.{Laid, layout_of, store_of, opened_of}
+use Rattle.store.specs.Internal.Layouts.{Laid, dictionary_answer, layout_of, store_of, opened_of}
 use Rattle.store.specs.Internal.Changes.{over, cleared, place_of, add_refusal, add_bytes, erase_refusal, erase_bytes, replace_refusal, replace_bytes, answer_by, left_by, Changes, Ready, MadeOf, place_by, Numbers}
 use Rattle.store.proofs.Pastes.{zeros}
 use Rattle.store.proofs.Records.{one-by, kept-short, layout-short}
@@ -39,14 +35,13 @@ use Rattle.store.proofs.Starts.{fault-of, proper-of, relation-none, relation-som
 
 -- ---- an open store
 
-opened-refused : (x : Result) (y : Refusal) (p : ℕ) → Opened.Refused y p ≡ opened_of x → x ≡ refused y p
-opened-refused (holds c) y p e = absurd (let z : ◌≡◌ {A = ℕ} 0 1 = cc in omega arith)
-opened-refused (refused z q) y p e =
-    let first : z ≡ y = cc in
-    let second : q ≡ p = cc in
-    ap₂ (λ a b. refused a b) first second
+opened-refused : (x : Result) (y : Refused Refusal) → Err y ≡ opened_of x → (x ≡ refused y.refusal y.place)
+opened-refused (holds c) y e = absurd (let z : ◌≡◌ {A = ℕ} 0 1 = cc in omega arith)
+opened-refused (refused z q) y e =
+    let same : refused_at z q ≡ y = cc in
+    ap (λ (x : Refused Refusal). refused x.refusal x.place) same
 
-opened-is : (x : Result) (s : Store) → Opened.Is s ≡ opened_of x → (c : Contents) × ((x ≡ holds c) × (s ≡ store_of c))
+opened-is : (x : Result) (s : Store) → Ok s ≡ opened_of x → (c : Contents) × ((x ≡ holds c) × (s ≡ store_of c))
 opened-is (holds c) s e = let same : s ≡ store_of c = cc in (c, (refl, same))
 opened-is (refused z q) s e = absurd (let z : ◌≡◌ {A = ℕ} 0 1 = cc in omega arith)
 
@@ -86,33 +81,36 @@ unfolding place_by place_in store_of layout_of
 place_is {c = c} h o k true e =
     let g = (kept-parts h o k (ltb-true k (length c.records) e)).1.0 in
     let size = layout-short c.relation (kept-short c.relation _ g) in
-    rw (e) (ap (λ z. RecordPlace.At (10 + k * z) z) size)
+    rw (e) (ap (λ (z : ℕ). Ok (10 + k * z, z)) size)
 place_is {c = c} h o k false e = rw e
 
-pub place_none : (s : Store) (k : ℕ) → s.count ≤ k → RecordPlace.Refused NoPosition 0 ≡ place_by s k
+pub place_none : (s : Store) (k : ℕ) → s.count ≤ k → Err (refused_at NoPosition 0) ≡ place_by s k
 unfolding place_by
 place_none s k h = rw (le-ltb k s.count h)
 
-pub place-some : (s : Store) (k : ℕ) → k < s.count → RecordPlace.At (place_of s k) s.layout.size ≡ place_by s k
+pub place-some : (s : Store) (k : ℕ) → k < s.count → Ok (place_of s k, s.layout.size) ≡ place_by s k
 unfolding place_by
 place-some s k h = rw (lt-ltb k s.count h)
 
 -- ---- what is promised
 
+abbrev ok_counts : Counts → Answer Counts (Refused Refusal)
+ok_counts c = Ok c
+
 module _ (d b : List ℕ) where
-  pub refused-called : (y : Change) (x : Refusal) (p : ℕ) → Opened.Refused x p ≡ opened_of (store_in d b) → Called d b (change y) b (Answer.Refused x p)
-  unfolding called
-  refused-called y x p e =
-      let is = opened-refused (store_in d b) x p e in record { answered = rw is; left_so = rw is }
+  module _ (y : Refused Refusal) (e : Err y ≡ opened_of (store_in d b)) where
+    pub refused-called : (z : Change) (r : Answer (Unit {0}) (Refused Refusal)) → r ≡ Err y → Called d b (change z) b r
+    unfolding called
+    refused-called z r f = let is = opened-refused (store_in d b) y e in record { answered = rw is f; left_so = rw is }
 
-  pub refused-read : (x : Refusal) (p : ℕ) → Opened.Refused x p ≡ opened_of (store_in d b) → Reading.Refused x p ≡ reading_of (store_in d b)
-  refused-read x p e = rw (opened-refused (store_in d b) x p e)
+    pub refused-read : Err y ≡ reading_of (store_in d b)
+    refused-read = rw (opened-refused (store_in d b) y e)
 
-  pub refused-find : (k : ℕ) (x : Refusal) (p : ℕ) → Opened.Refused x p ≡ opened_of (store_in d b) → RecordPlace.Refused x p ≡ place_in (store_in d b) k
-  unfolding place_in
-  refused-find k x p e = rw (opened-refused (store_in d b) x p e)
+    pub refused-find : (k : ℕ) → Err y ≡ place_in (store_in d b) k
+    unfolding place_in
+    refused-find k = rw (opened-refused (store_in d b) y e)
 
-  module _ (s : Store) (is : Opened.Is s ≡ opened_of (store_in d b)) where
+  module _ (s : Store) (is : Ok s ≡ opened_of (store_in d b)) where
     held : (c : Contents) × ((store_in d b ≡ holds c) × (s ≡ store_of c))
     held = opened-is (store_in d b) s is
 
@@ -129,7 +127,7 @@ module _ (d b : List ℕ) where
     unfolding called
     called_is y = rw held.1.0
 
-    called-by : (y : Change) (o : Option Refusal) (after b' : List ℕ) (r : Answer) → o ≡ refusal (length b) held.0 y →
+    called-by : (y : Change) (o : Option Refusal) (after b' : List ℕ) (r : Answer (Unit {0}) (Refused Refusal)) → o ≡ refusal (length b) held.0 y →
         (refusal (length b) held.0 y ≡ none → after ≡ image (changed held.0 y) (length b)) → Changes o b after b' r → Called d b (change y) b' r
     called-by y o after b' r e f k =
         record {
@@ -146,7 +144,7 @@ module _ (d b : List ℕ) where
         rest (some x) f = refl
 
     module _ (o : Octets b) where
-      pub add-called : (t x b' : List ℕ) (r : Answer) → ((c : Contents) → store_in d b ≡ holds c → Laid c.relation t) → Octets x →
+      pub add-called : (t x b' : List ℕ) (r : Answer (Unit {0}) (Refused Refusal)) → ((c : Contents) → store_in d b ≡ holds c → Laid c.relation t) → Octets x →
           Changes (add_refusal s b x) b (add_bytes s t b x) b' r → Called d b (change (add x)) b' r
       add-called t x b' r laid q k =
           called-by (add x) (add_refusal s b x) (add_bytes s t b x) b' r
@@ -155,13 +153,13 @@ module _ (d b : List ℕ) where
           let two = add-passed held.0 (length b) x e in
           ap (λ z. add_bytes z t b x) held.1.1 ∙ added-bytes holding-so o t (laid held.0 held.1.0) x q two.0 two.1) k
 
-      pub erase-called : (n : ℕ) (b' : List ℕ) (r : Answer) → Changes (erase_refusal s n) b (erase_bytes s b n) b' r → Called d b (change (erase n)) b' r
+      pub erase-called : (n : ℕ) (b' : List ℕ) (r : Answer (Unit {0}) (Refused Refusal)) → Changes (erase_refusal s n) b (erase_bytes s b n) b' r → Called d b (change (erase n)) b' r
       erase-called n b' r k =
           called-by (erase n) (erase_refusal s n) (erase_bytes s b n) b' r
           (ap (λ z. erase_refusal z n) held.1.1 ∙ erase-refusal held.0 (length b) n)
           (λ e. ap (λ z. erase_bytes z b n) held.1.1 ∙ erased-bytes holding-so o n (erase-passed held.0 (length b) n e)) k
 
-      pub replace-called : (n : ℕ) (t x b' : List ℕ) (r : Answer) → ((c : Contents) → store_in d b ≡ holds c → Laid c.relation t) → Octets x →
+      pub replace-called : (n : ℕ) (t x b' : List ℕ) (r : Answer (Unit {0}) (Refused Refusal)) → ((c : Contents) → store_in d b ≡ holds c → Laid c.relation t) → Octets x →
           Changes (replace_refusal s n x) b (replace_bytes s t b n x) b' r → Called d b (change (replace n x)) b' r
       replace-called n t x b' r laid q k =
           called-by (replace n x) (replace_refusal s n x) (replace_bytes s t b n x) b' r
@@ -175,27 +173,28 @@ module _ (d b : List ℕ) where
       unfolding place_in
       find-is n = ap (λ z. place_by z n) held.1.1 ∙ place_is holding-so o n (ltb n (length held.0.records)) refl ∙ ap (λ z. place_in z n) (sym held.1.0)
 
-    pub read_is : Reading.Holds s.layout.id s.count s.missing ≡ reading_of (store_in d b)
+    pub read_is : Ok (record { relation = s.layout.id; records = s.count; missing = s.missing }) ≡ reading_of (store_in d b)
     unfolding store_of layout_of
     read_is =
-        ap (λ z. Reading.Holds z.layout.id z.count z.missing) held.1.1 ∙ ap reading_of (sym held.1.0)
+        ap (λ (z : Store). ok_counts (record { relation = z.layout.id; records = z.count; missing = z.missing })) held.1.1 ∙ ap reading_of (sym held.1.0)
 
 -- ---- the first call
 
 module _ (d b : List ℕ) (i : ℕ) where
-  pub make-fault : (p : ℕ) → Fault p ≡ check_of (dictionary d) → Called d b (make i) b (Answer.Refused BadDictionary p)
+  pub make-fault : (e : Refused Refusal) (r : Answer (Unit {0}) (Refused Refusal)) → Err e ≡ dictionary_answer (dictionary d) → r ≡ Err e → Called d b (make i) b r
   unfolding called
-  make-fault p e = let is = fault-of d p e in record { answered = rw is; left_so = rw is }
+  make-fault e r f g = let k = fault-of d e f in record { answered = rw k.0 (g ∙ ap Err k.1); left_so = rw k.0 }
 
-  module _ (good : Proper ≡ check_of (dictionary d)) where
-    pub make-unknown : Unknown ≡ place_answer (relation_place d (numbered i)) → Called d b (make i) b (Answer.Refused UnknownRelation 0)
+  module _ (good : Ok tt ≡ dictionary_answer (dictionary d)) where
+    pub make-unknown : (r : Answer (Unit {0}) (Refused Refusal)) → r ≡ Err (refused_at UnknownRelation 0) → None ≡ option_of (relation_place d (numbered i)) →
+        Called d b (make i) b r
     unfolding called made_in
-    make-unknown e =
+    make-unknown r f e =
         let is = (proper-of d good).1 in
         let no = relation-none d good i e in
-        record { answered = rw (is, no); left_so = rw (is, no) }
+        record { answered = rw (is, no) f; left_so = rw (is, no) }
 
-    pub make-found : (q : ℕ) → At q ≡ place_answer (relation_place d (numbered i)) → (b' : List ℕ) (r : Answer) → MadeOf (relation_at d q) b b' r →
+    pub make-found : (q : ℕ) → Some q ≡ option_of (relation_place d (numbered i)) → (b' : List ℕ) (r : Answer (Unit {0}) (Refused Refusal)) → MadeOf (relation_at d q) b b' r →
         Called d b (make i) b' r
     unfolding called
     make-found q e b' r k =
@@ -204,19 +203,19 @@ module _ (d b : List ℕ) (i : ℕ) where
         record { answered = rw (is, found) k.made_answer; left_so = rw (is, found) k.made_left }
 
 module _ (r : Relation) (b : List ℕ) where
-  pub made-long : 65535 < length b → MadeOf r b b (Answer.Refused MalformedStore 0)
+  pub made-long : (x : Answer (Unit {0}) (Refused Refusal)) → x ≡ Err (refused_at MalformedStore 0) → 65535 < length b → MadeOf r b b x
   unfolding made_in
-  made-long h = let e = lt-ltb 65535 (length b) h in record { made_answer = rw e; made_left = rw e }
+  made-long x is h = let e = lt-ltb 65535 (length b) h in record { made_answer = rw e is; made_left = rw e }
 
   module _ (short : length b ≤ 65535) where
-    pub made-cut : length b < 10 → MadeOf r b b (Answer.Refused NoRoom 0)
+    pub made-cut : (x : Answer (Unit {0}) (Refused Refusal)) → x ≡ Err (refused_at NoRoom 0) → length b < 10 → MadeOf r b b x
     unfolding made_in
-    made-cut h =
+    made-cut x is h =
         let e = le-ltb 65535 (length b) short in
         let f = lt-ltb (length b) 10 h in
-        record { made_answer = rw (e, f); made_left = rw (e, f) }
+        record { made_answer = rw (e, f) is; made_left = rw (e, f) }
 
-    pub made-empty : 10 ≤ length b → (b' : List ℕ) → b' ≡ image (empty_of r) (length b) → MadeOf r b b' Answer.Done
+    pub made-empty : 10 ≤ length b → (b' : List ℕ) → b' ≡ image (empty_of r) (length b) → MadeOf r b b' (Ok tt)
     unfolding made_in
     made-empty h b' k =
         let e = le-ltb 65535 (length b) short in

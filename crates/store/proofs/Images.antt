@@ -210,10 +210,6 @@ pub listed-count : (r : Relation) (b : List ℕ) → length (listed r b).records
 unfolding listed
 listed-count r b = length-parts r (word_at b 6) (drop 10 b)
 
-listed-relation : (r : Relation) (b : List ℕ) → (listed r b).relation ≡ r
-unfolding listed
-listed-relation r b = refl
-
 module _ (r : Relation) (b : List ℕ) (o : Octets b) (known : r.id ≡ word_at b 4) (k : Formed (listed r b) b) where
   ten-long : 10 ≤ length b
   unfolding used
@@ -248,9 +244,6 @@ pub record Good (rs : List Relation) (c : Contents) (n : ℕ) : Type 0 where
   pub good-records : all_of (kept c.relation) c.records ≡ true
   pub fits : used c ≤ n
   pub at_most : n ≤ 65535
-
-length-words : (a b c d e : ℕ) → length (words a b c d e) ≡ 10
-length-words a b c d e = refl
 
 length-header : (c : Contents) → length (header c) ≡ 10
 unfolding header

@@ -1,140 +1,56 @@
 -- Each way through the tests of a record, in the code's terms.
 use Prim.Native.Nat.{ℕ, zero, suc, ◌+◌, ◌-◌, ◌/◌, ◌≤◌, ◌<◌}
 use mathlib.Core.Path.{◌≡◌, refl, sym, ap, ap₂, ◌∙◌}
-use mathlib.Core.Bool.{Bool, true, false, not, ◌&&◌}
+use mathlib.Core.Bool.{true, false, ◌&&◌}
 use mathlib.Core.List.{List, [], ◌∷◌, ◌++◌, map}
 use mathlib.Core.Option
 use mathlib.Core.Option.{Option, none, some}
+use native.Mathlib.Nat.{zero-add}
 use native.Mathlib.Numerals.{add-one}
 use native.Mathlib.Omega.{arith}
 use lib.Count.{ones}
-use lib.Dec.{eqb, leb}
-use lib.ListN.{length, get_or, take, drop, set, length-drop, get_or-eq_default}
+use lib.Dec.{leb}
+use lib.ListN.{length, get_or, take, drop, set, length-drop}
 use lib.Seq.{sets, take-suc, get_or-drop}
-use borrow.Author.Tests.{lt-ltb, le-leb, lt-leb, leb-true, eq-eqb, ne_eqb, eqb-true, eqb-false, not-true, not-false}
-use Rattle.wire.specs.Words.{byte_at, word_at}
+use borrow.Author.Tests.{le-leb, lt-leb, leb-true}
+use Rattle.wire.specs.Words.{byte_at}
 use Rattle.wire.specs.Lists.{sum_of}
 use Rattle.dictionary.specs.Format.{held}
 use Rattle.dictionary.specs.Dictionary.{Field, Relation}
 use Rattle.wire.specs.Classes.{field_class}
 use Rattle.dictionary.specs.Internal.Walk.{is_field, next_place, fields_from, fields_of, type_of, entry_field, relation_at}
 use Rattle.dictionary.proofs.Fields.{no_more, one_field, of-relation, further}
-use Rattle.dictionary.proofs.Bytes.{and-nothing}
-use Rattle.dictionary.proofs.Tests.{both_left, both_right}
-use Rattle.records.specs.Record.{field_count, missing_bytes, packed, record_length, bit_at}
+use Rattle.dictionary.proofs.Bytes.{and-true}
+use Rattle.dictionary.proofs.Tests.{both_left, both_right, and-shift}
+use Rattle.records.specs.Record.{field_count, missing_bytes, packed, record_length}
 use Rattle.records.specs.Internal.Answers.{format_at}
 use Rattle.store.specs.declared.layout.Layout.{Layout}
-use Rattle.store.specs.declared.layout.Tally.TheVariants.{Ones, Wrong}
-use Rattle.store.specs.Internal.Layouts.{layout_by, layout_of, reading_place, reading_places, places_of, LaidOut, spare_after, proper_by, lost_at, marked_field, marked_at, kept_at, ones_at, tally_next, tally, tally_of}
+use Rattle.std.specs.Prelude.{Some, None}
+use Rattle.std.specs.List.{list_all, range_with_len}
+use Rattle.wire.specs.Options.{option_of}
+use Rattle.store.specs.Internal.Layouts.{layout_by, layout_of, reading_place, reading_places, places_of, LaidOut, proper_by, marked_field, marked_at, kept_at, ones_at, tally_next, tally}
 use Rattle.store.proofs.Records.{layout-short, layout-long}
-
--- ---- a proper record
-
-module _ (l : Layout) (s : List ℕ) (p : ℕ) where
-  pub size-long : 4096 < l.size → false ≡ proper_by l s p
-  unfolding proper_by
-  size-long h = rw (lt-leb l.size 4096 h)
-
-  module _ (small : l.size ≤ 4096) where
-    pub size-cut : length s < p + l.size → false ≡ proper_by l s p
-    unfolding proper_by
-    size-cut h = rw (le-leb l.size 4096 small, lt-leb (p + l.size) (length s) h)
-
-    module _ (whole : p + l.size ≤ length s) (w : ℕ) (word : w ≡ word_at s p) where
-      pub size-other : (w ≡ l.size → ⊥) → false ≡ proper_by l s p
-      unfolding proper_by
-      size-other h = rw (le-leb l.size 4096 small, le-leb (p + l.size) (length s) whole, ← word, ne_eqb w l.size h)
-
-      module _ (long : w ≡ l.size) (k : ℕ) (kind : k ≡ word_at s (p + 2)) where
-        pub kind-other : (k ≡ 3 → ⊥) → false ≡ proper_by l s p
-        unfolding proper_by
-        kind-other h =
-            rw (le-leb l.size 4096 small, le-leb (p + l.size) (length s) whole, ← word, eq-eqb w l.size long, ← kind, ne_eqb k 3 h)
-
-        module _ (third : k ≡ 3) (x : ℕ) (id : x ≡ word_at s (p + 4)) where
-          pub id_other : (x ≡ l.id → ⊥) → false ≡ proper_by l s p
-          unfolding proper_by
-          id_other h =
-              rw (
-                le-leb l.size 4096 small,
-                le-leb (p + l.size) (length s) whole,
-                ← word,
-                eq-eqb w l.size long,
-                ← kind,
-                eq-eqb k 3 third,
-                ← id,
-                ne_eqb x l.id h,
-              )
-
-          pub spare-left : x ≡ l.id → (b : Bool) → b ≡ spare_after s p l.fields → b ≡ proper_by l s p
-          unfolding proper_by
-          spare-left h b c =
-              rw (
-                le-leb l.size 4096 small,
-                le-leb (p + l.size) (length s) whole,
-                ← word,
-                eq-eqb w l.size long,
-                ← kind,
-                eq-eqb k 3 third,
-                ← id,
-                eq-eqb x l.id h,
-              ) c
-
--- ---- a reading of 65535
-
-module _ (t s : List ℕ) (p i : ℕ) where
-  pub past-table : length t ≤ i → false ≡ lost_at t s p i
-  unfolding lost_at
-  past-table h = rw (get_or-eq_default t 0 h)
-
-  pub no-reading : get_or t i 0 ≡ 0 → false ≡ lost_at t s p i
-  unfolding lost_at
-  no-reading e = rw e
-
-  pub reading-word : (w : ℕ) → (get_or t i 0 ≡ 0 → ⊥) → w ≡ word_at s (p + get_or t i 0) → eqb w 65535 ≡ lost_at t s p i
-  unfolding lost_at
-  reading-word w h e = let k : 0 < get_or t i 0 = omega (arith, h) in rw (lt-ltb 0 (get_or t i 0) k, e)
 
 -- ---- marks
 
 module _ (t s : List ℕ) (p : ℕ) where
-  pub not-lost : (i : ℕ) → lost_at t s p i ≡ false → false ≡ not (marked_field t s p i)
-  not-lost i e = rw e
-
-  pub lost-bit : (i : ℕ) (b : Bool) → lost_at t s p i ≡ true → b ≡ bit_at s p i → not b ≡ not (marked_field t s p i)
-  lost-bit i b e f = rw (e, f)
-
-  pub none-marked : marked_at t s p 0 ≡ true
+  -- the first i fields, then n more
+  marked_on : (i n : ℕ) → marked_at t s p i && list_all (marked_field t s p) (range_with_len i n) ≡ marked_at t s p (i + n)
   unfolding marked_at
-  none-marked = refl
+  marked_on i zero = let z : i + 0 ≡ i = omega arith in rw z (and-true (marked_at t s p i))
+  marked_on i (suc n) =
+      let e : i + 1 + n ≡ i + suc n = omega arith in
+      and-shift (marked_at t s p i) (marked_field t s p i) (list_all (marked_field t s p) (range_with_len (i + 1) n)) ∙
+      ap (λ k. marked_at t s p k && list_all (marked_field t s p) (range_with_len (i + 1) n)) (sym (add-one i)) ∙
+      marked_on (i + 1) n ∙ ap (marked_at t s p) e
 
-  pub one-marked : (i : ℕ) → marked_at t s p i ≡ true → not (marked_field t s p i) ≡ false → marked_at t s p (i + 1) ≡ true
+  pub marked_is : (n : ℕ) → list_all (marked_field t s p) (range_with_len 0 n) ≡ marked_at t s p n
   unfolding marked_at
-  one-marked i e f = rw (add-one i) (rw (e, not-false (marked_field t s p i) f))
-
-  unmarked-by : (i n : ℕ) (b : Bool) → eqb i n ≡ b → not (marked_field t s p i) ≡ true → i < suc n → (i < n → false ≡ marked_at t s p n) →
-      false ≡ marked_at t s p n && marked_field t s p n
-  unmarked-by i n true q e h rest =
-      let f : marked_field t s p n ≡ false = ap (marked_field t s p) (sym (eqb-true i n q)) ∙ not-true (marked_field t s p i) e in
-      rw f (sym (and-nothing (marked_at t s p n)))
-  unmarked-by i n false q e h rest = rw (← rest (omega (arith, eqb-false i n q)))
-
-  pub unmarked : (i n : ℕ) → i < n → not (marked_field t s p i) ≡ true → false ≡ marked_at t s p n
-  unfolding marked_at
-  unmarked i zero h e = absurd (omega arith)
-  unmarked i (suc n) h e = unmarked-by i n (eqb i n) refl e h (λ k. unmarked i n k e)
+  marked_is n = marked_on 0 n ∙ ap (marked_at t s p) (zero-add n)
 
 -- ---- a kept record
 
 module _ (l : Layout) (t s : List ℕ) (p : ℕ) where
-  pub not-proper : proper_by l s p ≡ false → false ≡ kept_at l t s p
-  unfolding kept_at
-  not-proper e = rw e
-
-  pub proper-marked : (b : Bool) → proper_by l s p ≡ true → b ≡ marked_at t s p l.fields → b ≡ kept_at l t s p
-  unfolding kept_at
-  proper-marked b e f = rw e f
-
   pub kept-inside : kept_at l t s p ≡ true → p + l.size ≤ length s
   unfolding kept_at proper_by
   kept-inside e =
@@ -189,10 +105,10 @@ module _ (l : Layout) (t s : List ℕ) (n : ℕ) where
       let next : tally l t s (n - i) p ≡ Option.map (λ x. m + x) (tally l t s (n - (i + 1)) (p + l.size)) = step_of p i h ∙ rw (k, f) in
       e ∙ ap (Option.map (λ x. sum + x)) next ∙ more sum m (tally l t s (n - (i + 1)) (p + l.size))
 
-  pub tally-wrong : (p sum i : ℕ) → i < n → Tallying p sum i → kept_at l t s p ≡ false → Wrong ≡ tally_of (tally l t s n 10)
+  pub tally-wrong : (p sum i : ℕ) → i < n → Tallying p sum i → kept_at l t s p ≡ false → None ≡ option_of (tally l t s n 10)
   tally-wrong p sum i h e k = rw (e, step_of p i h, k)
 
-  pub tally-end : (p sum i : ℕ) → n ≤ i → Tallying p sum i → Ones sum ≡ tally_of (tally l t s n 10)
+  pub tally-end : (p sum i : ℕ) → n ≤ i → Tallying p sum i → Some sum ≡ option_of (tally l t s n 10)
   unfolding tally
   tally-end p sum i h e =
       let z : n - i ≡ 0 = omega arith in

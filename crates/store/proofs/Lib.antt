@@ -1,5 +1,4 @@
 -- Laws that belong to no one function.
-pub mod Clear
 pub mod Pastes
 pub mod Bits
 pub mod Spare

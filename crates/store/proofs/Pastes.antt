@@ -1,55 +1,39 @@
 -- Bytes written over others: the law of one turn of each loop, and what a list in three parts becomes.
 use Prim.Native.Nat.{ℕ, ◌+◌, ◌-◌, ◌/◌, ◌%◌, ◌≤◌, ◌<◌}
-use mathlib.Core.Path.{◌≡◌, sym, ap, ◌∙◌}
+use mathlib.Core.Path.{◌≡◌, refl, sym, ap, ◌∙◌}
 use mathlib.Core.List.{List, [], ◌∷◌, ◌++◌, append_assoc, append-nil}
 use native.Mathlib.Nat.{zero-add, suc-add}
 use native.Mathlib.Numerals.{add-one}
 use native.Mathlib.Omega.{arith}
-use lib.ListN.{length, get_or, set, take, drop, replicate, length-append, length-drop, length-replicate, drop_of_length-le, length-set, get_or-append}
-use lib.Seq.{paste, paste-suc, length_paste_head, take-length, get_or-append-add, get_or-drop, length-take-le, take_all, set-append_left, take_at, drop_at, sets-eq}
+use lib.ListN.{length, get_or, set, take, drop, replicate, length-append, length-drop, drop_of_length-le, length-set, get_or-append}
+use lib.Seq.{paste, take-length, get_or-append-add, length-take-le, take_all, set-append_left, take_at, drop_at, sets-eq}
+use Rattle.std.proofs.lemmas.Slice.{put_mid-paste}
+use borrow.Rule.Slice.PartMut.{put_mid}
 use Rattle.wire.specs.Words.{word_bytes}
 use Rattle.store.specs.Internal.Changes.{over, cleared, moved, closed}
 
 -- ---- one turn
 
-pub paste-turn :
-    (d s : List ℕ) (at j v : ℕ) → at + j < length d → j < length s → v ≡ get_or s j 0 → set (paste d at s j) (at + j) v ≡ paste d at s (j + 1)
-paste-turn d s at j v h k e = rw (e, add-one j) (paste-suc d at s j 0 h k)
-
--- a byte behind what was written is as before
-paste-later :
-    (d s : List ℕ) (at j i : ℕ) → at + j + i < length d → j ≤ length s → get_or (paste d at s j) (at + j + i) 0 ≡ get_or d (at + j + i) 0
-paste-later d s at j i h k =
-    let head : length (take at d ++ take j s) ≡ at + j = length_paste_head d at s j (omega arith) k in
-    ap (λ m. get_or (take at d ++ take j s ++ drop (at + j) d) (m + i) 0) (sym head) ∙
-    get_or-append-add (take at d ++ take j s) (drop (at + j) d) i 0 ∙ get_or-drop (at + j) d i 0
-
--- the byte that a move reads
-pub moved-byte :
-    (d : List ℕ) (at n j : ℕ) → at + n + j < length d →
-    get_or (paste d at (drop (at + n) d) j) (at + n + j) 0 ≡ get_or (drop (at + n) d) j 0
-moved-byte d at n j h =
-    let e : at + n + j ≡ at + j + n = omega arith in
-    let k : j ≤ length (drop (at + n) d) = omega (arith, length-drop (at + n) d) in
-    ap (λ i. get_or (paste d at (drop (at + n) d) j) i 0) e ∙ paste-later d (drop (at + n) d) at j n (omega arith) k ∙
-    ap (λ i. get_or d i 0) (sym e) ∙ sym (get_or-drop (at + n) d j 0)
-
 -- ---- ends
+
+pub cleared_by : (d : List ℕ) (from : ℕ) (x : List ℕ) → from ≤ length d → x ≡ replicate (length d - from) 0 →
+    put_mid from (length d - from) d x ≡ cleared d from
+unfolding cleared
+cleared_by d from x h e =
+    let l : length (drop from d) ≤ length d - from = omega (arith, length-drop from d) in
+    rw (e, drop_of_length-le (drop from d) l, append-nil)
 
 pub copied : (d x : List ℕ) (at n : ℕ) → n ≡ length x → paste d at x n ≡ over d at x
 unfolding over
 copied d x at n e = rw (e, take-length x)
 
+pub copied_by : (d x : List ℕ) (at : ℕ) (y : List ℕ) → y ≡ x → put_mid at (at + length x - at) d y ≡ over d at x
+unfolding over
+copied_by d x at y e =
+    put_mid-paste at (at + length x - at) d y x (length x) e (omega arith) refl ∙ copied d x at (length x) refl
+
 abbrev pub zeros : ℕ → List ℕ
 zeros n = replicate n 0
-
-pub cleared-all : (d : List ℕ) (from n : ℕ) → from ≤ length d → n ≡ length d - from → paste d from (zeros (length d - from)) n ≡ cleared d from
-unfolding cleared
-cleared-all d from n h e =
-    let all : length d ≤ from + (length d - from) = omega arith in
-    let m : ℕ = length d - from in
-    let whole : take m (zeros m) ≡ zeros m = take_all {A = ℕ} m (zeros m) (omega (arith, length-replicate {A = ℕ} m 0)) in
-    rw (e, whole, drop_of_length-le d all, append-nil)
 
 pub moved_all : (d : List ℕ) (at n j : ℕ) → at + n ≤ length d → j ≡ length d - n - at → paste d at (drop (at + n) d) j ≡ moved d at n
 unfolding moved

@@ -195,9 +195,6 @@ one-by r x =
 
 -- ---- a record as a store keeps it, in a buffer
 
-false-and : (b : Bool) → false && b ≡ false
-false-and b = refl
-
 pub not-cut : (r : Relation) (x : List ℕ) → length x < record_length r → kept r x ≡ false
 unfolding kept one_record
 not-cut r x h =

@@ -8,7 +8,7 @@ use native.Mathlib.Nat.{mul-le-mul_left, mul-le-mul_right, suc-mul}
 use native.Mathlib.Numerals.{add-one}
 use native.Mathlib.Omega.{arith}
 use lib.Dec.{eqb}
-use lib.ListN.{length, set, length-set}
+use lib.ListN.{length}
 use lib.Seq.{sets, sets-eq, length-sets}
 use borrow.Author.Tests.{lt-ltb, le-ltb, eqb-true}
 use Rattle.wire.specs.Words.{byte_at, word_bytes}
@@ -16,13 +16,14 @@ use Rattle.dictionary.proofs.Tests.{both_right}
 use Rattle.records.specs.Record.{bit_at}
 use Rattle.store.specs.declared.Refusal.{Refusal}
 use Rattle.store.specs.declared.Refusal.TheVariants.{NoPosition, WrongRecord, NoRoom}
-use Rattle.store.specs.declared.Answer.{Answer}
-use Rattle.store.specs.declared.Answer.TheVariants as Answer
+use Rattle.std.specs.Prelude.{Result as Answer, Ok, Err}
+use Rattle.wire.specs.declared.refused.Refused.{Refused}
+use Rattle.wire.specs.Options.{refused_at}
 use Rattle.store.specs.declared.layout.Layout.{Layout}
 use Rattle.store.specs.declared.opening.Store.{Store}
 use Rattle.store.specs.Store.{bit_place}
 use Rattle.store.specs.Internal.Layouts.{proper_by, lost_at, ones_at}
-use Rattle.store.specs.Internal.Changes.{over, counted, bit_set_by, bit_set, bit_set_if, marked_with, written, Writes, one_by, place_of, bits_at, add_refusal, erase_refusal, replace_refusal, Changes, Fair, Ready, closed, add_bytes, erase_bytes, replace_bytes}
+use Rattle.store.specs.Internal.Changes.{over, counted, bit_set_if, marked_with, written, Writes, one_by, place_of, bits_at, add_refusal, erase_refusal, replace_refusal, Changes, Fair, Ready, closed, add_bytes, erase_bytes, replace_bytes}
 use Rattle.store.proofs.Bits.{bit, set-byte}
 
 -- ---- one proper record
@@ -39,14 +40,6 @@ module _ (l : Layout) (x : List ℕ) where
 -- ---- marks
 
 module _ (s : List ℕ) (p i : ℕ) where
-  pub bit-there : bit_at s p i ≡ true → s ≡ bit_set s p i
-  unfolding bit_set
-  bit-there e = rw e
-
-  pub bit-new : (v : ℕ) → bit_at s p i ≡ false → v ≡ byte_at s (p + bit_place i) + 2 ^ (i % 8) → set s (p + bit_place i) v ≡ bit_set s p i
-  unfolding bit_set
-  bit-new v e f = rw (e, f)
-
   pub bit-fits : bit_at s p i ≡ false → byte_at s (p + bit_place i) < 256 → byte_at s (p + bit_place i) + 2 ^ (i % 8) < 256
   unfolding bit_at
   bit-fits e h =
@@ -54,18 +47,6 @@ module _ (s : List ℕ) (p i : ℕ) where
       let low : i % 8 < 8 = omega arith in
       let clear : bit (byte_at s (p + bit_place i)) (i % 8) ≡ false = ap (λ q. bit (byte_at s q) (i % 8)) (sym at) ∙ e in
       set-byte (byte_at s (p + bit_place i)) (i % 8) (i % 8) h low low clear
-
-  pub not-lost : s ≡ bit_set_if false s p i
-  not-lost = refl
-
-  length-by : (b : Bool) → length (bit_set_by b s p i) ≡ length s
-  length-by true = refl
-  length-by false = length-set s (p + bit_place i) (byte_at s (p + bit_place i) + 2 ^ (i % 8))
-
-  pub length-if : (b : Bool) → length (bit_set_if b s p i) ≡ length s
-  unfolding bit_set
-  length-if true = length-by (bit_at s p i)
-  length-if false = refl
 
 module _ (t x s : List ℕ) (p : ℕ) where
   pub no-marks : s ≡ marked_with t x s p 0
@@ -104,10 +85,10 @@ place-before s k h =
 -- ---- what a call on an open store promises
 
 module _ (b after : List ℕ) where
-  pub is-refused : (o : Option Refusal) (x : Refusal) → o ≡ some x → Changes o b after b (Answer.Refused x 0)
-  is-refused o x e = record { answer_is = rw e; left_is = rw e }
+  pub is-refused : (o : Option Refusal) (x : Refusal) (r : Answer (Unit {0}) (Refused Refusal)) → r ≡ Err (refused_at x 0) → o ≡ some x → Changes o b after b r
+  is-refused o x r f e = record { answer_is = rw e f; left_is = rw e }
 
-  pub is-done : (o : Option Refusal) (b' : List ℕ) → o ≡ none → b' ≡ after → Changes o b after b' Answer.Done
+  pub is-done : (o : Option Refusal) (b' : List ℕ) → o ≡ none → b' ≡ after → Changes o b after b' (Ok tt)
   is-done o b' e f = record { answer_is = rw e; left_is = rw e f }
 
 module _ (s : Store) (b x : List ℕ) where

@@ -1,17 +1,14 @@
 -- 02, No. 10: "A first call makes it empty." "Let add at the end, erase by position (from 0) and replace keep it right."
-use Rattle.std.specs.Prelude.{ℕ, suc, ◌+◌, ◌*◌, ◌≡◌, Bool, true, false, cond, not, List, [], ◌∷◌, ◌++◌, ltb, length, take, drop, set}
+use Rattle.std.specs.Prelude.{Result as Answer, Ok, Err, ℕ, suc, ◌+◌, ◌*◌, ◌≡◌, Bool, true, false, cond, not, List, [], ◌∷◌, ◌++◌, ltb, length, take, drop, set}
 use Rattle.std.proofs.Math.Option.{Option, none, some}
+use Rattle.wire.specs.declared.refused.Refused.{Refused}
+use Rattle.wire.specs.Options.{refused_at}
 use Rattle.dictionary.specs.Dictionary.{Relation, Checked, proper, at_fault, dictionary}
 use Rattle.dictionary.specs.Naming.{numbered, relation_of}
 use Rattle.records.specs.Record.{record_length}
 use Rattle.store.specs.declared.Refusal.{Refusal}
 use Rattle.store.specs.declared.Refusal.TheVariants.{BadDictionary, UnknownRelation, MalformedStore, NoPosition, WrongRecord, NoRoom}
-use Rattle.store.specs.declared.Answer.{Answer}
-use Rattle.store.specs.declared.Answer.TheVariants as Answer
-use Rattle.store.specs.declared.Reading.{Reading}
-use Rattle.store.specs.declared.Reading.TheVariants as Reading
-use Rattle.store.specs.declared.RecordPlace.{RecordPlace}
-use Rattle.store.specs.declared.RecordPlace.TheVariants as RecordPlace
+use Rattle.store.specs.declared.Counts.{Counts}
 use Rattle.store.specs.Store.{Contents, max_store_bytes, store_header, mark, one_record, missing_count, used, image, contents}
 
 -- 02's number for each refusal: "3, then all at 0, 12 for the first call's relation, 50 store malformed .., 51 no such position, 52 record
@@ -112,25 +109,25 @@ abbrev pub left : List ℕ → Result → List ℕ
 left b (holds c) = image c (length b)
 left b (refused x p) = b
 
-abbrev pub answer_of : Result → Answer
-answer_of (holds c) = Answer.Done
-answer_of (refused x p) = Answer.Refused x p
+abbrev pub answer_of : Result → Answer (Unit {0}) (Refused Refusal)
+answer_of (holds c) = Ok tt
+answer_of (refused x p) = Err (refused_at x p)
 
 -- what each call promises: the answer, and every byte of the buffer at exit
-pub record Called (d b : List ℕ) (c : Call) (b' : List ℕ) (r : Answer) : Type 0 where
+pub record Called (d b : List ℕ) (c : Call) (b' : List ℕ) (r : Answer (Unit {0}) (Refused Refusal)) : Type 0 where
   pub answered : r ≡ answer_of (called d b c)
   pub left_so : b' ≡ left b (called d b c)
 
 -- ---- reading a store
 
 -- the relation's id, the record count and the missing count
-abbrev pub reading_of : Result → Reading
-reading_of (holds c) = Reading.Holds c.relation.id (length c.records) (missing_count c)
-reading_of (refused x p) = Reading.Refused x p
+abbrev pub reading_of : Result → Answer Counts (Refused Refusal)
+reading_of (holds c) = Ok (record { relation = c.relation.id; records = length c.records; missing = missing_count c })
+reading_of (refused x p) = Err (refused_at x p)
 
 -- where record k of a store stands, and its length
-unfoldable pub place_in : Result → ℕ → RecordPlace
-place_in (refused x p) k = RecordPlace.Refused x p
+unfoldable pub place_in : Result → ℕ → Answer (ℕ × ℕ) (Refused Refusal)
+place_in (refused x p) k = Err (refused_at x p)
 place_in (holds c) k =
     cond (ltb k (length c.records))
-    (RecordPlace.At (store_header + k * record_length c.relation) (record_length c.relation)) (RecordPlace.Refused NoPosition 0)
+    (Ok (store_header + k * record_length c.relation, record_length c.relation)) (Err (refused_at NoPosition 0))

@@ -5,29 +5,19 @@ ghost use Rattle.wire.specs.Words.{word_bytes};
 ghost use Rattle.store.specs.Internal.Changes.{over, cleared, moved, closed};
 
 // Sets the bytes from a place on to zero.
+// One call of std, under the equation that contracts cite; `copy` and `move_down` too.
 pub(crate) fn clear(b: &mut [u8], from: usize)
     requires { from ≤ length b.old }
     ensures { b.new ≡ cleared b.old from }
 {
-    let mut i: usize = 0;
-    while i < b.len() - from {
-        b[from + i] = 0;
-        i += 1;
-    }
+    b[from..].fill(0);
 }
 
 // Whether all bytes from a place on are zero.
 pub(crate) fn is_clear(b: &[u8], from: usize) -> bool
     ensures { result ≡ all_of (λ x. eqb x 0) (drop from b.now) }
 {
-    let mut i = from;
-    while i < b.len() {
-        if b[i] != 0 {
-            return false;
-        }
-        i += 1;
-    }
-    true
+    b.iter().skip(from).all(|x| *x == 0)
 }
 
 // Sets a word, least byte first.
@@ -44,11 +34,7 @@ pub(crate) fn copy(b: &mut [u8], at: usize, x: &[u8])
     requires { at + length x.now ≤ length b.old }
     ensures { b.new ≡ over b.old at x.now }
 {
-    let mut i: usize = 0;
-    while i < x.len() {
-        b[at + i] = x[i];
-        i += 1;
-    }
+    b[at..at + x.len()].copy_from_slice(x);
 }
 
 // Moves the bytes that stand n after a place, up to the end, to that place. The last n bytes stay.
@@ -56,12 +42,7 @@ fn move_down(b: &mut [u8], at: usize, n: usize)
     requires { at + n ≤ length b.old }
     ensures { b.new ≡ moved b.old at n }
 {
-    let rest = b.len() - n - at;
-    let mut i: usize = 0;
-    while i < rest {
-        b[at + i] = b[at + n + i];
-        i += 1;
-    }
+    b.copy_within(at + n.., at);
 }
 
 // Takes n bytes out at a place: what follows is moved there, and the bytes freed at the end are zeros.

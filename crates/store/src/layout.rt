@@ -1,18 +1,19 @@
 // The records of a relation as the store sees them: a few numbers, and a table of the places of the readings.
-ghost use Rattle.std.specs.Prelude.{◌≡◌, ◌+◌, ◌*◌, ◌≤◌, not, length};
+ghost use Rattle.std.specs.Prelude.{◌≡◌, ◌+◌, ◌*◌, ◌≤◌, length};
 ghost use Rattle.std.specs.Int.Count.{ones};
 ghost use Rattle.std.proofs.lemmas.List.Edits.{sets};
 ghost use Rattle.wire.specs.Limits.{max_record_bytes};
+ghost use Rattle.wire.specs.Options.{option_of};
 ghost use Rattle.dictionary.specs.Internal.Walk.{relation_at};
 ghost use Rattle.records.specs.Record.{record_length};
 ghost use Rattle.store.specs.Store.{max_store_bytes, store_header};
 ghost use Rattle.store.specs.Internal.Layouts.{reading_place, places_of, spare_after, proper_by, lost_at, marked_field, marked_at, kept_at, ones_at};
-ghost use Rattle.store.specs.Internal.Layouts.{tally as tallyFrom, tally_of, layout_by, LaidOut};
+ghost use Rattle.store.specs.Internal.Layouts.{tally as tallyFrom, layout_by, LaidOut};
 ghost use Rattle.store.specs.Internal.Changes.{Fair};
 
 use crate::STORE_HEADER;
 use dictionary::entries::{is_field, next_place, type_at};
-use records::lengths::{Length, field_count, held_bytes, missing_bytes, record_length};
+use records::lengths::{field_count, held_bytes, missing_bytes, record_length};
 use records::missing::missing_bit;
 use wire::bytes::{byte_on, word_at, word_on};
 use wire::codes::FieldType;
@@ -29,19 +30,12 @@ pub(crate) struct Layout {
     pub bits: usize,
 }
 
-// The bits set in all missing bytes of some records, or that one of them is wrong.
-#[derive(Clone, Copy)]
-pub(crate) enum Tally {
-    Ones(usize),
-    Wrong,
-}
-
-// The place of a field if it is a reading, and 0 if not.
+// The place of a field if it is a reading, and 0 if not. Kept: a number of the table of places.
 fn reading_place(t: FieldType, at: u32) -> u32
     ensures { result ≡ reading_place t at }
 {
     match t {
-        FieldType::Plain(x) => 0,
+        FieldType::Plain(_) => 0,
         FieldType::Reading => at,
     }
 }
@@ -69,8 +63,8 @@ fn described(d: &[u8], relation: usize, size: usize) -> Layout
     let fields = field_count(d, relation);
     Layout {
         id: word_on(d, relation, ENTRY_ID),
-        size: size,
-        fields: fields,
+        size,
+        fields,
         bits: missing_bytes(fields),
     }
 }
@@ -80,11 +74,11 @@ pub(crate) fn lay_of(d: &[u8], relation: usize, table: &mut [u32]) -> Layout
     ensures { LaidOut (relation_at d.now relation) table.old table.new result }
 {
     match record_length(d, relation) {
-        Length::Is(n) => {
+        Some(n) => {
             lay_out(d, relation, table);
             described(d, relation, n)
         }
-        Length::Long => described(d, relation, MAX_RECORD_BYTES + 1),
+        None => described(d, relation, MAX_RECORD_BYTES + 1),
     }
 }
 
@@ -92,80 +86,52 @@ pub(crate) fn lay_of(d: &[u8], relation: usize, table: &mut [u32]) -> Layout
 fn is_spare_clear(s: &[u8], p: usize, n: usize) -> bool
     ensures { result ≡ spare_after s.now p n }
 {
-    if n % 8 == 0 {
-        return true;
-    }
-    byte_on(s, p, RECORD_BITS + n / 8) >> (n % 8) == 0
+    n % 8 == 0 || byte_on(s, p, RECORD_BITS + n / 8) >> (n % 8) == 0
 }
 
 // Whether the entry at a place is a proper record.
+#[tactic(auto, unfolding(crate::specs::Internal::Layouts::proper_by))]
 pub(crate) fn is_proper(s: &[u8], p: usize, l: Layout) -> bool
     ensures { result ≡ proper_by l s.now p }
 {
-    if MAX_RECORD_BYTES < l.size {
-        return false;
-    }
-    if s.len() < p {
-        return false;
-    }
-    if s.len() - p < l.size {
-        return false;
-    }
-    if word_at(s, p) as usize != l.size {
-        return false;
-    }
-    if word_on(s, p, ENTRY_KIND) != RECORD_ENTRY {
-        return false;
-    }
-    if word_on(s, p, ENTRY_ID) != l.id {
-        return false;
-    }
-    is_spare_clear(s, p, l.fields)
+    l.size <= MAX_RECORD_BYTES
+        && p <= s.len()
+        && l.size <= s.len() - p
+        && word_at(s, p) as usize == l.size
+        && word_on(s, p, ENTRY_KIND) == RECORD_ENTRY
+        && word_on(s, p, ENTRY_ID) == l.id
+        && is_spare_clear(s, p, l.fields)
 }
 
 // Whether the field that the table has at i is a reading of 65535.
+#[tactic(auto, unfolding(crate::specs::Internal::Layouts::lost_at))]
 pub(crate) fn is_lost(table: &[u32], s: &[u8], p: usize, i: usize) -> bool
     ensures { result ≡ lost_at table.now s.now p i }
 {
     let at = number_at(table, i) as usize;
-    if at == 0 {
-        return false;
-    }
-    word_on(s, p, at) == MISSING_READING
+    at != 0 && word_on(s, p, at) == MISSING_READING
 }
 
-// Whether the field that the table has at i is a reading of 65535 without its missing bit.
-fn is_unmarked(table: &[u32], s: &[u8], p: usize, i: usize) -> bool
-    ensures { result ≡ not (marked_field table.now s.now p i) }
+// Whether the field that the table has at i is no reading of 65535, or has its missing bit set.
+fn is_marked_at(table: &[u32], s: &[u8], p: usize, i: usize) -> bool
+    ensures { result ≡ marked_field table.now s.now p i }
 {
-    if !is_lost(table, s, p, i) {
-        return false;
-    }
-    !missing_bit(s, p, i)
+    !is_lost(table, s, p, i) || missing_bit(s, p, i)
 }
 
 // Whether each reading of 65535 has its missing bit set.
 fn is_marked(table: &[u32], s: &[u8], p: usize, n: usize) -> bool
     ensures { result ≡ marked_at table.now s.now p n }
 {
-    let mut i: usize = 0;
-    while i < n {
-        if is_unmarked(table, s, p, i) {
-            return false;
-        }
-        i += 1;
-    }
-    true
+    (0..n).all(|i| is_marked_at(table, s, p, i))
 }
 
 // Whether the entry at a place is a record as a store keeps it.
+#[tactic(auto, unfolding(crate::specs::Internal::Layouts::kept_at))]
 fn is_kept(table: &[u32], s: &[u8], p: usize, l: Layout) -> bool
     ensures { result ≡ kept_at l table.now s.now p }
 {
-    if !is_proper(s, p, l) {
-        return false;
-    }
-    is_marked(table, s, p, l.fields)
+    is_proper(s, p, l) && is_marked(table, s, p, l.fields)
 }
 
 // "the number of bits set", in one byte.
@@ -180,30 +146,27 @@ pub(crate) fn count_ones(s: &[u8], p: usize, n: usize) -> usize
     requires { (p + n ≤ length s.now) × (length s.now ≤ max_store_bytes) }
     ensures { (result ≡ ones_at s.now p n) × (result ≤ 8 * n) }
 {
-    let mut i: usize = 0;
     let mut sum: usize = 0;
-    while i < n {
-        sum += byte_ones(s[p + i]);
-        i += 1;
+    for x in &s[p..p + n] {
+        sum += byte_ones(*x);
     }
     sum
 }
 
 // The bits set in the missing bytes of so many records behind the header, if they all are as a store keeps them.
-pub(crate) fn tally_of(table: &[u32], s: &[u8], l: Layout, count: usize) -> Tally
+// Kept as a fact: as in `changes::mark`.
+pub(crate) fn tally_of(table: &[u32], s: &[u8], l: Layout, count: usize) -> Option<usize>
     requires { (length s.now ≤ max_store_bytes) × Fair l }
-    ensures { result ≡ tally_of (tallyFrom l table.now s.now count store_header) }
+    ensures { result ≡ option_of (tallyFrom l table.now s.now count store_header) }
 {
     let mut p = STORE_HEADER;
     let mut sum: usize = 0;
-    let mut i: usize = 0;
-    while i < count {
+    for _ in 0..count {
         if !is_kept(table, s, p, l) {
-            return Tally::Wrong;
+            return None;
         }
         sum += count_ones(s, p + RECORD_BITS, l.bits);
         p += l.size;
-        i += 1;
     }
-    Tally::Ones(sum)
+    Some(sum)
 }

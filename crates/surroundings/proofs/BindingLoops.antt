@@ -2,27 +2,27 @@
 -- a row that was found is a row of the table.
 use Prim.Native.Nat.{ℕ, zero, suc, ◌+◌, ◌*◌, ◌-◌, ◌<◌, ◌≤◌}
 use mathlib.Core.Path.{◌≡◌, refl, ap, ◌∙◌}
-use mathlib.Core.Bool.{Bool, true, false, cond, not}
+use mathlib.Core.Bool.{Bool, true, false, cond}
 use mathlib.Core.List.{List, [], ◌∷◌}
 use mathlib.Core.Option.{Option, none, some}
 use native.Mathlib.Omega.{arith}
-use native.Mathlib.Numerals.{add-one, add-two, add-three, add-four, add_five}
+use native.Mathlib.Numerals.{add-one}
 use lib.Dec.{eqb}
-use lib.ListN.{length, get_or, set}
-use lib.Seq.{sets, length-sets}
+use lib.ListN.{length, get_or, set, drop, drop_of_length-le}
+use lib.Seq.{sets, length-sets, drop-cons}
 use borrow.Author.Tests.{eq-eqb, ne_eqb}
 use Rattle.wire.specs.Words.{word_at}
 use Rattle.surroundings.specs.Slots.{Slot}
 use Rattle.surroundings.specs.Bindings.{binding_row, binding_rows, context_binding, bound_contexts}
 use Rattle.surroundings.specs.Bindings.{cell, binds_at, row_binding, row_coded}
-use Rattle.surroundings.specs.Tables.{slots_in, bound_answer}
-use Rattle.surroundings.specs.declared.Bound.{Bound}
-use Rattle.surroundings.specs.declared.Bound.TheVariants as Bound
+use Rattle.std.specs.Prelude.{Some, None}
+use Rattle.wire.specs.Options.{option_of}
+use Rattle.surroundings.specs.Tables.{slots_in}
 
 -- ---- the row that binds a number
 
 module _ (t : List ℕ) (c rows row : ℕ) where
-  pub binding-here : row < rows → binds_at t c row ≡ true → Bound.At row ≡ bound_answer (row_binding t c (rows - row) row)
+  pub binding-here : row < rows → binds_at t c row ≡ true → Some row ≡ option_of (row_binding t c (rows - row) row)
   unfolding row_binding
   binding-here h e = let m : rows - row ≡ suc (rows - (row + 1)) = omega arith in rw (m, row_binding, e)
 
@@ -30,14 +30,14 @@ module _ (t : List ℕ) (c rows row : ℕ) where
   unfolding row_binding
   binding-next h e = let m : rows - row ≡ suc (rows - (row + 1)) = omega arith in rw (m, row_binding, e)
 
-  pub binding-end : rows ≤ row → Bound.Nothing ≡ bound_answer (row_binding t c (rows - row) row)
+  pub binding-end : rows ≤ row → None ≡ option_of (row_binding t c (rows - row) row)
   unfolding row_binding
   binding-end h = let m : rows - row ≡ 0 = omega arith in rw m
 
 -- ---- the row of a code
 
 module _ (t : List ℕ) (p rows row : ℕ) where
-  pub coded-here : row < rows → (n : ℕ) → n ≡ cell t row 0 → n ≡ p → Bound.At row ≡ bound_answer (row_coded t p (rows - row) row)
+  pub coded-here : row < rows → (n : ℕ) → n ≡ cell t row 0 → n ≡ p → Some row ≡ option_of (row_coded t p (rows - row) row)
   unfolding row_coded
   coded-here h n e z = let m : rows - row ≡ suc (rows - (row + 1)) = omega arith in rw (m, row_coded, ← e, eq-eqb n p z)
 
@@ -46,17 +46,17 @@ module _ (t : List ℕ) (p rows row : ℕ) where
   unfolding row_coded
   coded-next h n e z = let m : rows - row ≡ suc (rows - (row + 1)) = omega arith in rw (m, row_coded, ← e, ne_eqb n p z)
 
-  pub coded-end : rows ≤ row → Bound.Nothing ≡ bound_answer (row_coded t p (rows - row) row)
+  pub coded-end : rows ≤ row → None ≡ option_of (row_coded t p (rows - row) row)
   unfolding row_coded
   coded-end h = let m : rows - row ≡ 0 = omega arith in rw m
 
 -- ---- a row that was found
 
-pub bound_some : (o : Option ℕ) (row : ℕ) → Bound.At row ≡ bound_answer o → o ≡ some row
+pub bound_some : (o : Option ℕ) (row : ℕ) → Some row ≡ option_of o → o ≡ some row
 bound_some none row e = absurd (let z : ◌≡◌ {A = ℕ} 0 1 = cc in omega arith)
 bound_some (some q) row e = cc
 
-pub bound-none : (o : Option ℕ) → Bound.Nothing ≡ bound_answer o → o ≡ none
+pub bound-none : (o : Option ℕ) → None ≡ option_of o → o ≡ none
 bound-none none e = refl
 bound-none (some q) e = absurd (let z : ◌≡◌ {A = ℕ} 0 1 = cc in omega arith)
 
@@ -75,29 +75,20 @@ unfolding row_coded
 coded-inside t p zero row k e = absurd (let z : ◌≡◌ {A = ℕ} 0 1 = cc in omega arith)
 coded-inside t p (suc n) row k e = row_inside n row k (row_coded t p n (row + 1)) (coded-inside t p n (row + 1) k) (eqb (cell t row 0) p) e
 
--- ---- whether a row binds a number
-
-module _ (t : List ℕ) (c row n : ℕ) (e : n ≡ cell t row 1) where
-  pub binds-not : (n ≡ c → ⊥) → false ≡ binds_at t c row
-  binds-not z = rw (← e, ne_eqb n c z)
-
-  module _ (z : n ≡ c) (code : ℕ) (f : code ≡ cell t row 0) where
-    pub binds-context : code ≡ 0 → true ≡ binds_at t c row
-    binds-context y = rw (← e, eq-eqb n c z, ← f, eq-eqb code 0 y)
-
-    pub binds-run : (code ≡ 0 → ⊥) → (p : ℕ) → p ≡ cell t row 3 → not (eqb p 0) ≡ binds_at t c row
-    binds-run y p g = rw (← e, eq-eqb n c z, ← f, ne_eqb code 0 y, ← g)
-
 -- ---- the numbers of a row
 
-pub half-stored : (t : List ℕ) (i a b c d e : ℕ) →
-    set (set (set (set (set t i a) (i + 1) b) (i + 2) c) (i + 3) d) (i + 4) e ≡ sets t i (a ∷ b ∷ c ∷ d ∷ e ∷ [])
-half-stored t i a b c d e = rw (add-one, add-two, add-three, add-four)
+-- those that are still to come, stored from here on, give what all of them give from the start
+pub stored-start : (t l : List ℕ) (i : ℕ) → sets t (i + 0) (drop 0 l) ≡ sets t i l
+stored-start t l i = let z : i + 0 ≡ i = omega arith in rw z
 
--- one half after the other
-pub row-stored : (t u v : List ℕ) (i a b c d e f g h j k : ℕ) → u ≡ sets t i (a ∷ b ∷ c ∷ d ∷ e ∷ []) →
-    v ≡ sets u (i + 5) (f ∷ g ∷ h ∷ j ∷ k ∷ []) → v ≡ sets t i (a ∷ b ∷ c ∷ d ∷ e ∷ f ∷ g ∷ h ∷ j ∷ k ∷ [])
-row-stored t u v i a b c d e f g h j k x y = y ∙ ap (λ l. sets l (i + 5) (f ∷ g ∷ h ∷ j ∷ k ∷ [])) x ∙ rw (add_five)
+module _ (t u l : List ℕ) (i k : ℕ) (e : sets u (i + k) (drop k l) ≡ sets t i l) where
+  pub stored-next : k < length l → sets (set u (i + k) (get_or l k 0)) (i + (k + 1)) (drop (k + 1) l) ≡ sets t i l
+  stored-next h =
+      let next : i + (k + 1) ≡ suc (i + k) = omega arith in
+      rw (next, add-one) (rw (drop-cons l k 0 h) at e)
+
+  pub stored-end : length l ≤ k → u ≡ sets t i l
+  stored-end h = rw (drop_of_length-le l h) at e
 
 -- ---- contexts in scope
 

@@ -3,14 +3,15 @@ use Prim.Native.Nat.{ℕ, suc, ◌+◌, ◌-◌, ◌<◌, ◌≤◌}
 use mathlib.Core.Path.{◌≡◌, refl, ◌∙◌}
 use mathlib.Core.Bool.{true, false}
 use mathlib.Core.List.{List, ◌∷◌}
-use mathlib.Core.Option.{Option, none, some}
 use native.Mathlib.Omega.{arith}
-use lib.Dec.{ltb}
 use lib.ListN.{length, set, length-set}
 use lib.Seq.{sets}
-use borrow.Author.Tests.{le-leb, lt-leb}
-use Rattle.dictionary.specs.declared.lookup.Place.TheVariants.{At, Unknown}
-use Rattle.dictionary.specs.Internal.Answers.{place_answer}
+use Rattle.std.specs.Prelude.{Some}
+use Rattle.wire.specs.Options.{option_of}
+use Rattle.dictionary.specs.Naming.{Name}
+use Rattle.dictionary.specs.Internal.Walk.{relation_place}
+use Rattle.dictionary.proofs.Bounds.{found_below}
+use Rattle.surroundings.proofs.BindingLoops.{bound_some}
 use Rattle.surroundings.specs.Slots.{Slot, cell, row_holds, slot_of, slots_from, relations_in}
 use Rattle.surroundings.specs.Tables.{numbers_in, Laid}
 
@@ -99,19 +100,5 @@ module _ (d t : List ℕ) (q count : ℕ) (numbers₀ relations₀ : List ℕ) w
 
 -- ---- the place of a relation's entry
 
-pub place-some : (o : Option ℕ) (p : ℕ) → At p ≡ place_answer o → o ≡ some p
-place-some none p e = absurd (let z : ◌≡◌ {A = ℕ} 0 1 = cc in omega arith)
-place-some (some q) p e = cc
-
-pub place_none : (o : Option ℕ) → Unknown ≡ place_answer o → o ≡ none
-place_none none e = refl
-place_none (some q) e = absurd (let z : ◌≡◌ {A = ℕ} 0 1 = cc in omega arith)
-
--- ---- the scope of a row
-
-module _ (t : List ℕ) (q row a b : ℕ) (e : a ≡ cell t row 2) where
-  pub holds-late : a ≤ q → b ≡ cell t row 3 → ltb q b ≡ row_holds t q row
-  holds-late h f = rw (← e, ← f, le-leb a q h)
-
-  pub holds-early : q < a → false ≡ row_holds t q row
-  holds-early h = rw (← e, lt-leb a q h)
+pub place_below : (d : List ℕ) (n : Name) (p : ℕ) → Some p ≡ option_of (relation_place d n) → p < 65535
+place_below d n p e = found_below d n p (bound_some (relation_place d n) p e)

@@ -1,16 +1,19 @@
 -- A law for each way through a turn of the loops over the parameter rows, and for each answer of the functions that they call.
 use Prim.Native.Nat.{ℕ, suc, ◌+◌, ◌*◌, ◌-◌, ◌%◌, ◌<◌, ◌≤◌}
-use mathlib.Core.Path.{◌≡◌}
+use mathlib.Core.Path.{◌≡◌, refl, ap, ◌∙◌}
 use mathlib.Core.Bool.{Bool, true, false}
 use mathlib.Core.List.{List}
 use mathlib.Core.Option.{Option, none, some, map}
 use native.Mathlib.Omega.{arith}
-use lib.Dec.{eqb}
-use borrow.Author.Tests.{eq-eqb, ne_eqb}
+use borrow.Author.Tests.{ne_eqb}
 use Rattle.wire.specs.Lists.{among, any_of}
-use Rattle.wire.specs.Classes.{due, left_out, foreign, descriptor_class, classify}
+use Rattle.std.specs.Prelude.{Result, Ok, Err, Some, None}
+use Rattle.std.specs.Result.{OkIff, result_ok}
+use Rattle.wire.specs.Classes.{Class, due, left_out, foreign, descriptor_class, classify}
 use Rattle.wire.specs.declared.codes.DataType.{DataType}
 use Rattle.wire.specs.declared.codes.FieldType.TheVariants.{Plain}
+use Rattle.classes.specs.declared.NotDue.{NotDue}
+use Rattle.classes.specs.Classes.{class_of}
 use Rattle.dictionary.specs.Format.{Format}
 use Rattle.surroundings.specs.Parameters.{cell, is_row, row_format, size_held, with_place, parameter_from, held_from}
 
@@ -45,14 +48,6 @@ module _ (t : List ℕ) (m i row count p : ℕ) where
   unfolding parameter_from
   parameter-end h = let k : count - row ≡ 0 = omega arith in rw k
 
--- the first number of a row is the message, the second the parameter
-module _ (t : List ℕ) (m i row a b : ℕ) (e : a ≡ cell t row 0) where
-  pub row_same : a ≡ m → b ≡ cell t row 1 → eqb b i ≡ is_row t m i row
-  row_same h f = rw (← e, ← f, eq-eqb a m h)
-
-  pub row_other : (a ≡ m → ⊥) → false ≡ is_row t m i row
-  row_other h = rw (← e, ne_eqb a m h)
-
 -- ---- what a row says
 
 -- a code that is no byte is foreign
@@ -73,22 +68,40 @@ far-foreign code h =
       ne_eqb 27 code (λ z. omega (arith, z)),
     )
 
+-- a number as a byte, if it is one
+byte-is : {E : Type 0} (r : Result ℕ E) {n x : ℕ} → OkIff r (n < 256) n → Some x ≡ result_ok r → x ≡ n
+byte-is (Ok y) i e = cc
+byte-is (Err y) i e = absurd cc
+
+no-byte : {E : Type 0} (r : Result ℕ E) {n : ℕ} → OkIff r (n < 256) n → None ≡ result_ok r → 255 < n
+no-byte (Ok y) i e = absurd cc
+no-byte (Err y) i e = omega (arith, i)
+
+due-class : (x : Class DataType) {t : DataType} → Some t ≡ result_ok (class_of x) → x ≡ due t
+due-class (due y) e = cc
+due-class left_out e = absurd cc
+due-class foreign e = absurd cc
+
+not-due : (x : Class DataType) → None ≡ result_ok (class_of x) → (scale held : ℕ) → none ≡ row_format x scale held
+unfolding row_format
+not-due (due y) e scale held = absurd cc
+not-due left_out e scale held = refl
+not-due foreign e scale held = refl
+
 module _ (code scale held p : ℕ) where
   abbrev told : Option (Format × ℕ)
   told = map (with_place p) (row_format (descriptor_class code) scale held)
 
-  pub due-code : (t : DataType) (n : ℕ) → descriptor_class code ≡ due t → n ≡ size_held t held →
-      some (record { type = Plain t; scale = scale; size = n }, p) ≡ told
-  unfolding row_format
-  due-code t n e f = rw (e, f)
+  module _ {E : Type 0} (r : Result ℕ E) (i : OkIff r (code < 256) code) where
+    pub far-code : None ≡ result_ok r → none ≡ told
+    unfolding row_format
+    far-code e = rw (far-foreign code (no-byte r i e))
 
-  pub left-code : descriptor_class code ≡ left_out → none ≡ told
-  unfolding row_format
-  left-code e = rw e
+    module _ (byte : ℕ) (e : Some byte ≡ result_ok r) (c : Result DataType NotDue) (class : c ≡ class_of (descriptor_class byte)) where
+      pub due-code : (t : DataType) (n : ℕ) → Some t ≡ result_ok c → n ≡ size_held t held →
+          some (record { type = Plain t; scale = scale; size = n }, p) ≡ told
+      unfolding row_format
+      due-code t n h f = rw (← byte-is r i e, due-class (descriptor_class byte) (h ∙ ap result_ok class), f)
 
-  pub foreign-code : descriptor_class code ≡ foreign → none ≡ told
-  unfolding row_format
-  foreign-code e = rw e
-
-  pub far-code : 255 < code → none ≡ told
-  far-code h = foreign-code (far-foreign code h)
+      pub undue-code : None ≡ result_ok c → none ≡ told
+      undue-code h = rw (← byte-is r i e) (ap (map (with_place p)) (not-due (descriptor_class byte) (h ∙ ap result_ok class) scale held))

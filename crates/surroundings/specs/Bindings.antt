@@ -5,7 +5,8 @@ use Rattle.std.proofs.Math.Option
 use Rattle.std.proofs.Math.Option.{Option, none, some}
 use Rattle.wire.specs.Words.{word_at}
 use Rattle.dictionary.specs.Naming.{Name}
-use Rattle.grammar.specs.Kind as Grammar
+use Rattle.grammar.specs.declared.Kind.{Kind}
+use Rattle.grammar.specs.declared.Kind.TheVariants.{Number, Text, Date}
 use Rattle.grammar.specs.Tree.{Reference, field, parameter, parameter2}
 use Rattle.meaning.specs.Inputs.{Fetched, on_found, flagged, unless_flagged}
 use Rattle.walking.specs.Walk.{Over, Sight}
@@ -64,11 +65,11 @@ text_kind = 20
 abbrev pub date_kind : ℕ
 date_kind = 21
 
-unfoldable pub kind_if : ℕ → Option Grammar.Kind
+unfoldable pub kind_if : ℕ → Option Kind
 kind_if k =
     cond (eqb k 0) none
-    (cond (leb k number_kinds) (some (Grammar.Kind.Number (neg_ℤ (pos (k - 1)))))
-    (cond (eqb k text_kind) (some Grammar.Kind.Text) (cond (eqb k date_kind) (some Grammar.Kind.Date) none)))
+    (cond (leb k number_kinds) (some (Number (neg_ℤ (pos (k - 1)))))
+    (cond (eqb k text_kind) (some Text) (cond (eqb k date_kind) (some Date) none)))
 
 pub record Binding : Type 0 where
   pub code : ℕ

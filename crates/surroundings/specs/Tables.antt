@@ -1,15 +1,13 @@
--- Slots in two tables of numbers, the table of condition places, and the answers of the code.
+-- Slots in two tables of numbers, the table of condition places, and what the code answers of a parameter.
+use Rattle.std.specs.Prelude as Rust
 use Rattle.std.specs.Prelude.{ℕ, zero, suc, ◌+◌, ◌≡◌, List, [], ◌∷◌, map, length, get_or}
 use Rattle.std.proofs.Math.Option.{Option, none, some}
 use Rattle.std.proofs.lemmas.List.Edits.{sets}
 use Rattle.dictionary.specs.Format.{Format}
+use Rattle.dictionary.specs.declared.field.Description.{Description}
 use Rattle.dictionary.specs.Internal.FieldAnswers.{format_is}
 use Rattle.grammar.specs.Conditions.{Condition}
 use Rattle.surroundings.specs.Slots.{Slot, relations_in}
-use Rattle.surroundings.specs.declared.Bound.{Bound}
-use Rattle.surroundings.specs.declared.Bound.TheVariants as Bound
-use Rattle.surroundings.specs.declared.Parameter.{Parameter}
-use Rattle.surroundings.specs.declared.Parameter.TheVariants as Parameter
 
 -- the n slots that two tables hold from k on
 unfoldable pub slots_in : List ℕ → List ℕ → ℕ → ℕ → List Slot
@@ -27,15 +25,10 @@ pub record Laid (xs : List Slot) (numbers relations numbers' relations' : List �
   pub numbers_filled : numbers' ≡ sets numbers 0 (numbers_in xs)
   pub relations_filled : relations' ≡ sets relations 0 (relations_in xs)
 
--- the answer for a row that is found, or for none
-abbrev pub bound_answer : Option ℕ → Bound
-bound_answer none = Bound.Nothing
-bound_answer (some row) = Bound.At row
-
 -- what an answer says: a format and a place, or that there is no such parameter
-abbrev pub parameter_is : Parameter → Option (Format × ℕ)
-parameter_is (Parameter.At x p) = some (format_is x, p)
-parameter_is Parameter.Nothing = none
+abbrev pub parameter_is : Rust.Option (Description × ℕ) → Option (Format × ℕ)
+parameter_is (Rust.Some x) = some (format_is x.0, x.1)
+parameter_is Rust.None = none
 
 -- what the table of condition places holds at a number: the place of that condition, and 0 where there is none
 abbrev pub condition_place : Option Condition → ℕ

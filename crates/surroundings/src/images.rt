@@ -7,9 +7,7 @@ ghost use Rattle.wire.specs.Limits.{max_parameters};
 ghost use Rattle.surroundings.specs.Parameters.{held_from, is_row, parameter_from, row_format, with_place, size_held};
 ghost use Rattle.surroundings.specs.Tables.{parameter_is};
 
-use crate::Parameter;
-use crate::table::smaller;
-use classes::{DescriptorClass, descriptor_class};
+use classes::Code;
 use dictionary::field::Description;
 use wire::codes::{DataType, FieldType, TextType};
 use wire::limits::{MAX_PARAMETERS, PARAMETER_ROW};
@@ -19,18 +17,14 @@ use wire::rows::{
 };
 use wire::table::number_at;
 
-const GREATEST_BYTE: u32 = 255;
-
 // The bytes of all message images.
 pub fn image_bytes(parameters: &[u32], count: usize) -> usize
     ensures { result ≡ held_from parameters.now (min count max_parameters) 0 }
 {
-    let rows = smaller(count, MAX_PARAMETERS);
-    let mut row: usize = 0;
+    let rows = count.min(MAX_PARAMETERS);
     let mut sum: usize = 0;
-    while row < rows {
+    for row in 0..rows {
         sum += number_at(parameters, row * PARAMETER_ROW + PARAMETER_HELD) as usize;
-        row += 1;
     }
     sum
 }
@@ -40,36 +34,25 @@ fn size_held(data_type: DataType, held: u32) -> u32
     ensures { result ≡ size_held data_type held }
 {
     match data_type {
-        DataType::Number(_) => held,
-        DataType::Date => held,
-        DataType::Chars(t) => match t {
-            TextType::Text => held,
-            TextType::Varying => if held < 2 { 0 } else { held - 2 },
-            TextType::Cstring => held,
-        },
+        DataType::Chars(TextType::Varying) => held.saturating_sub(2),
+        DataType::Chars(TextType::Text | TextType::Cstring)
+        | DataType::Number(_)
+        | DataType::Date => held,
     }
 }
 
 // What a row says of its parameter, whose bytes stand at p.
-fn described(code: u32, scale: u32, held: u32, p: usize) -> Parameter
+fn described(code: u32, scale: u32, held: u32, p: usize) -> Option<(Description, usize)>
     ensures { parameter_is result ≡ map (with_place p) (row_format (descriptor_class code) (scale % 256) held) }
 {
-    if GREATEST_BYTE < code {
-        return Parameter::Nothing;
-    }
-    let class = descriptor_class(code as u8);
-    match class {
-        DescriptorClass::Due(t) => Parameter::At(
-            Description {
-                data_type: FieldType::Plain(t),
-                scale: (scale % 256) as u8,
-                size: size_held(t, held),
-            },
-            p,
-        ),
-        DescriptorClass::LeftOut => Parameter::Nothing,
-        DescriptorClass::Foreign => Parameter::Nothing,
-    }
+    let code = u8::try_from(code).ok()?;
+    let t = DataType::of(code).ok()?;
+    let description = Description {
+        data_type: FieldType::Plain(t),
+        scale: (scale % 256) as u8,
+        size: size_held(t, held),
+    };
+    Some((description, p))
 }
 
 // Whether a row is that of a parameter.
@@ -77,10 +60,9 @@ fn is_row(parameters: &[u32], row: usize, message: MessageNumber, index: u32) ->
     requires { row ≤ max_parameters }
     ensures { result ≡ is_row parameters.now message.0 index row }
 {
-    if number_at(parameters, row * PARAMETER_ROW + PARAMETER_MESSAGE) == message.0 as u32 {
-        return number_at(parameters, row * PARAMETER_ROW + PARAMETER_INDEX) == index;
-    }
-    false
+    let at = row * PARAMETER_ROW;
+    number_at(parameters, at + PARAMETER_MESSAGE) == u32::from(message.0)
+        && number_at(parameters, at + PARAMETER_INDEX) == index
 }
 
 // A parameter of a message, by one scan of the rows.
@@ -89,13 +71,12 @@ pub fn parameter_of(
     count: usize,
     message: MessageNumber,
     index: u32,
-) -> Parameter
+) -> Option<(Description, usize)>
     ensures { parameter_is result ≡ parameter_from parameters.now message.0 index (min count max_parameters) 0 0 }
 {
-    let rows = smaller(count, MAX_PARAMETERS);
-    let mut row: usize = 0;
+    let rows = count.min(MAX_PARAMETERS);
     let mut p: usize = 0;
-    while row < rows {
+    for row in 0..rows {
         let held = number_at(parameters, row * PARAMETER_ROW + PARAMETER_HELD);
         if is_row(parameters, row, message, index) {
             let code = number_at(parameters, row * PARAMETER_ROW + PARAMETER_TYPE);
@@ -103,7 +84,6 @@ pub fn parameter_of(
             return described(code, scale, held, p);
         }
         p += held as usize;
-        row += 1;
     }
-    Parameter::Nothing
+    None
 }

@@ -1,18 +1,19 @@
 -- Contexts that were opened: their rows get a scope at the end.
-use Prim.Native.Nat.{ℕ, zero, suc, ◌+◌, ◌-◌, ◌*◌, ◌≤◌}
+use Prim.Native.Nat.{ℕ, zero, suc, ◌+◌, ◌-◌, ◌*◌, ◌<◌, ◌≤◌}
 use mathlib.Core.Path.{◌≡◌, refl, sym, ap, ap₂, ◌∙◌, subst}
+use mathlib.Core.Bool.{Bool, true, false, cond, ◌&&◌}
 use mathlib.Core.List.{List, [], ◌∷◌, ◌++◌}
 use native.Mathlib.Numerals.{add-two, add-three, sub-one}
 use native.Mathlib.Omega.{arith}
-use borrow.Author.Tests.{le-leb}
+use lib.Dec.{leb}
+use borrow.Author.Tests.{le-leb, leb-false}
 use lib.ListN.{length, set}
 use lib.Seq.{sets, set-set}
+use Rattle.std.specs.Prelude.{Ok}
 use Rattle.wire.specs.Codes as blr
 use Rattle.wire.specs.Limits.{max_request_bytes, max_contexts, context_row_numbers}
 use Rattle.dictionary.specs.Dictionary.{Relation}
 use Rattle.grammar.specs.declared.Cursor.{Cursor}
-use Rattle.grammar.specs.declared.Fit.{Fit}
-use Rattle.grammar.specs.declared.Step.TheVariants as Step
 use Rattle.grammar.specs.Tree.{Stream, Heading, loop, modify, handler, receive, send, store, label}
 use Rattle.grammar.specs.Bytes.{stream_bytes, heading_bytes}
 use Rattle.grammar.specs.Environment.{Context, Scope, stream_context, modify_context}
@@ -35,6 +36,26 @@ pub closed_on : (ct : List ℕ) (row n start end : ℕ) → (n ≡ 0 → ⊥) �
 unfolding closed
 closed_on ct row zero start end z = absurd (z refl)
 closed_on ct row (suc n) start end z = rw (sub-one (suc n))
+
+-- the next row is closed
+pub closed_next : (ct ct' : List ℕ) (row opened start end : ℕ) → row < opened →
+    ct' ≡ set (set ct (row * 6 + 2) (in_table start)) (row * 6 + 3) (in_table end) →
+    closed ct' (row + 1) (opened - (row + 1)) start end ≡ closed ct row (opened - row) start end
+closed_next ct ct' row opened start end h e =
+    let one : opened - (row + 1) ≡ opened - row - 1 = omega arith in
+    rw (e, one) (sym (closed_on ct row (opened - row) start end (λ z. absurd (omega (arith, z)))))
+
+-- all of them are, within the greatest count
+pub closed_all : (ct ct' : List ℕ) (row opened last start end : ℕ) → opened ≤ max_contexts → opened ≤ last →
+    closed ct' last (opened - last) start end ≡ closed ct row (opened - row) start end →
+    ct' ≡ cond (leb row opened && leb opened max_contexts) (closed ct row (opened - row) start end) ct
+closed_all ct ct' row opened last start end few past e =
+    rw (le-leb opened max_contexts few)
+    (closed_none ct' last (opened - last) start end (omega arith) ∙ e ∙ by (leb row opened) refl)
+  where
+    by : (b : Bool) → leb row opened ≡ b → closed ct row (opened - row) start end ≡ cond (b && true) (closed ct row (opened - row) start end) ct
+    by true h = refl
+    by false h = sym (closed_none ct row (opened - row) start end (omega (arith, leb-false row opened h)))
 
 -- ---- rows, with rows after them
 
@@ -96,11 +117,11 @@ streams-placed rs o [] p start end = refl
 streams-placed rs o (s ∷ ss) p start end =
     ap (λ z. context_row (stream_context rs o s) p start end ++ z) (streams-placed rs o ss (p + length (stream_bytes s)) start end)
 
-module _ (l rest : List ℕ) (row : ℕ) (c end : Cursor) (f : Fit) (here : c.at ≤ max_request_bytes) (there : end.at ≤ max_request_bytes)
+module _ (l rest : List ℕ) (row : ℕ) (c end : Cursor) (here : c.at ≤ max_request_bytes) (there : end.at ≤ max_request_bytes)
     (few : c.contexts ≤ max_contexts) where
   -- contexts that have one scope
   pub contexts-closed : (xs : List Placed) → c.contexts ≡ row + length xs →
-      closed_after (sets l (row * context_row_numbers) (placed_rows xs 0 0 ++ rest)) row c (Step.Next f end) ≡
+      closed_after (sets l (row * context_row_numbers) (placed_rows xs 0 0 ++ rest)) row c (Ok end) ≡
       sets l (row * context_row_numbers) (placed_rows xs c.at end.at ++ rest)
   contexts-closed xs e =
       let more : c.contexts - row ≡ length xs = omega arith in
@@ -110,7 +131,7 @@ module _ (l rest : List ℕ) (row : ℕ) (c end : Cursor) (f : Fit) (here : c.at
 
   -- the streams of an rse, which a code opens
   pub streams-closed : (rs : List Relation) (o : ℕ) (ss : List Stream) (p : ℕ) → c.contexts ≡ row + length ss →
-      closed_after (sets l (row * context_row_numbers) (stream_rows rs o ss p 0 0 ++ rest)) row c (Step.Next f end) ≡
+      closed_after (sets l (row * context_row_numbers) (stream_rows rs o ss p 0 0 ++ rest)) row c (Ok end) ≡
       sets l (row * context_row_numbers) (stream_rows rs o ss p c.at end.at ++ rest)
   streams-closed rs o ss p e =
       rw (streams-placed rs o ss p 0 0, streams-placed rs o ss p c.at end.at)
@@ -119,7 +140,7 @@ module _ (l rest : List ℕ) (row : ℕ) (c end : Cursor) (f : Fit) (here : c.at
   -- the context of a heading
   pub heading-closed : (rs : List Relation) (sc : Scope) (h : Heading) (p : ℕ) → c.at ≡ p + length (heading_bytes h) →
       c.contexts ≡ row + heading_contexts h →
-      closed_after (sets l (row * context_row_numbers) (open_row rs sc h p ++ rest)) row c (Step.Next f end) ≡
+      closed_after (sets l (row * context_row_numbers) (open_row rs sc h p ++ rest)) row c (Ok end) ≡
       sets l (row * context_row_numbers) (heading_rows rs sc h p end.at ++ rest)
   unfolding heading_rows heading_contexts heading_bytes
   heading-closed rs sc loop p b e = contexts-closed [] e

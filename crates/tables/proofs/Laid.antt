@@ -7,7 +7,7 @@ use lib.ListN.{length, set}
 use lib.Seq.{sets, set_comm, set-set}
 use Rattle.grammar.specs.declared.Cursor.{Cursor}
 use Rattle.tables.specs.Tables.{Tables, joined, laid}
-use Rattle.tables.specs.Written.{listed}
+use Rattle.tables.specs.Written.{listed_number}
 use Rattle.tables.proofs.Stores.{sets-append}
 
 -- a run of stores, then a store before it
@@ -30,13 +30,13 @@ row-over l rows i j a b c d e =
     ∙ ap (λ k. sets (set (set (set (set l i a) (suc i) b) (suc (suc i)) c) (suc (suc (suc i))) d) k rows) (four i j e)
 
 -- the last number of a row, 0 and then perhaps another
-number-over : (l : List ℕ) (i n : ℕ) → sets (set l i 0) i (listed n) ≡ set l i n
+number-over : (l : List ℕ) (i n : ℕ) → sets (set l i 0) i (listed_number n) ≡ set l i n
 number-over l i zero = refl
 number-over l i (suc n) = set-set l i 0 (suc n)
 
 -- the row above rows that are there already, whose last number is there too
 pub row-whole : (l rows : List ℕ) (i j n a b c d : ℕ) → j ≡ i + 5 →
-    sets (sets (sets (set l (i + 4) 0) (i + 4) (listed n)) j rows) i (a ∷ b ∷ c ∷ d ∷ []) ≡ sets l i (a ∷ b ∷ c ∷ d ∷ n ∷ rows)
+    sets (sets (sets (set l (i + 4) 0) (i + 4) (listed_number n)) j rows) i (a ∷ b ∷ c ∷ d ∷ []) ≡ sets l i (a ∷ b ∷ c ∷ d ∷ n ∷ rows)
 row-whole l rows i j n a b c d e =
     let next : j ≡ suc (i + 4) = omega arith in
     ap (λ z. sets (sets z j rows) i (a ∷ b ∷ c ∷ d ∷ [])) (number-over l (i + 4) n)

@@ -4,19 +4,19 @@ use mathlib.Core.Path.{◌≡◌, refl}
 use mathlib.Core.List.{List, [], ◌∷◌}
 use native.Mathlib.Nat.{add-zero, mod-eq_of_lt}
 use native.Mathlib.Omega.{arith}
-use borrow.Author.Tests.{le-leb, lt-leb}
+use borrow.Author.Tests.{le-leb}
 use lib.ListN.{length, set}
 use lib.Seq.{sets}
 use Rattle.wire.specs.Limits.{max_request_bytes, max_statements, max_contexts, statement_row_numbers, context_row_numbers}
 use Rattle.wire.specs.Words.{byte_at}
+use Rattle.wire.specs.declared.refused.Refused.{Refused}
+use Rattle.std.specs.Prelude.{Option, Some, None, Ok, Err}
 use Rattle.grammar.specs.declared.Cursor.{Cursor}
-use Rattle.grammar.specs.declared.Fit.{Fit}
 use Rattle.grammar.specs.declared.Refusal.{Refusal}
-use Rattle.grammar.specs.declared.Step.TheVariants as Step
 use Rattle.grammar.specs.Rows.{boolean_number}
 use Rattle.grammar.specs.Reader.{with_conditions}
 use Rattle.wire.specs.Internal.Columns.{statement_boolean}
-use Rattle.tables.specs.Written.{in_table, with_statement_row, with_boolean, with_context_row, finished, listed, numbered, with_place, with_number}
+use Rattle.tables.specs.Written.{in_table, with_statement_row, with_boolean, with_context_row, finished, listed, listed_number, numbered, with_place, with_number}
 
 -- a place of a request, or a row of its statements, as a table holds it
 pub in-table : (x : ℕ) → x ≤ max_request_bytes → in_table x ≡ x
@@ -38,49 +38,37 @@ pub context-row : (t : List ℕ) (row number place relation opener : ℕ) → ro
     sets t (row * context_row_numbers) (number ∷ place ∷ 0 ∷ 0 ∷ relation ∷ opener ∷ [])
 context-row t row number place relation opener r p = rw (le-leb row max_contexts r, in-table place p)
 
--- the row of a statement that was read up to a step
+-- the row of a statement that was passed
 module _ (s t : List ℕ) (c : Cursor) (parent : ℕ) where
-  pub finished-next : (f : Fit) (end : Cursor) → c.statements ≤ max_statements → c.at ≤ max_request_bytes → parent ≤ max_statements →
+  pub finished-next : (end : Cursor) → c.statements ≤ max_statements → c.at ≤ max_request_bytes → parent ≤ max_statements →
       end.at ≤ max_request_bytes →
-      finished s t c parent (Step.Next f end) ≡
+      finished s t c parent (Ok end) ≡
       sets t (c.statements * statement_row_numbers) (c.at ∷ byte_at s c.at ∷ parent ∷ end.at ∷ [])
-  finished-next f end = statement-row t c.statements c.at (byte_at s c.at) parent end.at
+  finished-next end = statement-row t c.statements c.at (byte_at s c.at) parent end.at
 
-  pub finished-refused : (n : Refusal) (p : ℕ) → finished s t c parent (Step.Refused n p) ≡ t
-  finished-refused n p = refl
+  pub finished-refused : (y : Refused Refusal) → finished s t c parent (Err y) ≡ t
+  finished-refused y = refl
 
--- a place that is there
-pub there-is : (p : ℕ) → 0 < p → listed p ≡ p ∷ []
+-- a number that is there
+pub there-is : (p : ℕ) → 0 < p → listed_number p ≡ p ∷ []
 there-is zero h = absurd (omega arith)
 there-is (suc p) h = refl
 
 -- the number and the place of a condition
 module _ (c : Cursor) (few : c.conditions ≤ max_statements) where
-  pub numbered_is : (place : ℕ) → numbered c place ≡ with_conditions c (length (listed place))
-  numbered_is zero = rw (add-zero c.conditions)
-  numbered_is (suc p) = rw (le-leb c.conditions max_statements few)
+  pub numbered_is : (place : Option ℕ) → numbered c place ≡ with_conditions c (length (listed place))
+  numbered_is None = rw (add-zero c.conditions)
+  numbered_is (Some p) = rw (le-leb c.conditions max_statements few)
 
-  pub place-noted : (nd : List ℕ) (place : ℕ) → place ≤ max_request_bytes → with_place nd c place ≡ sets nd c.conditions (listed place)
-  place-noted nd zero h = refl
-  place-noted nd (suc p) h = rw (le-leb c.conditions max_statements few, in-table (suc p) h)
+  pub place-noted : (nd : List ℕ) (place : Option ℕ) → ((p : ℕ) → place ≡ Some p → p ≤ max_request_bytes) →
+      with_place nd c place ≡ sets nd c.conditions (listed place)
+  place-noted nd None h = refl
+  place-noted nd (Some p) h = rw (le-leb c.conditions max_statements few, in-table p (h p refl))
 
   -- the row of its statement
-  pub number-noted : (st : List ℕ) (row place : ℕ) → row ≤ max_statements →
+  pub number-noted : (st : List ℕ) (row : ℕ) (place : Option ℕ) → row ≤ max_statements →
       with_number st row c place ≡
-      sets st (row * statement_row_numbers + statement_boolean) (listed (boolean_number (length (listed place)) c.conditions))
-  number-noted st row zero r = refl
-  number-noted st row (suc p) r =
+      sets st (row * statement_row_numbers + statement_boolean) (listed_number (boolean_number (length (listed place)) c.conditions))
+  number-noted st row None r = refl
+  number-noted st row (Some p) r =
       rw (le-leb c.conditions max_statements few, boolean-row st row (c.conditions + 1) r (omega arith), there-is (c.conditions + 1) (omega arith))
-
--- by the tests of the code: a condition that gets a number, and one past the last number
-module _ (c : Cursor) (nd st : List ℕ) (row : ℕ) where
-  pub note-within : (place : ℕ) → c.conditions ≤ max_statements → (place ≡ 0 → ⊥) →
-      (with_conditions c 1 ≡ numbered c place) × ((set nd c.conditions (in_table place) ≡ with_place nd c place) ×
-      (with_boolean st row (c.conditions + 1) ≡ with_number st row c place))
-  note-within zero few z = absurd (z refl)
-  note-within (suc p) few z = let b = le-leb c.conditions max_statements few in (rw b, (rw b, rw b))
-
-  pub note-past : (place : ℕ) → max_statements < c.conditions →
-      (c ≡ numbered c place) × ((nd ≡ with_place nd c place) × (st ≡ with_number st row c place))
-  note-past zero many = (refl, (refl, refl))
-  note-past (suc p) many = let b = lt-leb c.conditions max_statements many in (rw b, (rw b, rw b))

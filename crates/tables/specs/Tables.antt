@@ -1,17 +1,17 @@
 -- The tables that a reader writes, and what it promises of them.
-use Rattle.std.specs.Prelude.{ℕ, ◌+◌, ◌*◌, ◌≡◌, List, [], ◌++◌}
+use Rattle.std.specs.Prelude.{ℕ, ◌+◌, ◌*◌, ◌≡◌, List, [], ◌++◌, Result, Ok, Err}
 use Rattle.std.proofs.lemmas.List.Edits.{sets}
 use Rattle.wire.specs.Codes as blr
 use Rattle.wire.specs.Limits.{statement_row_numbers, context_row_numbers}
+use Rattle.wire.specs.Options.{refused_at}
+use Rattle.wire.specs.declared.refused.Refused.{Refused}
 use Rattle.dictionary.specs.Dictionary.{Relation}
 use Rattle.grammar.specs.declared.Cursor.{Cursor}
-use Rattle.grammar.specs.declared.Fit.{Fit}
-use Rattle.grammar.specs.declared.Step.{Step}
+use Rattle.grammar.specs.declared.Refusal.{Refusal}
 use Rattle.grammar.specs.Tree.{Heading, loop, modify, handler, receive, send, store, label}
 use Rattle.grammar.specs.Environment.{Scope, stream_context, modify_context}
 use Rattle.grammar.specs.Rows.{context_row}
 use Rattle.grammar.specs.Reader.{Read, read, refused}
-use Rattle.grammar.specs.Internal.Steps.{step_of}
 
 -- the rows of statements and of contexts, and the places of conditions
 pub record Tables : Type 0 where
@@ -54,7 +54,21 @@ abbrev pub after : {A B : Type 0} → (A → B) → B → Read A → B
 after f other (read a c) = f a
 after f other (refused r p) = other
 
+-- the answer of a reading, made of what was read and the cursor after it
+abbrev pub result_of : {A R : Type 0} → (A → Cursor → R) → Read A → Result R (Refused Refusal)
+result_of k (read a c) = Ok (k a c)
+result_of k (refused r p) = Err (refused_at r p)
+
+-- the cursor alone
+abbrev pub cursor_after : {A : Type 0} → A → Cursor → Cursor
+cursor_after a c = c
+
+-- a part of what was read, with the cursor
+abbrev pub with_part : {A B : Type 0} → (A → B) → A → Cursor → B × Cursor
+with_part f a c = (f a, c)
+
 -- a reading that wrote rows from a cursor on; after a refusal the tables are free
-pub record Wrote {A : Type 0} (x : Read A) (k : A → Fit) (c : Cursor) (rows : A → Tables) (t t' : Tables) (r : Step) : Type 0 where
-  pub answer : r ≡ step_of k x
+pub record Wrote {A R : Type 0} (x : Read A) (k : A → Cursor → R) (c : Cursor) (rows : A → Tables) (t t' : Tables)
+    (r : Result R (Refused Refusal)) : Type 0 where
+  pub answer : r ≡ result_of k x
   pub filled : t' ≡ after (λ a. laid t c (rows a)) t' x

@@ -8,25 +8,25 @@ use grammar::Cursor;
 use wire::limits::MAX_STATEMENTS;
 use wire::table::put;
 
-// A condition that was read, from a place on, gets a number, which the row of its statement tells; 0 is no place.
+// A condition that was read, from a place on, gets a number, which the row of its statement tells.
 pub fn note(
     statements: &mut [u32],
     conditions: &mut [u32],
     row: usize,
     c: Cursor,
-    place: usize,
+    place: Option<usize>,
 ) -> Cursor
     ensures { (result ≡ numbered c place) × ((conditions.new ≡ with_place conditions.old c place)
         × (statements.new ≡ with_number statements.old row c place)) }
 {
-    if place == 0 {
+    let Some(at) = place else {
         return c;
-    }
+    };
     let number = c.conditions as usize;
     if MAX_STATEMENTS < number {
         return c;
     }
-    put(conditions, number, (place % NUMBERS) as u32);
+    put(conditions, number, (at % NUMBERS) as u32);
     put_boolean(statements, row, number + 1);
     let mut next = c;
     next.conditions = c.conditions + 1;

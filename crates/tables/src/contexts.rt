@@ -1,10 +1,9 @@
 // The rows of contexts.
-ghost use Rattle.std.specs.Prelude.{◌≡◌, ◌≤◌, ◌+◌};
-ghost use Rattle.wire.specs.Limits.{max_contexts};
-ghost use Rattle.tables.specs.Written.{with_context_row, closed, closed_after};
+ghost use Rattle.std.specs.Prelude.{◌≡◌};
+ghost use Rattle.tables.specs.Written.{with_context_row, closed_after};
 
 use crate::NUMBERS;
-use grammar::{Cursor, Step};
+use grammar::{Cursor, Passed};
 use wire::limits::{CONTEXT_ROW, MAX_CONTEXTS};
 use wire::numbers::ContextNumber;
 use wire::rows::{
@@ -34,28 +33,18 @@ pub fn put_context(
     }
 }
 
-// Sets the scope of so many contexts from a row on.
-fn close_rows(contexts: &mut [u32], row: usize, left: usize, start: usize, end: usize)
-    requires { row + left ≤ max_contexts }
-    ensures { contexts.new ≡ closed contexts.old row left start end }
-{
-    if left == 0 {
-        return;
-    }
-    let at = row * CONTEXT_ROW;
-    put(contexts, at + CONTEXT_START, (start % NUMBERS) as u32);
-    put(contexts, at + CONTEXT_END, (end % NUMBERS) as u32);
-    close_rows(contexts, row + 1, left - 1, start, end);
-}
-
-// The scope of the contexts from a row on that were opened up to a cursor: it ends at a step.
-pub fn close(contexts: &mut [u32], row: usize, from: Cursor, to: Step)
+// The scope of the contexts from a row on that were opened up to a cursor: it ends where what stands in it was passed.
+pub fn close(contexts: &mut [u32], row: usize, from: Cursor, to: Passed)
     ensures { contexts.new ≡ closed_after contexts.old row from to }
 {
-    if let Step::Next(_, end) = to {
+    if let Ok(end) = to {
         let opened = from.contexts as usize;
-        if row <= opened && opened <= MAX_CONTEXTS {
-            close_rows(contexts, row, opened - row, from.at, end.at);
+        if opened <= MAX_CONTEXTS {
+            for i in row..opened {
+                let at = i * CONTEXT_ROW;
+                put(contexts, at + CONTEXT_START, (from.at % NUMBERS) as u32);
+                put(contexts, at + CONTEXT_END, (end.at % NUMBERS) as u32);
+            }
         }
     }
 }

@@ -4,7 +4,7 @@ ghost use Rattle.wire.specs.Words.{byte_at};
 ghost use Rattle.tables.specs.Written.{with_statement_row, with_boolean, finished};
 
 use crate::NUMBERS;
-use grammar::{Cursor, Step};
+use grammar::{Cursor, Passed};
 use wire::bytes::byte_at;
 use wire::limits::{MAX_STATEMENTS, STATEMENT_ROW};
 use wire::rows::{
@@ -45,11 +45,11 @@ pub fn put_boolean(table: &mut [u32], row: usize, number: usize)
     }
 }
 
-// The row of a statement that was read up to a step, whose code stands at a cursor, but for the number of its boolean.
-pub fn finish(request: &[u8], statements: &mut [u32], c: Cursor, parent: usize, to: Step)
+// The row of a statement that was passed, whose code stands at a cursor, but for the number of its boolean.
+pub fn finish(request: &[u8], statements: &mut [u32], c: Cursor, parent: usize, to: Passed)
     ensures { statements.new ≡ finished request.now statements.old c parent to }
 {
-    if let Step::Next(_, end) = to {
+    if let Ok(end) = to {
         put_statement(
             statements,
             c.statements as usize,

@@ -1,21 +1,20 @@
 -- A text's part: a step over a blank, where the blanks stop, the first zero, and that the part lies in the slice. Assumes nothing.
-use Prim.Native.Nat.{ℕ, zero, suc, ◌+◌, ◌-◌, ◌≤◌, ◌<◌, suc-le-suc}
+use Prim.Native.Nat.{ℕ, zero, suc, ◌+◌, ◌-◌, ◌≤◌, ◌<◌}
 use mathlib.Core.Path.{◌≡◌, refl, sym, ap, ◌∙◌}
 use mathlib.Core.Bool.{Bool, true, false, cond, ◌&&◌}
 use mathlib.Core.List.{List, [], ◌∷◌}
 use mathlib.Core.Option.{Option, none, some, map}
 use native.Mathlib.Omega.{arith}
-use native.Mathlib.Nat.{le_of_suc-le-suc, not-suc-le-zero}
 use borrow.Author.Tests.{eq-eqb, ne_eqb, leb-true}
 use lib.Dec.{eqb, leb}
 use lib.ListN.{length}
 use Rattle.wire.specs.Words.{byte_at, word_at}
 use Rattle.wire.specs.Lists.{index_of}
+use Rattle.wire.specs.Options.{option_of}
 use Rattle.wire.specs.declared.codes.TextType.{TextType}
 use Rattle.wire.specs.declared.codes.TextType.TheVariants.{Text, Varying, Cstring}
-use Rattle.text.specs.declared.TextPart.{TextPart}
-use Rattle.text.specs.declared.TextPart.TheVariants.{Is, Malformed}
-use Rattle.text.specs.Value.{blank, kept, trimmed, cut_at, text_part, bytes_of}
+use Rattle.std.specs.Prelude.{Some, None}
+use Rattle.text.specs.Value.{TextPart, blank, kept, trimmed, cut_at, text_part, bytes_of}
 use Rattle.text.specs.Internal.TextRead.{Within, TextRead}
 
 module _ (s : List ℕ) (p : ℕ) where
@@ -49,22 +48,15 @@ module _ (s : List ℕ) (p : ℕ) where
       let e : suc j - 1 ≡ j = omega arith in
       rw (e, eq-eqb (byte_at s (p + j)) blank (ap (λ (i : ℕ). byte_at s (p + i)) (sym e) ∙ q))
 
-module _ (test : ℕ → Bool) where
-  pub index-found : (s : List ℕ) (i : ℕ) → i < length s → test (byte_at s i) ≡ true →
-      ((k : ℕ) → k < i → test (byte_at s k) ≡ false) → index_of test s ≡ some i
-  unfolding index_of
-  index-found [] i h e f = absurd (not-suc-le-zero h)
-  index-found (x ∷ s) zero h e f = rw e
-  index-found (x ∷ s) (suc i) h e f =
-      let z : 0 < suc i = omega arith in
-      rw (f 0 z, index-found s i (le_of_suc-le-suc h) e (λ k l. f (suc k) (suc-le-suc l)))
+-- the cut at a place that is there or not, as the code found it
+module _ (s : List ℕ) where
+  pub cut-none : (o : Option ℕ) → option_of o ≡ None → None ≡ cut_at s o
+  cut-none none e = refl
+  cut-none (some k) e = cc
 
-  pub index-none : (s : List ℕ) → ((k : ℕ) → k < length s → test (byte_at s k) ≡ false) → index_of test s ≡ none
-  unfolding index_of
-  index-none [] f = refl
-  index-none (x ∷ s) f =
-      let z : 0 < length (x ∷ s) = omega arith in
-      rw (f 0 z, index-none s (λ k l. f (suc k) (suc-le-suc l)))
+  pub cut-some : (o : Option ℕ) (k : ℕ) → option_of o ≡ Some k → trimmed s 0 k ≡ cut_at s o
+  cut-some none k e = cc
+  cut-some (some m) k e = let q : m ≡ k = cc in rw q
 
 -- where there is a number, it is at most n
 AtMost : ℕ → Option ℕ → Type 0
@@ -83,7 +75,7 @@ index-within test (x ∷ s) = either (test x) (index_of test s) (index-within te
 
 module _ (s : List ℕ) where
   varying-within : (b c : Bool) → leb 2 (length s) ≡ b → leb (word_at s 0) (length s - 2) ≡ c →
-      Within (length s) (cond (b && c) (trimmed s 2 (word_at s 0)) Malformed)
+      Within (length s) (cond (b && c) (trimmed s 2 (word_at s 0)) None)
   varying-within true true e f =
       let h : 2 + word_at s 0 ≤ length s = omega (arith, leb-true 2 (length s) e, leb-true (word_at s 0) (length s - 2) f) in
       kept-within s 2 (word_at s 0) h
@@ -102,7 +94,7 @@ text-within Varying s = varying-within s _ _ refl refl
 text-within Cstring s = cut-within s _ (index-within (λ x. eqb x 0) s)
 
 module _ (t : TextType) (s : List ℕ) where
-  pub part-within : (start end : ℕ) → text_part t s ≡ Is start end → (start ≤ end) × (end ≤ length s)
+  pub part-within : (start end : ℕ) → text_part t s ≡ Some (start, end) → (start ≤ end) × (end ≤ length s)
   part-within start end e = rw e at (text-within t s)
 
   pub text-read : (p : TextPart) (r : List ℕ) → text_part t s ≡ p → r ≡ bytes_of s p → TextRead t s r

@@ -1,4 +1,3 @@
 -- What the functions promise each other: nobody outside has to believe it.
 pub mod TextRead
 pub mod Matching
-pub mod Searching

@@ -1,19 +1,19 @@
 -- Order, containing, matching, starting: tests of two texts without trailing blanks.
 use Rattle.std.specs.Prelude.{ℕ, zero, suc, ◌+◌, max, Bool, true, false, cond, ◌&&◌, ◌||◌, List, [], ◌∷◌, leb, eqb, length, get_or}
-use Rattle.wire.specs.declared.order.Order.{Order}
-use Rattle.wire.specs.declared.order.Order.TheVariants.{Equal}
+use Rattle.std.specs.declared.cmp.Ordering.{Ordering}
+use Rattle.std.specs.declared.cmp.Ordering.TheVariants.{Equal}
 use Rattle.wire.specs.Orders.{order_ℕ, where_equal}
 use Rattle.wire.specs.declared.codes.TextSearch.{TextSearch}
 use Rattle.wire.specs.declared.codes.TextSearch.TheVariants.{Containing, Matching, Starting}
 use Rattle.text.specs.Value.{blank}
 
 -- the order of n bytes from i on, a blank for each byte past the end
-unfoldable pub order_from : ℕ → ℕ → List ℕ → List ℕ → Order
+unfoldable pub order_from : ℕ → ℕ → List ℕ → List ℕ → Ordering
 order_from zero i a b = Equal
 order_from (suc n) i a b = where_equal (order_ℕ (get_or a i blank) (get_or b i blank)) (order_from n (suc i) a b)
 
 -- 01: "Order is by unsigned bytes, the shorter padded with blanks."
-unfoldable pub text_order : List ℕ → List ℕ → Order
+unfoldable pub text_order : List ℕ → List ℕ → Ordering
 text_order a b = order_from (max (length a) (length b)) 0 a b
 
 -- the capital letters of ASCII, and how far on the small letter of each stands

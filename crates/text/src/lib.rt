@@ -6,9 +6,3 @@ mod matching;
 pub mod order;
 pub mod search;
 pub mod value;
-
-#[derive(Clone, Copy)]
-pub enum TextPart {
-    Is(usize, usize),
-    Malformed,
-}

@@ -1,30 +1,20 @@
 // The three searches of a text.
-ghost use Rattle.std.specs.Prelude.{◌≡◌, ◌+◌, ◌≤◌, length, drop};
+ghost use Rattle.std.specs.Prelude.{◌≡◌, ◌≤◌, length};
 ghost use Rattle.text.specs.Tests as tests;
-ghost use Rattle.text.specs.Internal.Searching.{same_under};
 
 use crate::letters::same_letter;
 use crate::matching::matching;
 use wire::codes::TextSearch;
 
-// Whether two bytes are the same, or the same letter where the case does not count.
-fn same(x: u8, y: u8, folding: bool) -> bool
-    ensures { result ≡ same_under folding x y }
+// Whether a starts with b where the case of a letter does not count.
+fn starting_any_case(a: &[u8], b: &[u8]) -> bool
+    requires { length b.now ≤ length a.now }
+    ensures { result ≡ tests.starts_by tests.same_letter a.now b.now }
 {
-    if folding { same_letter(x, y) } else { x == y }
-}
-
-// Whether b stands at a place of a.
-fn stands_at(a: &[u8], at: usize, b: &[u8], folding: bool) -> bool
-    requires { at + length b.now ≤ length a.now }
-    ensures { result ≡ tests.starts_by (same_under folding) (drop at a.now) b.now }
-{
-    let mut i: usize = 0;
-    while i < b.len() {
-        if !same(a[at + i], b[i], folding) {
+    for i in 0..b.len() {
+        if !same_letter(a[i], b[i]) {
             return false;
         }
-        i = i + 1;
     }
     true
 }
@@ -32,29 +22,27 @@ fn stands_at(a: &[u8], at: usize, b: &[u8], folding: bool) -> bool
 pub(crate) fn containing(a: &[u8], b: &[u8]) -> bool
     ensures { result ≡ tests.containing a.now b.now }
 {
-    if b.len() == 0 {
-        return true;
+    if a.len() < b.len() {
+        return false;
     }
-    let mut at: usize = 0;
-    while b.len() <= a.len() - at {
-        if stands_at(a, at, b, true) {
+    for at in 0..=a.len() - b.len() {
+        if starting_any_case(&a[at..], b) {
             return true;
         }
-        at = at + 1;
     }
     false
 }
 
+// Kept: std's method, under the equation that contracts cite.
+#[tactic(auto, unfolding(crate::specs::Tests::starting), using(crate::proofs::SearchLaws::starts_with_is))]
 pub(crate) fn starting(a: &[u8], b: &[u8]) -> bool
     ensures { result ≡ tests.starting a.now b.now }
 {
-    if a.len() < b.len() {
-        return false;
-    }
-    stands_at(a, 0, b, false)
+    a.starts_with(b)
 }
 
 // Whether a contains, matches or starts with b.
+#[tactic(auto, unfolding(crate::specs::Tests::search))]
 pub fn searched(t: TextSearch, a: &[u8], b: &[u8]) -> bool
     ensures { result ≡ tests.search t a.now b.now }
 {

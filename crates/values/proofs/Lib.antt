@@ -1,6 +1,5 @@
 -- Laws that the proofs cite.
-pub mod Turns
+pub mod Stops
 pub mod NumberLaws
-pub mod Days
 pub mod StatisticLaws
 pub mod SpanLaws

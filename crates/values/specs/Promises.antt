@@ -8,9 +8,7 @@ use Rattle.wire.specs.declared.codes.TextSearch.{TextSearch}
 use Rattle.wire.specs.declared.codes.Connective.{Connective}
 use Rattle.meaning.specs.Data.{arithmetic_of, negate_of, compare_of, search_of, between_of, missing_of, connected, opposite}
 use Rattle.walking.specs.Walk.{at, ended, ◌▷◌}
-use Rattle.values.specs.declared.Valued.{Valued}
-use Rattle.values.specs.declared.Tested.{Tested}
-use Rattle.values.specs.Values.{Lent, valued, tested}
+use Rattle.values.specs.Values.{Lent, Valued, Tested, valued, tested}
 
 abbrev pub Calculated : Version → Operator → Valued → Valued → ℕ → Valued → Type 0
 Calculated v o a b place r = (m : Lent) → valued m r ≡ (valued m a ▷ (λ x q. valued m b ▷ (λ y e. ended (arithmetic_of v o place x y) e)))

@@ -1,5 +1,5 @@
 -- What the code's values stand for, beside the slices that were lent.
-use Rattle.std.specs.Prelude.{ℕ, ◌-◌, List, take, drop}
+use Rattle.std.specs.Prelude.{ℕ, ◌-◌, List, take, drop, Result, Ok, Err}
 use Rattle.text.specs.Value.{text_part, bytes_of}
 use Rattle.meaning.specs.declared.Truth.{Truth}
 use Rattle.meaning.specs.declared.Source.{Source}
@@ -9,10 +9,9 @@ use Rattle.walking.specs.Walk.{Walked, at, fault, astray}
 use Rattle.values.specs.declared.Held.{Held}
 use Rattle.values.specs.declared.Value.{Value}
 use Rattle.values.specs.declared.Value.TheVariants as Value
-use Rattle.values.specs.declared.Valued.{Valued}
-use Rattle.values.specs.declared.Valued.TheVariants as Valued
-use Rattle.values.specs.declared.Tested.{Tested}
-use Rattle.values.specs.declared.Tested.TheVariants as Tested
+use Rattle.values.specs.declared.Stop.{Stop}
+use Rattle.values.specs.declared.Stop.TheVariants.{Refused, Stray}
+use Rattle.values.specs.declared.Lent.{Lent as Slices}
 
 -- the slices that texts stand in: the request, the message images, the records and the runs
 pub record Lent : Type 0 where
@@ -23,6 +22,10 @@ pub record Lent : Type 0 where
 
 abbrev pub lent : List ℕ → List ℕ → List ℕ → List ℕ → Lent
 lent s i r u = record { request = s; images = i; records = r; runs = u }
+
+-- the slices of the code
+abbrev pub lent_in : Slices → Lent
+lent_in m = lent m.request.now m.images.now m.records.now m.runs.now
 
 abbrev pub source_in : Lent → Source → List ℕ
 source_in m x = slice_of m.request m.images m.records m.runs x
@@ -41,12 +44,21 @@ datum m (Value.Text h) = text (text_in m h)
 datum m (Value.Date d) = date d.day d.fraction
 datum m (Value.Missing k w) = absent k w
 
+-- what the code answers: a value or a truth value and the place after it, or why there is none
+abbrev pub Valued : Type 0
+Valued = Result (Value × ℕ) Stop
+
+abbrev pub Tested : Type 0
+Tested = Result (Truth × ℕ) Stop
+
+abbrev pub stopped : {A : Type 0} → Stop → Walked A
+stopped (Refused f p) = fault f p
+stopped Stray = astray
+
 abbrev pub valued : Lent → Valued → Walked Datum
-valued m (Valued.Is v e) = at (datum m v) e.at
-valued m (Valued.Refused f p) = fault f p
-valued m Valued.Stray = astray
+valued m (Ok (v, e)) = at (datum m v) e
+valued m (Err x) = stopped x
 
 abbrev pub tested : Tested → Walked Truth
-tested (Tested.Is t e) = at t e.at
-tested (Tested.Refused f p) = fault f p
-tested Tested.Stray = astray
+tested (Ok (t, e)) = at t e
+tested (Err x) = stopped x

@@ -1,78 +1,44 @@
 // The six comparisons.
-ghost use Rattle.values.specs.Values.{lent};
+ghost use Rattle.values.specs.Values.{lent_in};
 ghost use Rattle.values.specs.Outcomes.{ComparedOf};
 ghost use Rattle.values.specs.Promises.{Compared};
 ghost use Rattle.values.specs.Numbers.{NumbersCompared};
 
-use crate::logic::truth_of;
-use crate::operands::{Operands, in_order, plain_of};
 use crate::orders::{date_order, holds};
-use crate::outcomes::{Outcome, ended};
 use crate::pairs::{Pair, paired};
-use crate::texts::text_operand;
-use crate::{Position, Tested, Value, Valued};
+use crate::{Lent, Stop, Tested, Value, Valued};
 use meaning::Truth;
 use wire::codes::Comparison;
 
 // Of two values; their texts stand in the lent slices.
-pub(crate) fn comparison_of<'a>(
-    request: &'a [u8],
-    images: &'a [u8],
-    records: &'a [u8],
-    runs: &'a [u8],
-    c: Comparison,
-    x: Value,
-    y: Value,
-) -> Outcome
-    ensures { ComparedOf (lent request.now images.now records.now runs.now) c x y result }
+#[tactic(auto, unfolding(meaning::specs::Data::compare_of))]
+pub(crate) fn comparison_of(m: Lent<'_>, c: Comparison, x: Value, y: Value) -> Result<Truth, Stop>
+    ensures { ComparedOf (lent_in m.entry) c x y result }
 {
-    match paired(x, y) {
-        Pair::Numbers(n, k) => Outcome::Is(truth_of(holds(c, decimal::compare(n, k)))),
-        Pair::Texts(n, k) => {
-            let first = text_operand(request, images, records, runs, n);
-            let second = text_operand(request, images, records, runs, k);
-            Outcome::Is(truth_of(holds(c, text::order::compare(first, second))))
-        }
-        Pair::Dates(n, k) => Outcome::Is(truth_of(holds(c, date_order(n, k)))),
-        Pair::Lacking(_, w) => Outcome::Is(Truth::Missing(w)),
-        Pair::Unfit => Outcome::Stray,
-    }
+    let order = match paired(x, y) {
+        Pair::Numbers(n, k) => decimal::order_of(n.value, n.scale, k.value, k.scale),
+        Pair::Texts(n, k) => text::order::compare(m.text(n), m.text(k)),
+        Pair::Dates(n, k) => date_order(n, k),
+        Pair::Lacking(_, w) => return Ok(Truth::Missing(w)),
+        Pair::Unfit => return Err(Stop::Stray),
+    };
+    Ok(Truth::from(holds(c, order)))
 }
 
-// Of two numbers by their values and scales, with the place after them.
+// Of two numbers by their values and scales, with the place after them. Kept: a public function, which keeps its parameters.
+#[tactic(auto, unfolding(meaning::specs::Data::compare_of, meaning::specs::Data::pair, meaning::specs::Data::kind))]
 pub fn numbers_compared(c: Comparison, x: i64, a: i8, y: i64, b: i8, after: usize) -> Tested
     ensures { NumbersCompared c x a y b after result }
 {
-    Tested::Is(
-        truth_of(holds(c, decimal::order_of(x, a, y, b))),
-        Position { at: after },
-    )
+    Ok((Truth::from(holds(c, decimal::order_of(x, a, y, b))), after))
 }
 
-pub fn comparison<'a>(
-    request: &'a [u8],
-    images: &'a [u8],
-    records: &'a [u8],
-    runs: &'a [u8],
-    c: Comparison,
-    a: Valued,
-    b: Valued,
-) -> Tested
-    ensures { Compared (lent request.now images.now records.now runs.now) c a b result }
+// Kept beside text_search, which has the same three steps on its own test: one function of both would take a closure, and be no plainer.
+pub fn comparison(m: Lent<'_>, c: Comparison, a: Valued, b: Valued) -> Tested
+    ensures { Compared (lent_in m.entry) c a b result }
 {
-    let x = plain_of(a);
-    let y = plain_of(b);
-    if x.is {
-        if y.is {
-            return numbers_compared(c, x.value, x.scale, y.value, y.scale, y.after);
-        }
-    }
-    match in_order(a, b) {
-        Operands::Are(x, y, end) => ended(
-            comparison_of(request, images, records, runs, c, x, y),
-            end,
-        ),
-        Operands::Refused(f, p) => Tested::Refused(f, p),
-        Operands::Stray => Tested::Stray,
-    }
+    let (x, _) = a?;
+    let (y, end) = b?;
+    let t = comparison_of(m, c, x, y)?;
+    Ok((t, end))
 }

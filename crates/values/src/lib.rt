@@ -11,15 +11,22 @@ pub mod between;
 pub mod comparison;
 pub mod logic;
 pub mod missing;
-mod operands;
 pub mod opposite;
 mod orders;
-mod outcomes;
 mod pairs;
 pub mod search;
 pub mod spans;
 pub mod statistics;
 mod texts;
+
+// The slices that texts stand in: the request, the message images, the records and the runs.
+#[derive(Clone, Copy)]
+pub struct Lent<'a> {
+    pub request: &'a [u8],
+    pub images: &'a [u8],
+    pub records: &'a [u8],
+    pub runs: &'a [u8],
+}
 
 // The bytes that hold a text: where they start and end in their slice, and the type that says which part of them is the text.
 #[derive(Clone, Copy)]
@@ -53,24 +60,15 @@ pub enum Value {
     Missing(Kind, Cause),
 }
 
-// The place after what was worked out.
+// Why there is no answer: a refusal and its place; or that something that is named is not there or does not fit.
 #[derive(Clone, Copy)]
-pub struct Position {
-    pub at: usize,
-}
-
-// What a value comes out as, and the place after it; or a refusal and its place; or that something it names is not there or does not fit.
-#[derive(Clone, Copy)]
-pub enum Valued {
-    Is(Value, Position),
+pub enum Stop {
     Refused(Fault, usize),
     Stray,
 }
+
+// What a value comes out as, and the place after it.
+pub type Valued = Result<(Value, usize), Stop>;
 
 // What a boolean comes out as, likewise.
-#[derive(Clone, Copy)]
-pub enum Tested {
-    Is(Truth, Position),
-    Refused(Fault, usize),
-    Stray,
-}
+pub type Tested = Result<(Truth, usize), Stop>;

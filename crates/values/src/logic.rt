@@ -7,12 +7,6 @@ use crate::Tested;
 use meaning::Truth;
 use wire::codes::Connective;
 
-pub(crate) fn truth_of(b: bool) -> Truth
-    ensures { result ≡ Data.truth b }
-{
-    if b { Truth::True } else { Truth::False }
-}
-
 fn both(a: Truth, b: Truth) -> Truth
     ensures { result ≡ Data.both a b }
 {
@@ -20,9 +14,8 @@ fn both(a: Truth, b: Truth) -> Truth
         Truth::True => b,
         Truth::False => Truth::False,
         Truth::Missing(w) => match b {
-            Truth::True => Truth::Missing(w),
             Truth::False => Truth::False,
-            Truth::Missing(v) => Truth::Missing(w),
+            Truth::True | Truth::Missing(_) => Truth::Missing(w),
         },
     }
 }
@@ -35,13 +28,14 @@ fn either(a: Truth, b: Truth) -> Truth
         Truth::False => b,
         Truth::Missing(w) => match b {
             Truth::True => Truth::True,
-            Truth::False => Truth::Missing(w),
-            Truth::Missing(_) => Truth::Missing(w),
+            Truth::False | Truth::Missing(_) => Truth::Missing(w),
         },
     }
 }
 
-pub(crate) fn connection(c: Connective, a: Truth, b: Truth) -> Truth
+// Two truth values by a connective.
+#[tactic(auto, unfolding(meaning::specs::Data::connected))]
+pub fn connection(c: Connective, a: Truth, b: Truth) -> Truth
     ensures { result ≡ Data.connected c a b }
 {
     match c {
@@ -53,13 +47,7 @@ pub(crate) fn connection(c: Connective, a: Truth, b: Truth) -> Truth
 pub fn connected(c: Connective, a: Tested, b: Tested) -> Tested
     ensures { Connected c a b result }
 {
-    match a {
-        Tested::Is(x, _) => match b {
-            Tested::Is(y, end) => Tested::Is(connection(c, x, y), end),
-            Tested::Refused(f, p) => Tested::Refused(f, p),
-            Tested::Stray => Tested::Stray,
-        },
-        Tested::Refused(f, p) => Tested::Refused(f, p),
-        Tested::Stray => Tested::Stray,
-    }
+    let (x, _) = a?;
+    let (y, end) = b?;
+    Ok((connection(c, x, y), end))
 }

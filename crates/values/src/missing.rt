@@ -8,20 +8,12 @@ use meaning::Truth;
 fn missing_of(x: Value) -> Truth
     ensures { MissingOf x result }
 {
-    match x {
-        Value::Number(_) => Truth::False,
-        Value::Text(_) => Truth::False,
-        Value::Date(_) => Truth::False,
-        Value::Missing(_, _) => Truth::True,
-    }
+    Truth::from(matches!(x, Value::Missing(_, _)))
 }
 
 pub fn is_missing(a: Valued) -> Tested
     ensures { TestedMissing a result }
 {
-    match a {
-        Valued::Is(x, end) => Tested::Is(missing_of(x), end),
-        Valued::Refused(f, p) => Tested::Refused(f, p),
-        Valued::Stray => Tested::Stray,
-    }
+    let (x, end) = a?;
+    Ok((missing_of(x), end))
 }

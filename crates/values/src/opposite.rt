@@ -6,7 +6,8 @@ ghost use Rattle.values.specs.Promises.{Opposite};
 use crate::Tested;
 use meaning::Truth;
 
-fn reversed(a: Truth) -> Truth
+// The truth value with a not before it.
+pub fn reversed(a: Truth) -> Truth
     ensures { result ≡ Data.opposite a }
 {
     match a {
@@ -16,12 +17,10 @@ fn reversed(a: Truth) -> Truth
     }
 }
 
+// Kept: a public function over what a boolean comes out as; std's Not would be on the truth value alone.
 pub fn opposite(a: Tested) -> Tested
     ensures { Opposite a result }
 {
-    match a {
-        Tested::Is(x, end) => Tested::Is(reversed(x), end),
-        Tested::Refused(f, p) => Tested::Refused(f, p),
-        Tested::Stray => Tested::Stray,
-    }
+    let (x, end) = a?;
+    Ok((reversed(x), end))
 }

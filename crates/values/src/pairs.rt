@@ -1,6 +1,4 @@
 // Two values of one kind, or that one is missing, with the cause of the first that is, or that the kinds don't fit.
-ghost use Rattle.std.specs.Prelude.{◌≡◌};
-ghost use Rattle.meaning.specs.Data.{same_kind};
 ghost use Rattle.values.specs.Pairs.{OfKind, OfOneKind, Paired};
 
 use crate::{Date, Held, Value};
@@ -17,6 +15,7 @@ pub(crate) enum Pair {
     Unfit,
 }
 
+#[tactic(auto, unfolding(meaning::specs::Data::kind))]
 fn kind_of(a: Value) -> Kind
     ensures { OfKind a result }
 {
@@ -28,28 +27,6 @@ fn kind_of(a: Value) -> Kind
     }
 }
 
-fn same_kind(a: Kind, b: Kind) -> bool
-    ensures { result ≡ same_kind a b }
-{
-    match a {
-        Kind::Number => match b {
-            Kind::Number => true,
-            Kind::Text => false,
-            Kind::Date => false,
-        },
-        Kind::Text => match b {
-            Kind::Number => false,
-            Kind::Text => true,
-            Kind::Date => false,
-        },
-        Kind::Date => match b {
-            Kind::Number => false,
-            Kind::Text => false,
-            Kind::Date => true,
-        },
-    }
-}
-
 // Two values whose kinds are the same.
 fn of_one_kind(a: Value, b: Value) -> Pair
     ensures { OfOneKind a b result }
@@ -57,30 +34,28 @@ fn of_one_kind(a: Value, b: Value) -> Pair
     match a {
         Value::Number(x) => match b {
             Value::Number(y) => Pair::Numbers(x, y),
-            Value::Text(_) => Pair::Unfit,
-            Value::Date(_) => Pair::Unfit,
             Value::Missing(k, w) => Pair::Lacking(k, w),
+            Value::Text(_) | Value::Date(_) => Pair::Unfit,
         },
         Value::Text(x) => match b {
-            Value::Number(_) => Pair::Unfit,
             Value::Text(y) => Pair::Texts(x, y),
-            Value::Date(_) => Pair::Unfit,
             Value::Missing(k, w) => Pair::Lacking(k, w),
+            Value::Number(_) | Value::Date(_) => Pair::Unfit,
         },
         Value::Date(x) => match b {
-            Value::Number(_) => Pair::Unfit,
-            Value::Text(_) => Pair::Unfit,
             Value::Date(y) => Pair::Dates(x, y),
             Value::Missing(k, w) => Pair::Lacking(k, w),
+            Value::Number(_) | Value::Text(_) => Pair::Unfit,
         },
         Value::Missing(k, w) => Pair::Lacking(k, w),
     }
 }
 
+#[tactic(auto, unfolding(meaning::specs::Data::pair))]
 pub(crate) fn paired(a: Value, b: Value) -> Pair
     ensures { Paired a b result }
 {
-    if same_kind(kind_of(a), kind_of(b)) {
+    if kind_of(a) == kind_of(b) {
         of_one_kind(a, b)
     } else {
         Pair::Unfit

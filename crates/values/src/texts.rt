@@ -1,58 +1,48 @@
 // The text that a value holds: a part of one of the lent slices.
 ghost use Rattle.std.specs.Prelude.{◌≡◌, ◌-◌, take, drop};
-ghost use Rattle.values.specs.Values.{lent, held_in, text_in};
+ghost use Rattle.values.specs.Values.{lent_in, source_in, held_in, text_in};
 
-use crate::Held;
+use crate::{Held, Lent};
 use meaning::Source;
 use text::value::text_of;
 
-// The bytes from a start up to an end, as far as the slice has them.
+// The bytes from a start up to an end, as far as the slice has them. Kept: the two places of a Held, which may lie past the slice.
 pub(crate) fn part<'a>(s: &'a [u8], start: usize, end: usize) -> &'a [u8]
     ensures { result.now ≡ take (end - start) (drop start s.now) }
 {
+    let end = end.min(s.len());
     if end <= start {
         return &s[0..0];
     }
-    if s.len() <= start {
-        return &s[0..0];
-    }
-    if end <= s.len() {
-        return &s[start..end];
-    }
-    &s[start..]
+    &s[start..end]
 }
 
-// The bytes that hold a text.
-fn held_bytes<'a>(
-    request: &'a [u8],
-    images: &'a [u8],
-    records: &'a [u8],
-    runs: &'a [u8],
-    held: Held,
-) -> &'a [u8]
-    ensures { result.now ≡ held_in (lent request.now images.now records.now runs.now) held }
-{
-    let source = held.source;
-    let start = held.start;
-    let end = held.end;
-    match source {
-        Source::Request => part(request, start, end),
-        Source::Images => part(images, start, end),
-        Source::Records => part(records, start, end),
-        Source::Runs => part(runs, start, end),
+impl<'a> Lent<'a> {
+    // The slice that a text stands in.
+    pub fn slice(self, source: Source) -> &'a [u8]
+        ensures { result.now ≡ source_in (lent_in self.entry) source }
+    {
+        match source {
+            Source::Request => self.request,
+            Source::Images => self.images,
+            Source::Records => self.records,
+            Source::Runs => self.runs,
+        }
     }
-}
 
-// The text in them.
-pub(crate) fn text_operand<'a>(
-    request: &'a [u8],
-    images: &'a [u8],
-    records: &'a [u8],
-    runs: &'a [u8],
-    held: Held,
-) -> &'a [u8]
-    ensures { result.now ≡ text_in (lent request.now images.now records.now runs.now) held }
-{
-    let of = held.of;
-    text_of(of, held_bytes(request, images, records, runs, held))
+    // The bytes that hold a text.
+    #[tactic(auto, unfolding(crate::specs::Values::held_in))]
+    fn held(self, held: Held) -> &'a [u8]
+        ensures { result.now ≡ held_in (lent_in self.entry) held }
+    {
+        part(self.slice(held.source), held.start, held.end)
+    }
+
+    // The text in them. Kept: a part of the slice, which nothing converts.
+    #[tactic(auto, unfolding(crate::specs::Values::text_in))]
+    pub(crate) fn text(self, held: Held) -> &'a [u8]
+        ensures { result.now ≡ text_in (lent_in self.entry) held }
+    {
+        text_of(held.of, self.held(held))
+    }
 }

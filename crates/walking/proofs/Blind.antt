@@ -21,8 +21,8 @@ use Rattle.dictionary.specs.Format.{Format, held, type_bytes, text_bytes}
 use Rattle.dictionary.specs.Dictionary.{Field, Relation}
 use Rattle.dictionary.specs.Naming.{Name, field_of, format_of, field_format}
 use Rattle.records.specs.Record.{field_count, missing_bytes, packed, offset_of, record_length, bit_at, field_place, reading_missing, field_missing, presence_of, field_presence, is_missing}
-use Rattle.records.specs.declared.missing.Presence.{Presence}
-use Rattle.records.specs.declared.missing.Presence.TheVariants.{There, Missing}
+use Rattle.std.specs.Prelude as Rust
+use Rattle.records.specs.declared.missing.Cause.{Cause}
 use Rattle.grammar.specs.Tree.{Message, Reference, field, parameter, parameter2}
 use Rattle.grammar.specs.Environment.{Context, Scope}
 use Rattle.grammar.proofs.StepLaws.{absurd-eq}
@@ -118,11 +118,11 @@ module _ (s t : List ℕ) (sized : length s ≡ length t) where
   reading-same (Plain k) n p h = refl
   reading-same Reading n p h = ap (reading_missing Reading) (word_same p (h p (omega arith) (omega arith)) (h (p + 1) (omega arith) (omega arith)))
 
-unless-same : (b : Presence) (f : Format) (s t : List ℕ) (p : ℕ) → type_value f.type f.scale f.size s p ≡ type_value f.type f.scale f.size t p →
+unless-same : (b : Rust.Option Cause) (f : Format) (s t : List ℕ) (p : ℕ) → type_value f.type f.scale f.size s p ≡ type_value f.type f.scale f.size t p →
     unless_missing b f s p ≡ unless_missing b f t p
 unfolding value_at
-unless-same (Missing w) f s t p e = refl
-unless-same There f s t p e = e
+unless-same (Rust.Some w) f s t p e = refl
+unless-same Rust.None f s t p e = e
 
 -- missing in both, with one bit: by one cause
 both-missing : (b x y : Bool) (f : Format) (s t : List ℕ) (p : ℕ) → is_missing (presence_of b x) ≡ true → is_missing (presence_of b y) ≡ true →

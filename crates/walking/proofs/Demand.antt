@@ -15,12 +15,11 @@ use Rattle.grammar.specs.Conditions.{Condition}
 use Rattle.grammar.specs.Named.{FromValue}
 use Rattle.grammar.proofs.StepLaws.{absurd-eq}
 use Rattle.grammar.proofs.Complete.{reading-complete}
-use Rattle.meaning.specs.declared.Evaluation.{Evaluation}
-use Rattle.meaning.specs.declared.Evaluation.TheVariants.{Is, Refused}
+use Rattle.std.specs.Prelude.{Ok, Err}
 use Rattle.meaning.specs.Runs.{DueRun, value_runs, due_runs, lent_runs}
 use Rattle.meaning.specs.Meaning.{meaning, value_meaning, size, boolean_size, around, around_value}
 use Rattle.meaning.specs.Evaluation.{Outcome, outcome, evaluation, Answer, value_outcome, value_evaluation}
-use Rattle.meaning.specs.Evaluated.{outcome_of, Evaluated}
+use Rattle.meaning.specs.Evaluated.{Evaluation, outcome_of, Evaluated}
 use Rattle.meaning.specs.Demand.{Accepted, Asked, AskedValue, Images, no_image, image, Records, Runs, placed_from, placed_runs, Alike, AsMeant, SameAnswer, ValueAsMeant, SameValue}
 use Rattle.walking.proofs.Due.{value-grow, due-grow}
 use Rattle.walking.proofs.Proper.{is-due}
@@ -37,10 +36,11 @@ exact (m ∷ ms) _ (image e images h i) = omega (arith, h, exact ms images i, le
 
 -- no two answers of the code are one outcome
 one_answer : (r r' : Evaluation) → outcome_of r ≡ outcome_of r' → r ≡ r'
-one_answer (Is t) (Is u) e = let z : t ≡ u = cc in ap Is z
-one_answer (Is t) (Refused x p) e = absurd-eq (cc)
-one_answer (Refused x p) (Is u) e = absurd-eq (cc)
-one_answer (Refused x p) (Refused y q) e = let a : x ≡ y = cc in let b : p ≡ q = cc in λ i. Refused (a i) (b i)
+one_answer (Ok t) (Ok u) e = let z : t ≡ u = cc in ap Ok z
+one_answer (Ok t) (Err y) e = absurd-eq (cc)
+one_answer (Err x) (Ok u) e = absurd-eq (cc)
+one_answer (Err x) (Err y) e =
+    let a : x.refusal ≡ y.refusal = cc in let b : x.place ≡ y.place = cc in λ i. Err (record { refusal = a i; place = b i })
 
 module _ (s d : List ℕ) (rs : List Relation) (t : Request) (a : Accepted s d rs t) (n : ℕ) (x : Condition) (c : Asked rs t n x) where
   -- the runs that are due for the condition

@@ -19,7 +19,8 @@ use Rattle.wire.specs.declared.codes.Quantifier.{Quantifier}
 use Rattle.wire.specs.declared.codes.Statistic.{Statistic}
 use Rattle.dictionary.specs.Format.{width_bytes}
 use Rattle.dictionary.specs.Naming.{named, numbered}
-use Rattle.grammar.specs.Kind as Grammar
+use Rattle.grammar.specs.declared.Kind as Grammar
+use Rattle.grammar.specs.declared.Kind.TheVariants as GrammarKind
 use Rattle.grammar.specs.Kinds.{kind_of}
 use Rattle.grammar.specs.Tree as Tree
 use Rattle.grammar.specs.Tree.{Literal, Reference, field, parameter, parameter2, Value, literal, reference, arithmetic, negate, statistic, count, compare, search, between, connect, not, missing, quantify, Clauses, no_clauses, such, sorted, Rse, rse}
@@ -100,9 +101,9 @@ pub numbers-alike : {A B : Type 0} (P : A → B → Type 0) (k : Statistic) (p :
     ((x : A) (y : B) → P x y → f x ≡ g y) → ((x : A) (y : B) → P x y → u x ≡ v y) → (kind : Option Grammar.Kind) (xs : List A) (ys : List B) → Pairs P xs ys →
     numbers_over k p kind (some xs) f u ≡ numbers_over k p kind (some ys) g v
 numbers-alike P k p f g u v h i none xs ys e = refl
-numbers-alike P k p f g u v h i (some Grammar.Text) xs ys e = refl
-numbers-alike P k p f g u v h i (some Grammar.Date) xs ys e = refl
-numbers-alike P k p f g u v h i (some (Grammar.Number scale)) xs ys e =
+numbers-alike P k p f g u v h i (some GrammarKind.Text) xs ys e = refl
+numbers-alike P k p f g u v h i (some GrammarKind.Date) xs ys e = refl
+numbers-alike P k p f g u v h i (some (GrammarKind.Number scale)) xs ys e =
     ap (λ r. r >>= (λ z. statistic_of k p z)) (gathered-alike P k p f g u v h i (nothing_yet scale) xs ys e)
 
 -- what the meaning gives, its end aside

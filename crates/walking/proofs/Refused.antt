@@ -38,7 +38,8 @@ use Rattle.meaning.specs.Data.{Result, is, refused, stray, Datum}
 use Rattle.meaning.specs.Runs.{DueRun, value_runs, due_runs, run_relations}
 use Rattle.meaning.specs.Meaning.{meaning, value_meaning, size, boolean_size, around, around_value}
 use Rattle.meaning.specs.Evaluation.{Outcome, answered, refusal, strayed, refusal_of, outcome, value_outcome, due_relations, after_records, after_runs, after_messages, on_inputs, on_condition, on_reading, evaluation, on_from_value, on_row, value_evaluation}
-use Rattle.meaning.specs.declared.Evaluation.TheVariants.{Refused}
+use Rattle.std.specs.Prelude.{Err}
+use Rattle.wire.specs.Options.{refused_at}
 use Rattle.meaning.specs.Evaluated.{Evaluated}
 use Rattle.meaning.specs.Demand.{Accepted, Asked, placed_in, RefusedEvaluation}
 use Rattle.walking.proofs.Proper.{proper-within}
@@ -200,7 +201,7 @@ module _ (s d images rows runs : List ℕ) where
           rw y.checked (told-condition n y.relations t a (get_elem? (request_conditions y.relations t) n) refl)
 
   -- what a refused evaluation has, from what evaluation promises
-  pub refused-evaluation : (n : ℕ) (x : Refusal) (p : ℕ) → Evaluated s d n images rows runs (Refused x p) → RefusedEvaluation s d images rows runs x p
+  pub refused-evaluation : (n : ℕ) (x : Refusal) (p : ℕ) → Evaluated s d n images rows runs (Err (refused_at x p)) → RefusedEvaluation s d images rows runs x p
   refused-evaluation n x p h = subst Told (sym h.answered) (told n h.request_octets)
 
   -- and of a from-value

@@ -11,7 +11,8 @@ use Rattle.wire.specs.declared.codes.Quantifier.{Quantifier}
 use Rattle.wire.specs.declared.codes.Statistic.{Statistic}
 use Rattle.dictionary.specs.Dictionary.{Relation}
 use Rattle.records.specs.Record.{record_length}
-use Rattle.grammar.specs.Kind as Grammar
+use Rattle.grammar.specs.declared.Kind as Grammar
+use Rattle.grammar.specs.declared.Kind.TheVariants as GrammarKind
 use Rattle.grammar.specs.Tree.{Stream, Reference, Value, literal, reference, arithmetic, negate, statistic, count, Boolean, compare, search, between, connect, not, missing, quantify, Clauses, no_clauses, such, sorted, Rse, rse}
 use Rattle.grammar.specs.Bytes.{statistic_code, quantifier_code, keys_bytes, head_bytes, rse_bytes}
 use Rattle.grammar.specs.Environment.{Environment, Context, Scope, stream_context, under_streams, under_rse_of}
@@ -133,9 +134,9 @@ module _ {A B : Type 0} (P : A → A → Type 0) (f g : A → B) (k : Statistic)
   numbers-same : (kind : Option Grammar.Kind) (l l' : List A) → Pairs P l l' →
       numbers_over k p kind (some (map f l)) test values ≡ numbers_over k p kind (some (map g l')) test values
   numbers-same none l l' w = refl
-  numbers-same (some Grammar.Text) l l' w = refl
-  numbers-same (some Grammar.Date) l l' w = refl
-  numbers-same (some (Grammar.Number scale)) l l' w = ap (λ m. m >>= (λ h. statistic_of k p h)) (gathered-same (nothing_yet scale) l l' w)
+  numbers-same (some GrammarKind.Text) l l' w = refl
+  numbers-same (some GrammarKind.Date) l l' w = refl
+  numbers-same (some (GrammarKind.Number scale)) l l' w = ap (λ m. m >>= (λ h. statistic_of k p h)) (gathered-same (nothing_yet scale) l l' w)
 
 -- ---- values and booleans
 

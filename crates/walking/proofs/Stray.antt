@@ -18,11 +18,11 @@ use Rattle.wire.specs.declared.codes.Comparison.{Comparison}
 use Rattle.wire.specs.declared.codes.Comparison.TheVariants.{Geq, Leq}
 use Rattle.wire.specs.declared.codes.TextSearch.{TextSearch}
 use Rattle.wire.specs.declared.codes.Quantifier.{Quantifier}
-use Rattle.decimal.specs.declared.Computed.{Computed}
-use Rattle.decimal.specs.declared.Computed.TheVariants as Computed
+use Rattle.std.specs.Prelude.{Ok, Err}
 use Rattle.decimal.specs.declared.Number.{Number}
-use Rattle.decimal.specs.Number.{added, quotient, computed, negated}
-use Rattle.grammar.specs.Kind as Scaled
+use Rattle.decimal.specs.Number.{Computed, added, quotient, computed, negated}
+use Rattle.grammar.specs.declared.Kind as Scaled
+use Rattle.grammar.specs.declared.Kind.TheVariants as ScaledKind
 use Rattle.grammar.specs.Tree.{Stream, Literal, Reference, Value, literal, reference, arithmetic, negate, statistic, count, Boolean, compare, search, between, connect, not, missing, quantify, Clauses, no_clauses, such, sorted, Rse, rse}
 use Rattle.grammar.specs.Bytes.{statistic_code, quantifier_code, keys_bytes, head_bytes, rse_bytes}
 use Rattle.grammar.specs.Environment.{Environment, Scope, under_streams, under_rse_of}
@@ -44,9 +44,9 @@ use Rattle.walking.proofs.Due.{all_first, all-second, Lent}
 
 -- the kind that the rules give a value, its scale aside
 abbrev pub unscaled : Scaled.Kind → Kind
-unscaled (Scaled.Number s) = Kind.Number
-unscaled Scaled.Text = Kind.Text
-unscaled Scaled.Date = Kind.Date
+unscaled (ScaledKind.Number s) = Kind.Number
+unscaled ScaledKind.Text = Kind.Text
+unscaled ScaledKind.Date = Kind.Date
 
 -- a value of a kind, or a refusal
 abbrev pub OfKind : Kind → Result Datum → Type 0
@@ -86,9 +86,8 @@ same_self Kind.Date = refl
 
 computed-kind : (p : ℕ) (c : Computed) → OfKind Kind.Number (result p c)
 unfolding kind
-computed-kind p (Computed.Value a) = refl
-computed-kind p Computed.Overflow = tt
-computed-kind p Computed.ZeroDivisor = tt
+computed-kind p (Ok a) = refl
+computed-kind p (Err e) = tt
 
 arithmetic-kind : (v : Version) (o : Operator) (p : ℕ) (x y : Datum) → kind x ≡ Kind.Number → kind y ≡ Kind.Number → OfKind Kind.Number (arithmetic_of v o p x y)
 unfolding arithmetic_of pair kind
@@ -141,46 +140,46 @@ between-met x y z h k = and_then (compare_of Geq x y) _ (compare-met Geq x y h) 
 
 -- ---- what the rules say of kinds
 
-range-number : (s : ℤ) (b : Bool) (k : Scaled.Kind) → cond b (some (Scaled.Number s)) none ≡ some k → unscaled k ≡ Kind.Number
-range-number s true k e = let z : k ≡ Scaled.Number s = cc in ap unscaled z
+range-number : (s : ℤ) (b : Bool) (k : Scaled.Kind) → cond b (some (ScaledKind.Number s)) none ≡ some k → unscaled k ≡ Kind.Number
+range-number s true k e = let z : k ≡ ScaledKind.Number s = cc in ap unscaled z
 range-number s false k e = absurd-eq (cc)
 
 -- both operands of an operator are numbers, and so is its result
 record OfNumbers (x y : Option Scaled.Kind) (k : Scaled.Kind) : Type 0 where
   first : ℤ
   second : ℤ
-  first-is : x ≡ some (Scaled.Number first)
-  second_is : y ≡ some (Scaled.Number second)
+  first-is : x ≡ some (ScaledKind.Number first)
+  second_is : y ≡ some (ScaledKind.Number second)
   result-is : unscaled k ≡ Kind.Number
 
 operands : (v : Version) (o : Operator) (x y : Option Scaled.Kind) (k : Scaled.Kind) → arithmetic_kind v o x y ≡ some k → OfNumbers x y k
 unfolding arithmetic_kind
-operands v o (some (Scaled.Number a)) (some (Scaled.Number b)) k e =
+operands v o (some (ScaledKind.Number a)) (some (ScaledKind.Number b)) k e =
     let s = result_scale v o a b in
     record { first = a; second = b; first-is = refl; second_is = refl; result-is = range-number s (le_z (negsuc 17) s && le_z s (pos 0)) k e }
-operands v o (some (Scaled.Number a)) (some Scaled.Text) k e = absurd-eq (cc)
-operands v o (some (Scaled.Number a)) (some Scaled.Date) k e = absurd-eq (cc)
-operands v o (some (Scaled.Number a)) none k e = absurd-eq (cc)
-operands v o (some Scaled.Text) y k e = absurd-eq (cc)
-operands v o (some Scaled.Date) y k e = absurd-eq (cc)
+operands v o (some (ScaledKind.Number a)) (some ScaledKind.Text) k e = absurd-eq (cc)
+operands v o (some (ScaledKind.Number a)) (some ScaledKind.Date) k e = absurd-eq (cc)
+operands v o (some (ScaledKind.Number a)) none k e = absurd-eq (cc)
+operands v o (some ScaledKind.Text) y k e = absurd-eq (cc)
+operands v o (some ScaledKind.Date) y k e = absurd-eq (cc)
 operands v o none y k e = absurd-eq (cc)
 
-negated-number : (x : Option Scaled.Kind) (k : Scaled.Kind) → negated_kind x ≡ some k → (a : ℤ) × (x ≡ some (Scaled.Number a)) × (unscaled k ≡ Kind.Number)
-negated-number (some (Scaled.Number a)) k e = let z : k ≡ Scaled.Number a = cc in (a, refl, ap unscaled z)
-negated-number (some Scaled.Text) k e = absurd-eq (cc)
-negated-number (some Scaled.Date) k e = absurd-eq (cc)
+negated-number : (x : Option Scaled.Kind) (k : Scaled.Kind) → negated_kind x ≡ some k → (a : ℤ) × (x ≡ some (ScaledKind.Number a)) × (unscaled k ≡ Kind.Number)
+negated-number (some (ScaledKind.Number a)) k e = let z : k ≡ ScaledKind.Number a = cc in (a, refl, ap unscaled z)
+negated-number (some ScaledKind.Text) k e = absurd-eq (cc)
+negated-number (some ScaledKind.Date) k e = absurd-eq (cc)
 negated-number none k e = absurd-eq (cc)
 
 alike-kinds : (a b : Scaled.Kind) → alike a b ≡ true → unscaled a ≡ unscaled b
-alike-kinds (Scaled.Number a) (Scaled.Number b) h = refl
-alike-kinds (Scaled.Number a) Scaled.Text h = absurd-eq (cc)
-alike-kinds (Scaled.Number a) Scaled.Date h = absurd-eq (cc)
-alike-kinds Scaled.Text (Scaled.Number b) h = absurd-eq (cc)
-alike-kinds Scaled.Text Scaled.Text h = refl
-alike-kinds Scaled.Text Scaled.Date h = absurd-eq (cc)
-alike-kinds Scaled.Date (Scaled.Number b) h = absurd-eq (cc)
-alike-kinds Scaled.Date Scaled.Text h = absurd-eq (cc)
-alike-kinds Scaled.Date Scaled.Date h = refl
+alike-kinds (ScaledKind.Number a) (ScaledKind.Number b) h = refl
+alike-kinds (ScaledKind.Number a) ScaledKind.Text h = absurd-eq (cc)
+alike-kinds (ScaledKind.Number a) ScaledKind.Date h = absurd-eq (cc)
+alike-kinds ScaledKind.Text (ScaledKind.Number b) h = absurd-eq (cc)
+alike-kinds ScaledKind.Text ScaledKind.Text h = refl
+alike-kinds ScaledKind.Text ScaledKind.Date h = absurd-eq (cc)
+alike-kinds ScaledKind.Date (ScaledKind.Number b) h = absurd-eq (cc)
+alike-kinds ScaledKind.Date ScaledKind.Text h = absurd-eq (cc)
+alike-kinds ScaledKind.Date ScaledKind.Date h = refl
 
 -- two of one kind
 record OfOneKind (x y : Option Scaled.Kind) : Type 0 where
@@ -223,17 +222,17 @@ two-met v w m n f h a b t =
     on-truth (unscaled i.first) m _ (a i.first i.first-is) (λ x hx.
     on-truth (unscaled i.second) n _ (b i.second i.second_is) (λ y hy. t x y (hx ∙ i.same ∙ sym hy)))
 
-text-value : (v : Option Scaled.Kind) (m : Result Datum) → one_kind v (some Scaled.Text) ≡ true → Ruled v m → OfKind Kind.Text m
+text-value : (v : Option Scaled.Kind) (m : Result Datum) → one_kind v (some ScaledKind.Text) ≡ true → Ruled v m → OfKind Kind.Text m
 text-value v m h a =
-    let i = one-kind v (some Scaled.Text) h in
-    let z : i.second ≡ Scaled.Text = let y = i.second_is in cc in
+    let i = one-kind v (some ScaledKind.Text) h in
+    let z : i.second ≡ ScaledKind.Text = let y = i.second_is in cc in
     rw (sym (i.same ∙ ap unscaled z)) (a i.first i.first-is)
 
 search-never : (t : TextSearch) (v w : Option Scaled.Kind) (m n : Result Datum) → both_text v w ≡ true → Ruled v m → Ruled w n →
     NotStray (m >>= (λ x. n >>= (λ y. search_of t x y)))
 unfolding both_text
 search-never t v w m n h a b =
-    let u = both_true (one_kind v (some Scaled.Text)) (one_kind w (some Scaled.Text)) h in
+    let u = both_true (one_kind v (some ScaledKind.Text)) (one_kind w (some ScaledKind.Text)) h in
     on-truth Kind.Text m _ (text-value v m u.0 a) (λ x hx. on-truth Kind.Text n _ (text-value w n u.1 b) (λ y hy. search-met t x y hx hy))
 
 between-never : (u v w : Option Scaled.Kind) (l m n : Result Datum) → all_one_kind u v w ≡ true → Ruled u l → Ruled v m → Ruled w n →
@@ -285,9 +284,8 @@ count-met f test h l = counted (kept_of test (map f l)) (kept-met f test h l)
 -- ---- statistics
 
 summed-met : (p n : ℕ) (c : Computed) → NotStray (summed p n c)
-summed-met p n (Computed.Value a) = tt
-summed-met p n Computed.Overflow = tt
-summed-met p n Computed.ZeroDivisor = tt
+summed-met p n (Ok a) = tt
+summed-met p n (Err e) = tt
 
 number-met : (k : Statistic) (p n : ℕ) (a x : Number) → NotStray (with_number k p n a x)
 number-met Average p n a x = summed-met p (n + 1) (added a x)
@@ -333,7 +331,7 @@ module _ {A B : Type 0} (k : Statistic) (p : ℕ) (f : A → B) (test : B → Re
       and_then (test (f x)) _ (tests x) (λ t. and_then (if_kept t k p values g (f x)) _ (kept-gathered t g x) (λ h. gathered-met h l))
 
   -- a statistic of numbers is a number, or is refused
-  numbers-met : (scale : ℤ) (l : List A) → OfKind Kind.Number (numbers_over k p (some (Scaled.Number scale)) (some (map f l)) test values)
+  numbers-met : (scale : ℤ) (l : List A) → OfKind Kind.Number (numbers_over k p (some (ScaledKind.Number scale)) (some (map f l)) test values)
   unfolding statistic_of
   numbers-met scale l = made (gathered_of k p test values (nothing_yet scale) (map f l)) (gathered-met (nothing_yet scale) l)
     where
@@ -387,14 +385,14 @@ module _ (e : Environment) (images : List ℕ) (runs : List LentRun) where
           let n = p + 1 + size v in
           rw i.result-is
           (on-kind Kind.Number Kind.Number (valued sc rows (p + 1) v) _
-          (value-kind v sc rows (p + 1) (Scaled.Number i.first) i.first-is a.0 (all_first _ (runs_in v (p + 1)) (runs_in w n) l)) (λ x hx.
+          (value-kind v sc rows (p + 1) (ScaledKind.Number i.first) i.first-is a.0 (all_first _ (runs_in v (p + 1)) (runs_in w n) l)) (λ x hx.
           on-kind Kind.Number Kind.Number (valued sc rows n w) _
-          (value-kind w sc rows n (Scaled.Number i.second) i.second_is a.1 (all-second _ (runs_in v (p + 1)) (runs_in w n) l)) (λ y hy.
+          (value-kind w sc rows n (ScaledKind.Number i.second) i.second_is a.1 (all-second _ (runs_in v (p + 1)) (runs_in w n) l)) (λ y hy.
           arithmetic-kind e.version o p x y hx hy)))
       value-kind (negate v) sc rows p k h a l =
           let i = negated-number (kind_of e sc v) k h in
           rw i.2
-          (on-kind Kind.Number Kind.Number (valued sc rows (p + 1) v) _ (value-kind v sc rows (p + 1) (Scaled.Number i.0) i.1 a.0 l) (λ x hx.
+          (on-kind Kind.Number Kind.Number (valued sc rows (p + 1) v) _ (value-kind v sc rows (p + 1) (ScaledKind.Number i.0) i.1 a.0 l) (λ x hx.
           negate-kind p x hx))
       value-kind (statistic t r v) sc rows p k h a l =
           let inner = under_rse_of e.relations (statistic_code t) sc r in
@@ -403,14 +401,14 @@ module _ (e : Environment) (images : List ℕ) (runs : List LentRun) where
           rw i.2
           (subst (λ o. OfKind Kind.Number (rse_number e.version (standing sc rows) p t r o (λ x. value_of e.version x n v))) (sym (ap negated_kind i.1))
           (number-kind r t sc rows p i.0 (λ x. value_of e.version x n v) a.0 a.1 (all_first _ (rse_runs e.relations r p) (runs_in v n) l) (λ more.
-          value-kind v inner more n (Scaled.Number i.0) i.1 a.2 (all-second _ (rse_runs e.relations r p) (runs_in v n) l))))
+          value-kind v inner more n (ScaledKind.Number i.0) i.1 a.2 (all-second _ (rse_runs e.relations r p) (runs_in v n) l))))
       value-kind (count r) sc rows p k h a l =
-          let z : k ≡ Scaled.Number (pos 0) = cc in rw z (count-kind r sc rows p a.0 a.1 l)
+          let z : k ≡ ScaledKind.Number (pos 0) = cc in rw z (count-kind r sc rows p a.0 a.1 l)
 
       number-kind : (r : Rse) (t : Statistic) (sc : Scope) (rows : List ℕ) (p : ℕ) (scale : ℤ) (values : Around → Result Datum) → OneStream r →
           RseAllowed e (statistic_code t) sc r → All (Lent runs) (rse_runs e.relations r p) →
           ((more : List ℕ) → OfKind Kind.Number (values (standing (under_rse_of e.relations (statistic_code t) sc r) more))) →
-          OfKind Kind.Number (rse_number e.version (standing sc rows) p t r (some (Scaled.Number scale)) values)
+          OfKind Kind.Number (rse_number e.version (standing sc rows) p t r (some (ScaledKind.Number scale)) values)
       number-kind (rse ss cs) t sc rows p scale values one a l h =
           let n = p + 1 + length (head_bytes ss) in
           let inner = under_streams e.relations (statistic_code t) sc ss in

@@ -12,20 +12,18 @@ use Rattle.wire.specs.Lists.{find, index_of, ◌and_then◌}
 use Rattle.wire.specs.declared.codes.FieldType.{FieldType}
 use Rattle.wire.specs.declared.codes.FieldType.TheVariants.{Plain, Reading}
 use Rattle.wire.specs.declared.codes.DataType.TheVariants as Data
-use Rattle.text.specs.declared.TextPart.{TextPart}
-use Rattle.text.specs.declared.TextPart.TheVariants as TextPart
-use Rattle.text.specs.Value.{text_part}
+use Rattle.std.specs.Prelude as Rust
+use Rattle.text.specs.Value.{TextPart, text_part}
 use Rattle.wire.specs.Versions.{field_due}
 use Rattle.wire.specs.declared.codes.Version.{Version}
 use Rattle.dictionary.specs.Format.{Format, text_bytes}
 use Rattle.dictionary.specs.Dictionary.{Relation}
 use Rattle.dictionary.specs.Naming.{Name, field_of, format_of}
-use Rattle.records.specs.declared.missing.Presence.{Presence}
-use Rattle.records.specs.declared.missing.Presence.TheVariants.{There, Missing}
+use Rattle.records.specs.declared.missing.Cause.{Cause}
 use Rattle.records.specs.Record.{field_presence, field_place}
 use Rattle.decimal.specs.declared.Number.{Number}
-use Rattle.grammar.specs.Kind as Scaled
-use Rattle.grammar.specs.Kind.{Kind}
+use Rattle.grammar.specs.declared.Kind.TheVariants as ScaledKind
+use Rattle.grammar.specs.declared.Kind.{Kind}
 use Rattle.grammar.specs.Tree.{Message, Reference, field, parameter, parameter2}
 use Rattle.grammar.specs.Environment.{Environment, Context, Scope, context_of, message_of, relation_in, relation_of_context, descriptor_format, parameter_format, field_format}
 use Rattle.grammar.specs.Kinds.{type_kind, format_kind, field_kind, reference_kind, parameter_kind, flagged as flagged_kind}
@@ -54,8 +52,8 @@ module _ {A : Type 0} (test : A → Bool) where
 
 text_of : (s : List ℕ) (p : TextPart) → FetchedOf Unscaled.Text (text_found s p)
 unfolding kind
-text_of s (TextPart.Is start end) = refl
-text_of s TextPart.Malformed = tt
+text_of s (Rust.Some (start, end)) = refl
+text_of s Rust.None = tt
 
 type-of : (t : FieldType) (scale n : ℕ) (s : List ℕ) (p : ℕ) → FetchedOf (unscaled (type_kind t scale)) (type_value t scale n s p)
 unfolding kind
@@ -79,13 +77,13 @@ kind-held f = by f.type
     by (Plain (Data.Chars t)) = refl
     by Reading = refl
 
-unless-of : (b : Presence) (f : Format) (s : List ℕ) (p : ℕ) → FetchedOf (unscaled (format_kind f)) (unless_missing b f s p)
+unless-of : (b : Rust.Option Cause) (f : Format) (s : List ℕ) (p : ℕ) → FetchedOf (unscaled (format_kind f)) (unless_missing b f s p)
 unfolding kind
-unless-of (Missing w) f s p = kind-held f
-unless-of There f s p = value_of f s p
+unless-of (Rust.Some w) f s p = kind-held f
+unless-of Rust.None f s p = value_of f s p
 
 -- a value of a number's type is there
-number-there : (t : FieldType) (scale n : ℕ) (s : List ℕ) (p : ℕ) (z : ℤ) → type_kind t scale ≡ Scaled.Number z →
+number-there : (t : FieldType) (scale n : ℕ) (s : List ℕ) (p : ℕ) (z : ℤ) → type_kind t scale ≡ ScaledKind.Number z →
     (a : Number) × (type_value t scale n s p ≡ value (number a))
 number-there (Plain (Data.Number w)) scale n s p z e = (_, refl)
 number-there (Plain Data.Date) scale n s p z e = absurd-eq (cc)
@@ -143,13 +141,13 @@ module _ (e : Environment) (sc : Scope) (images rows : List ℕ) where
   kind-there : (m i : ℕ) (k : Kind) → parameter_kind e m i ≡ some k → (f : Format) × (parameter_format e m i ≡ some f) × (format_kind f ≡ k)
   kind-there m i k h = map-some (parameter_format e m i) format_kind k h
 
-  flag-inv : (x y : Option Kind) (k : Kind) → flagged_kind x y ≡ some k → (s : ℤ) × (x ≡ some (Scaled.Number s)) × (y ≡ some k)
-  flag-inv (some (Scaled.Number s)) y k h = (s, refl, h)
-  flag-inv (some Scaled.Text) y k h = absurd-eq (cc)
-  flag-inv (some Scaled.Date) y k h = absurd-eq (cc)
+  flag-inv : (x y : Option Kind) (k : Kind) → flagged_kind x y ≡ some k → (s : ℤ) × (x ≡ some (ScaledKind.Number s)) × (y ≡ some k)
+  flag-inv (some (ScaledKind.Number s)) y k h = (s, refl, h)
+  flag-inv (some ScaledKind.Text) y k h = absurd-eq (cc)
+  flag-inv (some ScaledKind.Date) y k h = absurd-eq (cc)
   flag-inv none y k h = absurd-eq (cc)
 
-  flag-number : (m i : ℕ) (f : Format) (z : ℤ) → parameter_format e m i ≡ some f → format_kind f ≡ Scaled.Number z →
+  flag-number : (m i : ℕ) (f : Format) (z : ℤ) → parameter_format e m i ≡ some f → format_kind f ≡ ScaledKind.Number z →
       (a : Number) × (parameter_value e.messages images m i ≡ value (number a))
   unfolding parameter_value value_at format_kind
   flag-number m i f z h k =
@@ -170,7 +168,7 @@ module _ (e : Environment) (sc : Scope) (images rows : List ℕ) where
   typed (parameter2 m i flag) k h =
       let q = flag-inv (parameter_kind e m flag) (parameter_kind e m i) k h in
       let a = kind-there m i k q.2 in
-      let b = kind-there m flag (Scaled.Number q.0) q.1 in
+      let b = kind-there m flag (ScaledKind.Number q.0) q.1 in
       let x = parameter-there m i a.0 a.1 in
       let y = flag-number m flag b.0 q.0 b.1 b.2 in
       subst (λ z. FetchedOf (unscaled z) (fetch e.messages sc images rows (parameter2 m i flag))) a.2 (two-of m i flag a.0 x.0 y.0 x.1 y.1)

@@ -14,12 +14,12 @@ use Rattle.wire.specs.declared.codes.Comparison.{Comparison}
 use Rattle.wire.specs.declared.codes.Comparison.TheVariants.{Geq, Leq}
 use Rattle.wire.specs.declared.codes.TextSearch.{TextSearch}
 use Rattle.wire.specs.declared.codes.Quantifier.{Quantifier}
-use Rattle.decimal.specs.declared.Computed.{Computed}
-use Rattle.decimal.specs.declared.Computed.TheVariants as Computed
+use Rattle.std.specs.Prelude.{Ok, Err}
 use Rattle.decimal.specs.declared.Number.{Number}
-use Rattle.decimal.specs.Number.{added, quotient, computed, negated}
+use Rattle.decimal.specs.Number.{Computed, added, quotient, computed, negated}
 use Rattle.dictionary.specs.Naming.{named, numbered}
-use Rattle.grammar.specs.Kind as Grammar
+use Rattle.grammar.specs.declared.Kind as Grammar
+use Rattle.grammar.specs.declared.Kind.TheVariants as GrammarKind
 use Rattle.grammar.specs.Tree.{Reference, field, parameter, parameter2, Value, literal, reference, arithmetic, negate, statistic, count, Boolean, compare, search, between, connect, not, missing, quantify, Clauses, no_clauses, such, sorted, Rse, rse}
 use Rattle.grammar.specs.Bytes.{statistic_code, quantifier_code, reference_bytes, value_bytes, boolean_bytes, keys_bytes, clauses_bytes, head_bytes, rse_bytes}
 use Rattle.meaning.specs.declared.Truth.{Truth}
@@ -50,9 +50,8 @@ onward lo hi stray f h n = tt
 -- ---- operators, at p
 
 computed-within : (p hi : ℕ) (c : Computed) → p < hi → Within p hi (result p c)
-computed-within p hi (Computed.Value a) h = tt
-computed-within p hi Computed.Overflow h = (omega arith, h)
-computed-within p hi Computed.ZeroDivisor h = (omega arith, h)
+computed-within p hi (Ok a) h = tt
+computed-within p hi (Err e) h = (omega arith, h)
 
 arithmetic-within : (v : Version) (o : Operator) (p hi : ℕ) (x y : Datum) → p < hi → Within p hi (arithmetic_of v o p x y)
 unfolding arithmetic_of
@@ -145,9 +144,8 @@ count-within lo hi (some l) test h = onward lo hi (kept_of test l) _ (kept-withi
 
 -- a statistic at p refuses itself only there
 summed-within : (p hi n : ℕ) (c : Computed) → p < hi → Within p hi (summed p n c)
-summed-within p hi n (Computed.Value a) h = tt
-summed-within p hi n Computed.Overflow h = (omega arith, h)
-summed-within p hi n Computed.ZeroDivisor h = (omega arith, h)
+summed-within p hi n (Ok a) h = tt
+summed-within p hi n (Err e) h = (omega arith, h)
 
 number-gathered : (k : Statistic) (p hi n : ℕ) (a x : Number) → p < hi → Within p hi (with_number k p n a x)
 number-gathered Average p hi n a x h = summed-within p hi (n + 1) (added a x) h
@@ -189,10 +187,10 @@ module _ {A : Type 0} (k : Statistic) (p hi : ℕ) (test : A → Result Truth) (
   numbers-within : (kind : Option Grammar.Kind) (run : Option (List A)) → Within p hi (numbers_over k p kind run test values)
   unfolding statistic_of
   numbers-within none run = tt
-  numbers-within (some Grammar.Text) run = tt
-  numbers-within (some Grammar.Date) run = tt
-  numbers-within (some (Grammar.Number scale)) none = tt
-  numbers-within (some (Grammar.Number scale)) (some l) =
+  numbers-within (some GrammarKind.Text) run = tt
+  numbers-within (some GrammarKind.Date) run = tt
+  numbers-within (some (GrammarKind.Number scale)) none = tt
+  numbers-within (some (GrammarKind.Number scale)) (some l) =
       onward p hi (gathered_of k p test values (nothing_yet scale) l) _ (gathered-within (nothing_yet scale) l)
       (λ g. result-within k p hi g.values g.number room)
 

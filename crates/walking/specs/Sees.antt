@@ -4,7 +4,7 @@ use Rattle.std.specs.Prelude.{ℕ, ◌+◌, ◌≡◌, List, [], ◌∷◌, leng
 use Rattle.std.proofs.Math.Option.{Option, none, some}
 use Rattle.wire.specs.Codes as blr
 use Rattle.wire.specs.declared.codes.Version.{Version}
-use Rattle.grammar.specs.Kind as Grammar
+use Rattle.grammar.specs.declared.Kind as Grammar
 use Rattle.grammar.specs.Kinds.{kind_of}
 use Rattle.grammar.specs.Tree.{Reference, Value, literal, reference, arithmetic, negate, statistic, count, Boolean, compare, search, between, connect, not, missing, quantify, Clauses, no_clauses, such, sorted, Rse, rse}
 use Rattle.grammar.specs.Bytes.{statistic_code, quantifier_code, keys_bytes, head_bytes, rse_bytes}

@@ -20,7 +20,7 @@ use Rattle.wire.specs.declared.codes.Statistic.{Statistic}
 use Rattle.dictionary.specs.Dictionary.{name_at}
 use Rattle.dictionary.specs.Naming.{named, numbered}
 use Rattle.dictionary.specs.Format.{width_bytes}
-use Rattle.grammar.specs.Kind as Grammar
+use Rattle.grammar.specs.declared.Kind as Grammar
 use Rattle.grammar.specs.Tree as Tree
 use Rattle.grammar.specs.Tree.{Reference, field, parameter, parameter2}
 use Rattle.meaning.specs.declared.Truth.{Truth}

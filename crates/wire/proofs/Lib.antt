@@ -1,5 +1,5 @@
 -- Laws that belong to no one function.
+pub mod Compared
 pub mod Past
+pub mod Places
 pub mod SignedByte
-pub mod Tested
-pub mod Zeros

@@ -5,6 +5,7 @@ pub mod Codes
 pub mod Limits
 pub mod Entries
 pub mod Orders
+pub mod Options
 pub mod Classes
 pub mod Versions
 pub mod Internal

@@ -18,7 +18,7 @@ pub fn byte_at(s: &[u8], at: usize) -> u8
     if at < s.len() { s[at] } else { 0 }
 }
 
-// The byte so many places on: past the end where the sum has no place.
+// The byte so many places on: past the end where the sum has no place. Kept: a part of the slice would have to be cut at its end first.
 pub fn byte_on(s: &[u8], at: usize, n: usize) -> u8
     ensures { result ≡ byte_at s.now (at + n) }
 {
@@ -43,7 +43,7 @@ pub fn word_at(s: &[u8], at: usize) -> u32
     wide(byte_on(s, at, 0)) + 256 * wide(byte_on(s, at, 1))
 }
 
-// The unsigned word so many places on.
+// The unsigned word so many places on. Kept: as byte_on.
 pub fn word_on(s: &[u8], at: usize, n: usize) -> u32
     ensures { (result ≡ word_at s.now (at + n)) × (result < 65536) }
 {

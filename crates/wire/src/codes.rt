@@ -1,12 +1,12 @@
 // The version of a request.
-#[derive(Clone, Copy)]
+#[derive(Clone, Copy, PartialEq, Eq)]
 pub enum Version {
     Version4,
     Version5,
 }
 
 // What a code says at the kind of place where it is due.
-#[derive(Clone, Copy)]
+#[derive(Clone, Copy, PartialEq, Eq)]
 pub enum StatementCode {
     Assignment,
     Begin,
@@ -25,7 +25,7 @@ pub enum StatementCode {
 }
 
 // What a value or a target names.
-#[derive(Clone, Copy)]
+#[derive(Clone, Copy, PartialEq, Eq)]
 pub enum ReferenceCode {
     Field,
     Fid,
@@ -33,7 +33,7 @@ pub enum ReferenceCode {
     Parameter2,
 }
 
-#[derive(Clone, Copy)]
+#[derive(Clone, Copy, PartialEq, Eq)]
 pub enum Operator {
     Add,
     Subtract,
@@ -42,7 +42,7 @@ pub enum Operator {
 }
 
 // What is worked out of a number over the records of an rse.
-#[derive(Clone, Copy)]
+#[derive(Clone, Copy, PartialEq, Eq)]
 pub enum Statistic {
     Average,
     Maximum,
@@ -50,7 +50,7 @@ pub enum Statistic {
     Total,
 }
 
-#[derive(Clone, Copy)]
+#[derive(Clone, Copy, PartialEq, Eq)]
 pub enum ValueCode {
     Literal,
     Reference(ReferenceCode),
@@ -60,7 +60,7 @@ pub enum ValueCode {
     Count,
 }
 
-#[derive(Clone, Copy)]
+#[derive(Clone, Copy, PartialEq, Eq)]
 pub enum Comparison {
     Eql,
     Neq,
@@ -70,27 +70,27 @@ pub enum Comparison {
     Leq,
 }
 
-#[derive(Clone, Copy)]
+#[derive(Clone, Copy, PartialEq, Eq)]
 pub enum TextSearch {
     Containing,
     Matching,
     Starting,
 }
 
-#[derive(Clone, Copy)]
+#[derive(Clone, Copy, PartialEq, Eq)]
 pub enum Connective {
     Or,
     And,
 }
 
 // What is asked of the records of an rse.
-#[derive(Clone, Copy)]
+#[derive(Clone, Copy, PartialEq, Eq)]
 pub enum Quantifier {
     Any,
     Unique,
 }
 
-#[derive(Clone, Copy)]
+#[derive(Clone, Copy, PartialEq, Eq)]
 pub enum BooleanCode {
     Compare(Comparison),
     Search(TextSearch),
@@ -101,34 +101,34 @@ pub enum BooleanCode {
     Quantify(Quantifier),
 }
 
-#[derive(Clone, Copy)]
+#[derive(Clone, Copy, PartialEq, Eq)]
 pub enum StreamCode {
     Relation,
     Rid,
 }
 
-#[derive(Clone, Copy)]
+#[derive(Clone, Copy, PartialEq, Eq)]
 pub enum ClauseCode {
     Boolean,
     Sort,
     End,
 }
 
-#[derive(Clone, Copy)]
+#[derive(Clone, Copy, PartialEq, Eq)]
 pub enum Direction {
     Ascending,
     Descending,
 }
 
 // The three widths of a number in a message, a literal or a field.
-#[derive(Clone, Copy)]
+#[derive(Clone, Copy, PartialEq, Eq)]
 pub enum Width {
     Short,
     Long,
     Int64,
 }
 
-#[derive(Clone, Copy)]
+#[derive(Clone, Copy, PartialEq, Eq)]
 pub enum TextType {
     Text,
     Varying,
@@ -136,21 +136,22 @@ pub enum TextType {
 }
 
 // The types of a descriptor.
-#[derive(Clone, Copy)]
+#[derive(Clone, Copy, PartialEq, Eq)]
 pub enum DataType {
     Number(Width),
     Date,
     Chars(TextType),
 }
 
-#[derive(Clone, Copy)]
+// Kept: this and FieldType look alike, but no generic enum would name what each place holds.
+#[derive(Clone, Copy, PartialEq, Eq)]
 pub enum LiteralType {
     NumberLiteral(Width),
     TextLiteral,
 }
 
-// The types of a field of the dictionary: those of a descriptor, and the house reading.
-#[derive(Clone, Copy)]
+// The types of a field of the dictionary: those of a descriptor, and the house reading. Kept: as above.
+#[derive(Clone, Copy, PartialEq, Eq)]
 pub enum FieldType {
     Plain(DataType),
     Reading,

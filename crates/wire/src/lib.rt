@@ -7,6 +7,6 @@ pub mod codes;
 pub mod entries;
 pub mod limits;
 pub mod numbers;
-pub mod order;
+pub mod refused;
 pub mod rows;
 pub mod table;

@@ -1,5 +1,5 @@
 // Tables of 32-bit numbers, at any place.
-ghost use Rattle.std.specs.Prelude.{◌≡◌, length, get_or, set, replicate};
+ghost use Rattle.std.specs.Prelude.{◌≡◌, get_or, set};
 
 // The number at a place of a table; 0 past its end.
 pub fn number_at(table: &[u32], at: usize) -> u32
@@ -14,16 +14,5 @@ pub fn put(table: &mut [u32], at: usize, x: u32)
 {
     if at < table.len() {
         table[at] = x;
-    }
-}
-
-// Sets every number of a table to zero.
-pub fn clear(table: &mut [u32])
-    ensures { table.new ≡ replicate (length table.old) 0 }
-{
-    let mut i: usize = 0;
-    while i < table.len() {
-        table[i] = 0;
-        i += 1;
     }
 }

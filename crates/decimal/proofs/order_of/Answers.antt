@@ -3,6 +3,7 @@ use mathlib.Core.Path.{◌≡◌, ap, ap₂, sym, ◌∙◌}
 use mir.Syntax.{w8}
 use mir.Facts.{to_z-of_z}
 use Rattle.wire.specs.Orders.{order_ℤ}
+use Rattle.wire.proofs.Compared.{cmp-order_ℤ}
 use Rattle.decimal.specs.Number.{places, scaled, compared}
 use Rattle.decimal.proofs.Parts.{same-scale-order, parts-found}
 use Rattle.decimal.proofs.PlainSums.{same_bits}
@@ -13,7 +14,7 @@ returns-then-a-b c = let x = c.args.x in
     let y = c.args.y in
     let a = c.args.a in
     let e : a ≡ c.args.b = same_bits w8 c.ranges.a c.ranges.b c.if-a-b.true in
-    c.signed_order.ensures ∙ ap₂ order_ℤ (to_z-of_z c.ranges.x) (to_z-of_z c.ranges.y)
+    c.cmp.ensures ∙ cmp-order_ℤ _ _ ∙ ap₂ order_ℤ (to_z-of_z c.ranges.x) (to_z-of_z c.ranges.y)
     ∙ sym (same-scale-order x y a) ∙ ap (λ s. compared (scaled x a) (scaled y s)) e
 
 pub returns : goal.returns

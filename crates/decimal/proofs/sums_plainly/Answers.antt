@@ -7,6 +7,7 @@ use mir.Val.{of_z}
 use mir.Facts.{to_z-of_z}
 use Rattle.decimal.specs.Number.{fits}
 use Rattle.decimal.specs.Internal.Plain.{has_places}
+use Rattle.decimal.proofs.Fitted.{some_fits}
 use Rattle.decimal.proofs.PlainSums.{same_bits, plain-sum, other-scales, no-places}
 use Rattle.decimal.proofs.sums_plainly.Goals as goal
 
@@ -14,7 +15,7 @@ pub returns-then-has_places : goal.returns-then-has_places
 returns-then-has_places c = let e : c.args.a ≡ c.args.b = same_bits w8 c.ranges.a c.ranges.b c.if-a-b.true in
     let p : has_places c.args.a ≡ true = ap has_places (sym (to_z-of_z c.ranges.a)) ∙ sym c.has_places.ensures ∙ c.if-has_places.true in
     plain-sum c.args.a c.args.x c.args.y c.ranges.x.sfits c.ranges.y.sfits e p
-    (c.sum_fits.ensures ∙ ap₂ (λ x y. fits (x +ℤ y)) (to_z-of_z c.ranges.x) (to_z-of_z c.ranges.y))
+    (c.is_some.ensures ∙ some_fits _ _ c.checked_add.ensures ∙ ap₂ (λ x y. fits (x +ℤ y)) (to_z-of_z c.ranges.x) (to_z-of_z c.ranges.y))
 
 pub returns-else-has_places : goal.returns-else-has_places
 returns-else-has_places c = let e : c.args.a ≡ c.args.b = same_bits w8 c.ranges.a c.ranges.b c.if-a-b.true in

@@ -10,8 +10,6 @@ use Rattle.wire.specs.Classes.{Class, due, left_out, foreign, field_class}
 use Rattle.wire.specs.declared.codes.FieldType.{FieldType}
 use Rattle.wire.specs.declared.codes.FieldType.TheVariants.{Reading}
 use Rattle.dictionary.specs.declared.check.Met.{Met}
-use Rattle.dictionary.specs.declared.check.Unique.{Unique}
-use Rattle.dictionary.specs.declared.check.Unique.TheVariants.{OfRelation, OfField}
 use Rattle.dictionary.specs.Format.{fitting}
 use Rattle.dictionary.specs.Dictionary.{Field, Relation, kind_at, name_at, good_name, whole_entry, field_at}
 use Rattle.dictionary.specs.Naming.{Name, named, numbered}
@@ -63,11 +61,6 @@ same_relation d p q =
 -- the entry at q is a field's with the name of the one at p
 unfoldable pub same_field : List ℕ → ℕ → ℕ → Bool
 same_field d p q = eqb (kind_at d q) field_entry_kind && same_bytes (name_at d (q + field_name)) (name_at d (p + field_name))
-
--- what must not repeat
-abbrev pub same_entry : Unique → List ℕ → ℕ → ℕ → Bool
-same_entry OfRelation d p q = same_relation d p q
-same_entry OfField d p q = same_field d p q
 
 unfoldable pub relation_good : List ℕ → ℕ → Met → Bool
 relation_good d p m =
@@ -131,9 +124,13 @@ is_named d (numbered i) q = eqb (kind_at d q) relation_entry_kind && eqb (word_a
 abbrev pub has_name : List ℕ → List ℕ → ℕ → Bool
 has_name d n q = same_bytes (name_at d (q + field_name)) n
 
--- the place of a relation's entry; a dictionary that is too long has none
+-- the last entry that passes a test; a dictionary that is too long has none
+abbrev pub last_place : List ℕ → (ℕ → Bool) → Option ℕ
+last_place d t = cond (leb (length d) max_dictionary_bytes) (last_of t (between d 0 (length d))) none
+
+-- the place of a relation's entry
 unfoldable pub relation_place : List ℕ → Name → Option ℕ
-relation_place d n = cond (leb (length d) max_dictionary_bytes) (last_of (is_named d n) (between d 0 (length d))) none
+relation_place d n = last_place d (is_named d n)
 
 -- the type of a field's entry; any other code counts as a reading, which no proper dictionary has
 abbrev pub type_of : Class FieldType → FieldType

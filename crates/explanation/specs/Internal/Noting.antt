@@ -1,24 +1,21 @@
 -- What the functions of the walk that lays tests in rows promise.
-use Rattle.std.specs.Prelude.{ℕ, ◌+◌, ◌-◌, ◌*◌, ◌/◌, ◌%◌, ◌≤◌, ◌≡◌, Bool, true, false, cond, List, [], ◌∷◌, ◌++◌, map, leb, ltb, length, take, drop, replicate}
+use Rattle.std.specs.Prelude.{ℕ, ◌+◌, ◌-◌, ◌*◌, ◌/◌, ◌%◌, ◌≤◌, ◌≡◌, Bool, true, false, cond, List, [], ◌∷◌, ◌++◌, map, leb, ltb, length, take, drop, replicate, Result, Ok, Err}
 use Rattle.std.proofs.lemmas.List.Edits.{sets}
 use Rattle.wire.specs.Limits.{max_depth, max_request_bytes}
 use Rattle.wire.specs.declared.codes.Connective.{Connective}
 use Rattle.wire.specs.declared.codes.BooleanCode.{BooleanCode}
-use Rattle.wire.specs.declared.codes.BooleanCode.TheVariants as Boolean
 use Rattle.grammar.specs.declared.Refusal.TheVariants.{TablesTooShort}
 use Rattle.meaning.specs.declared.Truth.{Truth}
 use Rattle.meaning.specs.Evaluation.{Outcome, answered, refusal, strayed, refusal_of}
 use Rattle.walking.specs.Walk.{Walked, at, fault, astray, ◌▷◌}
-use Rattle.values.specs.Values.{tested}
+use Rattle.values.specs.declared.Stop.{Stop}
+use Rattle.values.specs.Values.{stopped}
 use Rattle.evaluator.specs.Slices.{Slices, sight_of, booleans_of, Fits}
-use Rattle.explanation.specs.declared.Explanation.{Explanation}
-use Rattle.explanation.specs.declared.nodes.Node.{Node}
-use Rattle.explanation.specs.declared.nodes.Node.TheVariants as Node
 use Rattle.explanation.specs.declared.rows.Noted.{Noted}
-use Rattle.explanation.specs.Explanation.{Test, Explained, settles, joined, turned, outcome_number, in_table, test_table}
+use Rattle.explanation.specs.Explanation.{Test, Explained, joined, outcome_number, in_table, test_table}
 use Rattle.explanation.specs.Reason.{most_tests}
-use Rattle.explanation.specs.Promise.{count_of, counted}
-use Rattle.explanation.specs.Internal.Walk.{test_at, explain_at}
+use Rattle.explanation.specs.Promise.{Explanation, count_of, counted}
+use Rattle.explanation.specs.Internal.Walk.{explain_under, explain_at}
 
 -- ---- rows
 
@@ -61,27 +58,26 @@ pub record Keeps (first second : Bool) (n m k : ℕ) (t t' : List ℕ) (r : ℕ)
 abbrev pub truth_at : Walked Explained → Walked Truth
 truth_at w = w ▷ (λ x e. at x.truth e)
 
-abbrev pub settles_at : Connective → Walked Truth → Bool
-settles_at c (at t e) = settles c t
-settles_at c (fault f p) = false
-settles_at c astray = false
+-- what the code answers of a boolean
+abbrev pub truth_told : Result Noted Stop → Walked Truth
+truth_told (Ok y) = at y.truth y.end
+truth_told (Err x) = stopped x
+
+-- rows laid in t', up to so many of them, after the n that were laid in t before: those of the tests that the walk gives
+pub record Lays (w : Walked Explained) (n : ℕ) (t t' : List ℕ) (rows : ℕ) : Type 0 where
+  pub no_fewer : n ≤ rows
+  pub within : rows ≤ length t
+  pub laid : (x : Explained) (e : ℕ) → w ≡ at x e → take rows t' ≡ take n t ++ rows_of x.tests
+
+abbrev pub LaysIf : Walked Explained → ℕ → List ℕ → List ℕ → Result Noted Stop → Type 0
+LaysIf w n t t' (Ok y) = Lays w n t t' y.rows
+LaysIf w n t t' (Err x) = Unit {0}
 
 -- what the walk gives, with n rows laid in t before: the answer r, and in t' the rows of its tests after those
-pub record Notes (w : Walked Explained) (n : ℕ) (t t' : List ℕ) (r : Noted) : Type 0 where
-  pub truth : tested r.tested ≡ truth_at w
-  pub no_fewer : n ≤ r.rows
-  pub within : r.rows ≤ length t
+pub record Notes (w : Walked Explained) (n : ℕ) (t t' : List ℕ) (r : Result Noted Stop) : Type 0 where
+  pub truth : truth_told r ≡ truth_at w
   pub same : length t' ≡ length t
-  pub laid : (x : Explained) (e : ℕ) → w ≡ at x e → take r.rows t' ≡ take n t ++ rows_of x.tests
-
-abbrev pub node_of : BooleanCode → Node
-node_of (Boolean.Compare c) = Node.Test
-node_of (Boolean.Search t) = Node.Test
-node_of Boolean.Between = Node.Test
-node_of (Boolean.Connect c) = Node.Connect c
-node_of Boolean.Not = Node.Not
-node_of Boolean.Missing = Node.Test
-node_of (Boolean.Quantify q) = Node.Test
+  pub lays : LaysIf w n t t' r
 
 -- the boolean at a place, with n rows laid before it in a table of so many
 abbrev pub explains : Slices → ℕ → ℕ → ℕ → ℕ → Walked Explained
@@ -93,15 +89,14 @@ sides g rows levels c n p =
     explains g rows levels n p ▷ (λ x q. explains g rows levels (n + length x.tests) q ▷ (λ y e. at (joined c x y) e))
 
 -- what stands under a boolean's code at p
-abbrev pub under : Slices → ℕ → ℕ → ℕ → ℕ → Node → Walked Explained
-under g rows levels n p (Node.Connect c) = sides g rows (levels - 1) c n (p + 1)
-under g rows levels n p Node.Not = explains g rows (levels - 1) n (p + 1) ▷ (λ x e. at (turned x) e)
-under g rows levels n p Node.Test = test_at (ltb n rows) p (booleans_of g levels p)
+abbrev pub under : Slices → ℕ → ℕ → ℕ → ℕ → BooleanCode → Walked Explained
+under g rows levels n p code =
+    explain_under (λ m q. explains g rows (levels - 1) m q) (λ q. booleans_of g levels q) (ltb n rows) n p code
 
 -- what a walk is lent is not too long, and n rows are laid
-pub record Room (s bindings runs t : List ℕ) (n : ℕ) : Type 0 where
-  pub fits : Fits bindings runs
-  pub short : length s ≤ max_request_bytes
+pub record Room (g : Slices) (t : List ℕ) (n : ℕ) : Type 0 where
+  pub fits : Fits g.bindings g.runs
+  pub short : length g.request ≤ max_request_bytes
   pub rows : n ≤ length t
 
 -- ---- the answer
@@ -139,12 +134,4 @@ pub record Walkable (g : Slices) (p : ℕ) (t : List ℕ) : Type 0 where
   pub short : length g.request ≤ max_request_bytes
   pub never : walk_over g p ≡ astray → ⊥
   pub same : (rows : ℕ) → RowsEnough g.request rows → walk_in g rows p ≡ walk_over g p
-  pub zeros : t ≡ replicate (length t) 0
-
--- the same in a table of rows
-pub record WalkableIn (g : Slices) (p : ℕ) (rows t : List ℕ) : Type 0 where
-  pub fits : Fits g.bindings g.runs
-  pub short : length g.request ≤ max_request_bytes
-  pub few : length rows ≤ most_tests
-  pub never : walk_in g (length rows) p ≡ astray → ⊥
   pub zeros : t ≡ replicate (length t) 0

@@ -1,31 +1,17 @@
-use Prim.Native.Nat.{◌+◌, ◌-◌, ◌≤◌}
-use mathlib.Core.Path.{refl, sym, ap, ◌∙◌}
+use mathlib.Core.Path.{sym, ap, ◌∙◌}
 use native.Mathlib.Omega.{arith}
-use lib.ListN.{length}
 use Rattle.input.specs.Evaluation.{after_entries}
-use Rattle.input.proofs.Inside.{whole-inside}
+use Rattle.input.proofs.Inside.{ended, not-ended, whole-inside}
 use Rattle.input.proofs.Runs.{after_turn, after-end}
 use Rattle.input.proofs.after_entries.Goals as goal
 
-entry-inside :
-    (c : goal.After-word_at) →
-    (4 ≤ c.word_at.result) × (c.loop-p.p + c.word_at.result ≤ length c.args.s.now)
-entry-inside c =
-    let whole' = sym c.is_whole.ensures ∙ c.loop-p-test.true in
-    rw c.word_at.ensures.0 (whole-inside _ _ _ whole')
+pub loop-next-smaller : goal.loop-next-smaller
+loop-next-smaller c = let is = ended c.args.s.now c.loop-next.p c.args.kind c.in-Some.next (sym c.in-Some.is ∙ c.entry_end.ensures) in
+    omega (arith, is.1, whole-inside c.args.s.now c.loop-next.p c.args.kind is.0)
 
-pub loop-p-init : goal.loop-p-init
-loop-p-init c = refl
-
-pub overflow_add-p : goal.overflow_add-p
-overflow_add-p c = let inside = entry-inside c in omega arith
-
-pub loop-p-smaller : goal.loop-p-smaller
-loop-p-smaller c = let inside = entry-inside c in omega arith
-
-pub loop-p-preserved : goal.loop-p-preserved
-loop-p-preserved c = c.loop-p.invariant ∙ after_turn c.args.s.now c.args.kind c.loop-p.p (sym c.is_whole.ensures ∙ c.loop-p-test.true)
-    ∙ ap (λ w. after_entries c.args.s.now (c.loop-p.p + w) c.args.kind) (sym c.word_at.ensures.0)
+pub loop-next-preserved : goal.loop-next-preserved
+loop-next-preserved c = let is = ended c.args.s.now c.loop-next.p c.args.kind c.in-Some.next (sym c.in-Some.is ∙ c.entry_end.ensures) in
+    c.loop-next.invariant ∙ after_turn c.args.s.now c.args.kind c.loop-next.p is.0 ∙ ap (λ p. after_entries c.args.s.now p c.args.kind) (sym is.1)
 
 pub returns : goal.returns
-returns c = sym (c.loop-p.invariant ∙ after-end c.args.s.now c.args.kind c.loop-p.p (sym c.is_whole.ensures ∙ c.loop-p-test.false))
+returns c = sym (c.loop-next.invariant ∙ after-end c.args.s.now c.args.kind c.loop-next.p (not-ended c.args.s.now c.loop-next.p c.args.kind (sym c.in_default.is ∙ c.entry_end.ensures)))

@@ -1,13 +1,9 @@
 -- `input::put_all` meets its contract. By the law of one byte, `byte-turn`. Assumes nothing.
-use Prim.Native.Nat.{◌+◌, ◌-◌, ◌≤◌}
+use Prim.Native.Nat.{◌+◌}
 use mathlib.Core.Path.{◌≡◌}
-use lib.ListN.{length, drop}
+use lib.ListN.{drop}
 use lib.Seq.{sets}
 use Rattle.input.proofs.put_all.Given as goal
 
 abbrev pub invariant-loop-i : goal.invariant-loop-i
-invariant-loop-i l =
-    (l.i ≤ length l.bytes) × ((length l.lent ≡ length l.initial.lent) × (sets l.initial.lent l.at l.bytes ≡ sets l.lent (l.at + l.i) (drop l.i l.bytes)))
-
-abbrev pub decreases-loop-i : goal.decreases-loop-i
-decreases-loop-i l = length l.bytes - l.i
+invariant-loop-i l = sets l.initial.lent l.at l.bytes ≡ sets l.lent (l.at + l.i) (drop l.i l.bytes)

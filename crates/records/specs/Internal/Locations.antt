@@ -1,5 +1,5 @@
 -- Where a field stands: its entry in the dictionary, and its bytes in a record's entry.
-use Rattle.std.specs.Prelude.{ℕ, cond, List, leb, take}
+use Rattle.std.specs.Prelude.{ℕ, cond, List, leb, take, Option as Maybe, Some, None}
 use Rattle.std.proofs.Math.Option.{Option, none, some}
 use Rattle.std.proofs.Math.ListN.{get_elem?}
 use Rattle.wire.specs.Limits.{max_record_bytes}
@@ -22,5 +22,6 @@ unfoldable pub reached_from : List ℕ → ℕ → ℕ → Option (ℕ × ℕ)
 reached_from d q i = in_record (get_elem? (fields_from d q) i) (all_held d (take i (fields_from d q)))
 
 -- what the code's answer stands for
-abbrev pub located_of : Located → Option (ℕ × ℕ)
-located_of x = cond x.is (some (x.entry, x.offset)) none
+abbrev pub located_of : Maybe Located → Option (ℕ × ℕ)
+located_of None = none
+located_of (Some x) = some (x.entry, x.offset)

@@ -7,10 +7,10 @@ use mathlib.Core.Path.{◌∙◌}
 use Rattle.store.proofs.make_of.Goals as goal
 
 pub returns-then-buffer-gt-MAX_STORE_BYTES : goal.returns-then-buffer-gt-MAX_STORE_BYTES
-returns-then-buffer-gt-MAX_STORE_BYTES c = made-long (relation_at c.args.d.now c.args.relation) c.args.buffer.now c.if-buffer-gt-MAX_STORE_BYTES.true
+returns-then-buffer-gt-MAX_STORE_BYTES c = made-long (relation_at c.args.d.now c.args.relation) c.args.buffer.now _ c.refused.ensures c.if-buffer-gt-MAX_STORE_BYTES.true
 
 pub returns-then-buffer-lt-STORE_HEADER : goal.returns-then-buffer-lt-STORE_HEADER
-returns-then-buffer-lt-STORE_HEADER c = made-cut (relation_at c.args.d.now c.args.relation) c.args.buffer.now c.if-buffer-gt-MAX_STORE_BYTES.false c.if-buffer-lt-STORE_HEADER.true
+returns-then-buffer-lt-STORE_HEADER c = made-cut (relation_at c.args.d.now c.args.relation) c.args.buffer.now c.if-buffer-gt-MAX_STORE_BYTES.false _ c.refused-then-buffer-lt-STORE_HEADER.ensures c.if-buffer-lt-STORE_HEADER.true
 
 pub put_word-requires-3 : goal.put_word-requires-3
 put_word-requires-3 c = (search rules, c.word_on.ensures.1)

@@ -1,20 +1,18 @@
 -- What the calls do with the bytes of an open store.
-use Rattle.std.specs.Prelude.{ℕ, zero, suc, ◌+◌, ◌*◌, ◌-◌, ◌^◌, ◌%◌, ◌<◌, ◌≤◌, ◌≡◌, Bool, true, false, cond, not, ◌&&◌, List, ◌++◌, eqb, ltb, length, take, drop, set, replicate}
+use Rattle.std.specs.Prelude.{ℕ, zero, suc, ◌+◌, ◌*◌, ◌-◌, ◌^◌, ◌%◌, ◌<◌, ◌≤◌, ◌≡◌, Bool, true, false, cond, not, ◌&&◌, List, ◌++◌, eqb, ltb, length, take, drop, set, replicate, Result as Answer, Ok, Err}
 use Rattle.std.proofs.Math.Option.{Option, none, some}
 use Rattle.wire.specs.Words.{byte_at, word_bytes}
 use Rattle.wire.specs.Limits.{max_fields}
 use Rattle.wire.specs.Entries.{record_bits}
+use Rattle.wire.specs.declared.refused.Refused.{Refused}
+use Rattle.wire.specs.Options.{refused_at}
 use Rattle.dictionary.specs.Dictionary.{Relation}
 use Rattle.records.specs.Record.{bit_at}
 use Rattle.store.specs.declared.Refusal.{Refusal}
 use Rattle.store.specs.declared.Refusal.TheVariants.{NoPosition, WrongRecord, NoRoom}
-use Rattle.store.specs.declared.Answer.{Answer}
-use Rattle.store.specs.declared.Answer.TheVariants as Answer
 use Rattle.store.specs.declared.layout.Layout.{Layout}
 use Rattle.store.specs.declared.opening.Store.{Store}
 use Rattle.store.specs.Store.{max_store_bytes, store_count, store_header, bit_place}
-use Rattle.store.specs.declared.RecordPlace.{RecordPlace}
-use Rattle.store.specs.declared.RecordPlace.TheVariants as RecordPlace
 use Rattle.store.specs.Calls.{refuse_if, answer_of, left, made_in}
 use Rattle.store.specs.Internal.Layouts.{proper_by, lost_at, ones_at}
 
@@ -105,27 +103,27 @@ replace_bytes s t b k x =
     let w = written s.layout t b (place_of s k) x in
     counted w s.count (s.missing - bits_at s b (place_of s k) + bits_at s w (place_of s k))
 
-abbrev pub answer_by : Option Refusal → Answer
-answer_by none = Answer.Done
-answer_by (some x) = Answer.Refused x 0
+abbrev pub answer_by : Option Refusal → Answer (Unit {0}) (Refused Refusal)
+answer_by none = Ok tt
+answer_by (some x) = Err (refused_at x 0)
 
 abbrev pub left_by : Option Refusal → List ℕ → List ℕ → List ℕ
 left_by none b b' = b'
 left_by (some x) b b' = b
 
 -- what a call on an open store promises
-pub record Changes (o : Option Refusal) (b after b' : List ℕ) (r : Answer) : Type 0 where
+pub record Changes (o : Option Refusal) (b after b' : List ℕ) (r : Answer (Unit {0}) (Refused Refusal)) : Type 0 where
   pub answer_is : r ≡ answer_by o
   pub left_is : b' ≡ left_by o b after
 
 -- what the first call promises for a relation: the answer, and the buffer at exit
-pub record MadeOf (r : Relation) (b b' : List ℕ) (x : Answer) : Type 0 where
+pub record MadeOf (r : Relation) (b b' : List ℕ) (x : Answer (Unit {0}) (Refused Refusal)) : Type 0 where
   pub made_answer : x ≡ answer_of (made_in (length b) (some r))
   pub made_left : b' ≡ left b (made_in (length b) (some r))
 
 -- where record k of an open store stands
-unfoldable pub place_by : Store → ℕ → RecordPlace
-place_by s k = cond (ltb k s.count) (RecordPlace.At (place_of s k) s.layout.size) (RecordPlace.Refused NoPosition 0)
+unfoldable pub place_by : Store → ℕ → Answer (ℕ × ℕ) (Refused Refusal)
+place_by s k = cond (ltb k s.count) (Ok (place_of s k, s.layout.size)) (Err (refused_at NoPosition 0))
 
 -- ---- what the numbers of an open store keep to
 

@@ -1,5 +1,5 @@
 -- How the code sees a relation's records: a few numbers, and where the readings stand.
-use Rattle.std.specs.Prelude.{ℕ, zero, suc, ◌+◌, ◌*◌, ◌-◌, ◌/◌, ◌<◌, ◌≤◌, ◌≡◌, Bool, true, false, cond, not, ◌&&◌, ◌||◌, List, [], ◌∷◌, eqb, leb, ltb, length, get_or, take, drop}
+use Rattle.std.specs.Prelude.{ℕ, zero, suc, ◌+◌, ◌*◌, ◌-◌, ◌/◌, ◌<◌, ◌≤◌, ◌≡◌, Bool, true, false, cond, not, ◌&&◌, ◌||◌, List, [], ◌∷◌, eqb, leb, ltb, length, get_or, take, drop, Result as Answer, Ok, Err}
 use Rattle.std.proofs.Math.Option.{Option, none, some, map}
 use Rattle.std.specs.Int.Count.{ones}
 use Rattle.std.proofs.lemmas.List.Edits.{sets}
@@ -10,15 +10,14 @@ use Rattle.wire.specs.Lists.{all_of, sum_of}
 use Rattle.wire.specs.declared.codes.FieldType.{FieldType}
 use Rattle.wire.specs.declared.codes.FieldType.TheVariants.{Plain, Reading}
 use Rattle.dictionary.specs.Format.{held}
-use Rattle.dictionary.specs.Dictionary.{Field, Relation, kind_at}
+use Rattle.wire.specs.declared.refused.Refused.{Refused}
+use Rattle.wire.specs.Options.{refused_at}
+use Rattle.dictionary.specs.Dictionary.{Field, Relation, Checked, proper, at_fault, kind_at}
 use Rattle.records.specs.Record.{field_count, missing_bytes, record_length, bit_at, bits_clear}
 use Rattle.store.specs.declared.layout.Layout.{Layout}
-use Rattle.store.specs.declared.layout.Tally.{Tally}
-use Rattle.store.specs.declared.layout.Tally.TheVariants.{Ones, Wrong}
 use Rattle.store.specs.declared.opening.Store.{Store}
-use Rattle.store.specs.declared.opening.Opened.{Opened}
-use Rattle.store.specs.declared.opening.Opened.TheVariants as Opened
-use Rattle.store.specs.declared.Refusal.TheVariants.{MalformedStore}
+use Rattle.store.specs.declared.Refusal.{Refusal}
+use Rattle.store.specs.declared.Refusal.TheVariants.{BadDictionary, MalformedStore}
 use Rattle.store.specs.Store.{Contents, max_store_bytes, store_entry_kind, store_missing, store_header, missing_count, listed, well_formed, held_by}
 use Rattle.store.specs.Calls.{Result, holds, refused, or_malformed}
 
@@ -100,11 +99,12 @@ unfoldable pub tally : Layout → List ℕ → List ℕ → ℕ → ℕ → Opti
 tally l t s zero p = some 0
 tally l t s (suc n) p = tally_next (kept_at l t s p) (ones_at s (p + record_bits) l.bits) (tally l t s n (p + l.size))
 
-abbrev pub tally_of : Option ℕ → Tally
-tally_of none = Wrong
-tally_of (some m) = Ones m
-
 -- ---- an open store
+
+-- a dictionary that is not proper is refused
+abbrev pub dictionary_answer : Checked → Answer (Unit {0}) (Refused Refusal)
+dictionary_answer (proper rs) = Ok tt
+dictionary_answer (at_fault p) = Err (refused_at BadDictionary p)
 
 -- the buffer is not too long and starts as a store does
 unfoldable pub headed : List ℕ → Bool
@@ -115,10 +115,9 @@ unfoldable pub closed_at : List ℕ → ℕ → ℕ → Bool
 closed_at b end m = leb end (length b) && eqb (word_at b store_missing) m && all_of (λ x. eqb x 0) (drop end b)
 
 -- the store in a buffer whose records are as they should be
-unfoldable pub settled : List ℕ → Layout → ℕ → ℕ → Opened
+unfoldable pub settled : List ℕ → Layout → ℕ → ℕ → Answer Store (Refused Refusal)
 settled b l n m =
-    cond (closed_at b (store_header + n * l.size) m) (Opened.Is (record { layout = l; count = n; missing = m }))
-    (Opened.Refused MalformedStore 0)
+    cond (closed_at b (store_header + n * l.size) m) (Ok (record { layout = l; count = n; missing = m })) (Err (refused_at MalformedStore 0))
 
 -- what a buffer holds as a store of a relation
 abbrev pub store_of_relation : Relation → List ℕ → Result
@@ -127,11 +126,11 @@ store_of_relation r b = or_malformed (held_by (well_formed (listed r b) b) (list
 unfoldable pub store_of : Contents → Store
 store_of c = record { layout = layout_of c.relation; count = length c.records; missing = missing_count c }
 
-abbrev pub opened_of : Result → Opened
-opened_of (holds c) = Opened.Is (store_of c)
-opened_of (refused x p) = Opened.Refused x p
+abbrev pub opened_of : Result → Answer Store (Refused Refusal)
+opened_of (holds c) = Ok (store_of c)
+opened_of (refused x p) = Err (refused_at x p)
 
 -- what opening promises: the store or the refusal, and the table
-pub record Opens (x : Result) (t : List ℕ) (r : Opened) : Type 0 where
+pub record Opens (x : Result) (t : List ℕ) (r : Answer Store (Refused Refusal)) : Type 0 where
   pub opened : r ≡ opened_of x
   pub laid : (c : Contents) → x ≡ holds c → Laid c.relation t

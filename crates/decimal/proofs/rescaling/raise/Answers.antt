@@ -1,18 +1,20 @@
--- `decimal::rescaling::raise` meets its contract. The value itself, or its product with a power of ten. Assumes nothing.
-use mathlib.Core.Path.{sym, ap, ap₂, ◌∙◌}
-use lib.IntN.{pos, ◌*ℤ◌}
+use Prim.Native.Nat.{ℕ, ◌^◌}
+use mathlib.Core.Path.{◌≡◌, sym, ap, ap₂, ◌∙◌}
+use lib.IntN.{ℤ, pos, ◌*ℤ◌}
 use mir.Facts.{to_z-of_z}
+use mir.Syntax.{w64}
+use mir.Val.{to_z, of_z}
 use Rattle.decimal.specs.Number.{fitted}
-use Rattle.decimal.specs.Internal.Signs.{signed}
-use Rattle.decimal.proofs.Fitted.{made, raised-by-none}
-use Rattle.decimal.proofs.Signed.{parts}
+use Rattle.decimal.proofs.Bits.{read_back}
+use Rattle.decimal.proofs.Fitted.{made, number_is, raised-by-none}
 use Rattle.decimal.proofs.rescaling.raise.Goals as goal
 
 pub returns-then-k-eq0 : goal.returns-then-k-eq0
-returns-then-k-eq0 c = rw c.if-k-eq0.true
-    (made (to_z-of_z c.ranges.x ∙ sym (raised-by-none _)) (to_z-of_z c.ranges.scale) (rw (raised-by-none c.args.x) c.ranges.x.sfits))
+returns-then-k-eq0 c = let x = c.args.x in
+    made (to_z-of_z c.ranges.x) (to_z-of_z c.ranges.scale) c.ranges.x.sfits
+    ∙ ap (λ (z : ℤ). fitted z c.args.scale) (sym (raised-by-none x) ∙ ap (λ (n : ℕ). x *ℤ pos (10 ^ n)) (sym c.if-k-eq0.true))
 
 pub returns : goal.returns
-unfolding signed
-returns c = let x = parts c.args.x c.ranges.x.sfits c.is_negative.ensures c.magnitude.ensures in
-    c.product.ensures ∙ ap₂ fitted (ap₂ ◌*ℤ◌ x (ap pos c.power.ensures)) (to_z-of_z c.ranges.scale)
+returns c = let product : to_z w64 (of_z w64 c.args.x) *ℤ to_z w64 (of_z w64 c.power.result) ≡ c.args.x *ℤ pos (10 ^ c.args.k) =
+    ap₂ ◌*ℤ◌ (to_z-of_z c.ranges.x) (read_back w64 c.power.result c.power.type_inv ∙ c.power.ensures) in
+    c.fitting.ensures ∙ number_is _ _ _ c.checked_mul.ensures ∙ ap₂ fitted product (to_z-of_z c.ranges.scale)

@@ -1,31 +1,22 @@
--- `decimal::rescaling::raise_twice` meets its contract. Raised once, and where that fits once more. Assumes nothing.
+use borrow.Author.Rules.{rules}
 use Prim.Native.Nat.{◌^◌}
-use mathlib.Core.Path.{sym, ap, ap₂, ◌∙◌}
+use mathlib.Core.Path.{◌≡◌, sym, ap, ap₂, ◌∙◌}
 use lib.IntN.{ℤ, pos, ◌*ℤ◌}
 use mir.Syntax.{w64}
+use mir.Val.{to_z, of_z}
 use mir.Facts.{to_z-of_z}
-use Rattle.decimal.specs.declared.Computed.TheVariants.{Value, Overflow, ZeroDivisor}
+use Rattle.std.specs.Prelude.{Err}
 use Rattle.decimal.specs.Number.{fitted}
-use Rattle.decimal.proofs.Bits.{read_back}
-use Rattle.decimal.proofs.Raised.{raised-again, fitted-value, fitted-again, fitted-never}
+use Rattle.decimal.proofs.Raised.{raised-twice}
 use Rattle.decimal.proofs.rescaling.raise_twice.Goals as goal
 
-pub returns-in-Value : goal.returns-in-Value
-returns-in-Value c = let f = c.ranges in
-    let x = c.args.x in
-    let k = c.args.k in
-    let first = sym (c.raise.ensures ∙ ap₂ fitted (ap (λ (z : ℤ). z *ℤ pos (10 ^ k)) (to_z-of_z f.x)) (to_z-of_z f.scale)) ∙ c.in-Value.is in
-    let again = read_back w64 _ c.struct_told-1.given.0.1 ∙ fitted-value (x *ℤ pos (10 ^ k)) c.args.scale _ first in
-    c.raise-in-Value.ensures ∙ ap₂ fitted (ap (λ (z : ℤ). z *ℤ pos (10 ^ k)) again ∙ raised-again x k) (to_z-of_z f.scale)
+pub returns-in_err-n : goal.returns-in_err-n
+returns-in_err-n c = let end : c.from_residual.result ≡ Err c.in_err-n.field-0.0 = search rules in
+    let first = sym (c.raise.ensures ∙ ap₂ fitted (ap (λ (z : ℤ). z *ℤ pos (10 ^ c.args.k)) (to_z-of_z c.ranges.x)) (to_z-of_z c.ranges.scale)) ∙ c.in_err-n.was in
+    end ∙ rw first at (raised-twice c.args.x c.args.scale c.args.k)
 
-pub returns-in-Overflow : goal.returns-in-Overflow
-returns-in-Overflow c = let f = c.ranges in
-    let k = c.args.k in
-    let first = sym (c.raise.ensures ∙ ap₂ fitted (ap (λ (z : ℤ). z *ℤ pos (10 ^ k)) (to_z-of_z f.x)) (to_z-of_z f.scale)) ∙ c.in-Overflow.is in
-    fitted-again c.args.x c.args.scale k first
-
-pub returns-in-ZeroDivisor : goal.returns-in-ZeroDivisor
-returns-in-ZeroDivisor c = let f = c.ranges in
-    let k = c.args.k in
-    let first = sym (c.raise.ensures ∙ ap₂ fitted (ap (λ (z : ℤ). z *ℤ pos (10 ^ k)) (to_z-of_z f.x)) (to_z-of_z f.scale)) ∙ c.in-ZeroDivisor.is in
-    fitted-never (c.args.x *ℤ pos (10 ^ k)) c.args.scale first
+pub returns : goal.returns
+returns c = let first = sym (c.raise.ensures ∙ ap₂ fitted (ap (λ (z : ℤ). z *ℤ pos (10 ^ c.args.k)) (to_z-of_z c.ranges.x)) (to_z-of_z c.ranges.scale)) ∙ c.in_ok-n.was in
+    let n : to_z w64 (of_z w64 c.in_ok-n.n.value) ≡ c.in_ok-n.n.value = search rules in
+    c.raise-2.ensures ∙ ap₂ fitted (ap (λ (z : ℤ). z *ℤ pos (10 ^ c.args.k)) n) (to_z-of_z c.ranges.scale)
+    ∙ rw first at (raised-twice c.args.x c.args.scale c.args.k)

@@ -1,10 +1,8 @@
 use mathlib.Core.Path.{◌≡◌, sym, ap, ◌∙◌}
-use mathlib.Core.Bool.{true, false}
-use Prim.Native.Nat.{◌-◌}
+use mathlib.Core.Bool.{true}
 use native.Mathlib.Omega.{arith}
-use Rattle.dictionary.specs.Naming.{named}
-use Rattle.dictionary.specs.Internal.Walk.{has_name, is_field}
-use Rattle.dictionary.specs.Internal.FieldAnswers.{index_answer}
+use Rattle.dictionary.specs.Internal.Walk.{is_field}
+use Rattle.wire.specs.Options.{option_of}
 use Rattle.dictionary.proofs.Fields.{inside, further}
 use Rattle.dictionary.proofs.FieldSearches.{less-left, named_start, named_end, named_here, named-next}
 use Rattle.dictionary.proofs.field.field_named.Goals as goal
@@ -18,7 +16,7 @@ has_name-requires c = inside c.args.d.now c.loop-relation.q (sym c.is_field.ensu
 pub returns-then-has_name : goal.returns-then-has_name
 returns-then-has_name c = named_here c.args.d.now c.args.name.now c.loop-relation.q c.loop-relation.i (sym c.is_field.ensures ∙ c.loop-relation-test.true)
     (sym c.has_name.ensures ∙ c.if-has_name.true) ∙
-    ap index_answer (sym c.loop-relation.invariant.1)
+    ap option_of (sym c.loop-relation.invariant.1)
 
 pub overflow_add-i : goal.overflow_add-i
 overflow_add-i c = omega (arith, inside c.args.d.now c.loop-relation.q (sym c.is_field.ensures ∙ c.loop-relation-test.true), c.loop-relation.invariant.0)
@@ -36,4 +34,4 @@ loop-relation-preserved c = let e : is_field c.args.d.now c.loop-relation.q ≡ 
 
 pub returns : goal.returns
 returns c = named_end c.args.d.now c.args.name.now c.loop-relation.q c.loop-relation.i (sym c.is_field.ensures ∙ c.loop-relation-test.false) ∙
-    ap index_answer (sym c.loop-relation.invariant.1)
+    ap option_of (sym c.loop-relation.invariant.1)

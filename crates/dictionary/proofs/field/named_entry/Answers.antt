@@ -1,9 +1,7 @@
 use mathlib.Core.Path.{sym, ap, ◌∙◌}
-use mathlib.Core.Bool.{true, false}
-use Prim.Native.Nat.{◌-◌}
 use Rattle.wire.specs.Lists.{find}
-use Rattle.dictionary.specs.Internal.Walk.{has_name, is_field}
-use Rattle.dictionary.specs.Internal.Answers.{place_answer}
+use Rattle.dictionary.specs.Internal.Walk.{has_name}
+use Rattle.wire.specs.Options.{option_of}
 use Rattle.dictionary.proofs.Fields.{inside}
 use Rattle.dictionary.proofs.FieldSearches.{fields-after, less-left, found-end, found_here, found-next}
 use Rattle.dictionary.proofs.field.named_entry.Goals as goal
@@ -17,7 +15,7 @@ has_name-requires c = inside c.args.d.now c.loop-relation.q (sym c.is_field.ensu
 pub returns-then-has_name : goal.returns-then-has_name
 returns-then-has_name c = found_here c.args.d.now c.args.name.now c.loop-relation.q (sym c.is_field.ensures ∙ c.loop-relation-test.true)
     (sym c.has_name.ensures ∙ c.if-has_name.true) ∙
-    ap place_answer (sym c.loop-relation.invariant)
+    ap option_of (sym c.loop-relation.invariant)
 
 pub loop-relation-smaller : goal.loop-relation-smaller
 loop-relation-smaller c = less-left c.args.d.now c.loop-relation.q c.next_place-q-in-loop-relation.ensures (sym c.is_field.ensures ∙ c.loop-relation-test.true)
@@ -28,4 +26,4 @@ loop-relation-preserved c = c.loop-relation.invariant ∙
     (sym c.has_name.ensures ∙ c.if-has_name.false)
 
 pub returns : goal.returns
-returns c = found-end c.args.d.now c.args.name.now c.loop-relation.q (sym c.is_field.ensures ∙ c.loop-relation-test.false) ∙ ap place_answer (sym c.loop-relation.invariant)
+returns c = found-end c.args.d.now c.args.name.now c.loop-relation.q (sym c.is_field.ensures ∙ c.loop-relation-test.false) ∙ ap option_of (sym c.loop-relation.invariant)

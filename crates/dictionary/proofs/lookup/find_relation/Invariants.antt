@@ -1,13 +1,13 @@
-use Rattle.dictionary.proofs.Searches.{option_of, left}
 use mathlib.Core.Path.{◌≡◌}
-use Prim.Native.Nat.{◌-◌}
+use mathlib.Core.Bool.{Bool}
+use Prim.Native.Nat.{ℕ, ◌-◌}
 use lib.ListN.{length}
-use Rattle.dictionary.specs.Internal.Walk.{relation_place}
-use Rattle.dictionary.specs.Internal.Answers.{wanted_name}
+use Rattle.dictionary.specs.Internal.Walk.{last_place}
+use Rattle.dictionary.proofs.Searches.{left, back_of}
 use Rattle.dictionary.proofs.lookup.find_relation.Given as goal
 
 abbrev pub invariant-loop-q : goal.invariant-loop-q
-invariant-loop-q l = relation_place l.d (wanted_name l.w l.name l.id) ≡ left l.d (wanted_name l.w l.name l.id) l.q (option_of l.found)
+invariant-loop-q g l = (t : ℕ → Bool) → ((q : ℕ) (b : Bool) → goal.F-post g l.wanted q b → b ≡ t q) → last_place l.d t ≡ left t l.d l.q (back_of l.found)
 
 abbrev pub decreases-loop-q : goal.decreases-loop-q
-decreases-loop-q l = length l.d - l.q
+decreases-loop-q g l = length l.d - l.q

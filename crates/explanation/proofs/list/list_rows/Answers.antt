@@ -8,7 +8,7 @@ use Rattle.explanation.proofs.RowLaws.{rows-turn, rows_end, too_few, all_listed}
 use Rattle.explanation.proofs.list.list_rows.Goals as goal
 
 pub returns-then-tests-noted : goal.returns-then-tests-noted
-returns-then-tests-noted c = too_few _ _ c.if-tests-noted.true
+returns-then-tests-noted c = too_few _ _ c.if-tests-noted.true c.new.ensures
 
 pub loop-i-init : goal.loop-i-init
 loop-i-init c = (omega arith, refl, refl)

@@ -4,9 +4,6 @@ use Rattle.explanation.proofs.walk.+walk.Given as goal
 abbrev pub decreases-both_sides : goal.decreases-both_sides
 decreases-both_sides l = 4 * l.levels + 3
 
-abbrev pub decreases-explain_after : goal.decreases-explain_after
-decreases-explain_after l = 4 * l.levels + 2
-
 abbrev pub decreases-explain_at : goal.decreases-explain_at
 decreases-explain_at l = 4 * l.levels + 1
 

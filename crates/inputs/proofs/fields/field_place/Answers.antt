@@ -14,16 +14,16 @@ returns-then-s-p c = past_end c.args.s.now (c.args.p + offset_of (relation_at c.
 
 pub overflow_add-result : goal.overflow_add-result
 overflow_add-result c = let o = offset_of (relation_at c.args.d.now c.args.relation) c.args.i in
-    omega (arith, (found (length c.args.s.now - c.args.p) o c.in-Is.n (sym c.in-Is.is ∙ c.offset_within-offset.ensures)).1)
+    omega (arith, (found (length c.args.s.now - c.args.p) o c.in-Some.n (sym c.in-Some.is ∙ c.offset_within.ensures)).1)
 
-pub returns-in-Is : goal.returns-in-Is
-returns-in-Is c = let o = offset_of (relation_at c.args.d.now c.args.relation) c.args.i in
-    let f = found (length c.args.s.now - c.args.p) o c.in-Is.n (sym c.in-Is.is ∙ c.offset_within-offset.ensures) in
+pub returns-in-Some : goal.returns-in-Some
+returns-in-Some c = let o = offset_of (relation_at c.args.d.now c.args.relation) c.args.i in
+    let f = found (length c.args.s.now - c.args.p) o c.in-Some.n (sym c.in-Some.is ∙ c.offset_within.ensures) in
     let a = f.0 in
     let b = f.1 in
     ap (λ n. c.args.p + n) a ∙ up-to-end c.args.s.now (c.args.p + o) (omega (arith, a, b))
 
-pub returns-in-Long : goal.returns-in-Long
-returns-in-Long c = let o = offset_of (relation_at c.args.d.now c.args.relation) c.args.i in
-    let f = above (length c.args.s.now - c.args.p) o (sym c.in-Long.is ∙ c.offset_within-offset.ensures) in
+pub returns-in-None : goal.returns-in-None
+returns-in-None c = let o = offset_of (relation_at c.args.d.now c.args.relation) c.args.i in
+    let f = above (length c.args.s.now - c.args.p) o (sym c.in-None.is ∙ c.offset_within.ensures) in
     past_end c.args.s.now (c.args.p + o) (omega (arith, f))

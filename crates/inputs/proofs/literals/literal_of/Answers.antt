@@ -8,9 +8,6 @@ use Rattle.inputs.proofs.TextLaws.{text-literal}
 use Rattle.inputs.proofs.LiteralLaws.{width_small, number-literal, text-walked}
 use Rattle.inputs.proofs.literals.literal_of.Goals as goal
 
-pub overflow_add-after-in-NumberLiteral : goal.overflow_add-after-in-NumberLiteral
-overflow_add-after-in-NumberLiteral c = omega (arith, c.width_bytes.ensures, width_small c.in-NumberLiteral.w, c.well_formed)
-
 pub returns-in-NumberLiteral : goal.returns-in-NumberLiteral
 returns-in-NumberLiteral c m e = rw c.in-NumberLiteral.is
     (number-literal c.args.request.now c.args.at c.in-NumberLiteral.w c.byte_at-scale.result c.width_bytes.result c.number_at-x.result

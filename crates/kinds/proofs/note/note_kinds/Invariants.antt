@@ -8,6 +8,3 @@ use Rattle.kinds.proofs.note.note_kinds.Given as goal
 abbrev pub invariant-loop-row : goal.invariant-loop-row
 invariant-loop-row l =
     Noting l.dictionary l.parameters (min l.rows max_parameters) l.request l.count l.initial.bindings l.bindings l.row × (l.count * 10 ≤ length l.initial.bindings)
-
-abbrev pub decreases-loop-row : goal.decreases-loop-row
-decreases-loop-row l = l.count - l.row

@@ -1,30 +1,21 @@
-use Prim.Native.Nat.{◌+◌, ◌-◌, ◌<◌}
-use mathlib.Core.Path.{sym, ap}
-use native.Mathlib.Nat.{zero-add}
+-- `messages::declared::find` meets its contract. By what std's `take` and `position` give. Assumes nothing.
+use Rattle.std.proofs.Common.{rules, tests}
+use Rattle.std.proofs.lemmas.Iterator.{YieldsList-from_slice, YieldsList-from_take}
+use Rattle.std.proofs.lemmas.Iterator.Search.{position_from_yields_List}
+use mathlib.Core.Path.{ap, ◌∙◌}
 use native.Mathlib.Omega.{arith}
-use borrow.Author.Tests.{eq-eqb, ne_eqb}
 use lib.Dec.{eqb}
-use lib.ListN.{get_or}
-use Rattle.scopes.proofs.Rests.{index-start, index-counted, index-over, index-here, index-next}
+use lib.ListN.{take, drop}
+use Rattle.wire.specs.Options.{option_of}
+use Rattle.wire.specs.Limits.{max_messages}
+use Rattle.scopes.proofs.Rests.{index-position}
 use Rattle.messages.specs.Internal.Columns.{numbers_from}
-use Rattle.messages.specs.Entries.{messages_held, found_answer}
+use Rattle.messages.specs.Entries.{messages_held}
+use Rattle.messages.proofs.Found.{message-index}
 use Rattle.messages.proofs.declared.find.Goals as goal
 
-pub loop-i-init : goal.loop-i-init
-loop-i-init c = (omega arith, index-start)
-
-pub returns-then-i-count : goal.returns-then-i-count
-returns-then-i-count c = sym (ap found_answer (index-counted c.loop-i.invariant.1 c.if-i-count.true))
-
-pub returns-then-around-i : goal.returns-then-around-i
-returns-then-around-i c = let k : c.loop-i.i < messages_held c.args.around.now = omega arith in
-    let t = eq-eqb (get_or c.args.around.now (numbers_from + c.loop-i.i) 0) c.args.m.0 c.if-around-i.true in
-    sym (ap found_answer (index-here c.loop-i.invariant.1 c.loop-i-test.true k (zero-add c.loop-i.i) t))
-
-pub loop-i-preserved : goal.loop-i-preserved
-loop-i-preserved c = let k : c.loop-i.i < messages_held c.args.around.now = omega arith in
-    let t = ne_eqb (get_or c.args.around.now (numbers_from + c.loop-i.i) 0) c.args.m.0 c.if-around-i.false in
-    (omega arith, index-next c.loop-i.invariant.1 c.loop-i-test.true k (zero-add c.loop-i.i) t)
-
 pub returns : goal.returns
-returns c = sym (ap found_answer (index-over c.loop-i.invariant.1 c.loop-i-test.false))
+returns c = position_from_yields_List (λ x. eqb x c.args.m.0) _ _ c.position.result c.position.ensures.ran
+    (YieldsList-from_take _ (YieldsList-from_slice (take max_messages (drop numbers_from c.args.around.now)) cc) c.take.ensures.count) (λ x b q k. search (rules, tests)) ∙
+    index-position (λ x. eqb x c.args.m.0) (take (messages_held c.args.around.now) (take max_messages (drop numbers_from c.args.around.now))) ∙
+    ap option_of (message-index c.args.around.now c.args.m.0 (omega arith))

@@ -1,19 +1,8 @@
-use Prim.Native.Nat.{ℕ}
-use mathlib.Core.Path.{refl, sym}
-use mathlib.Core.List.{List, [], ◌∷◌}
 use native.Mathlib.Omega.{arith}
-use types.Run.{miss}
-use Rattle.grammar.specs.Demands.{Octets}
-use Rattle.grammar.specs.Reader.{refused}
-use Rattle.grammar.specs.declared.Refusal.TheVariants.{TooGreat}
 use Rattle.grammar.proofs.StepLaws.{absurd-eq}
-use Rattle.scopes.specs.Scopes.{scope_of}
 use Rattle.references.specs.Promises.{environment_of}
-use Rattle.openings.specs.Openings.{opening_reader}
-use Rattle.openings.proofs.CodeLaws.{at_code}
 use Rattle.openings.proofs.OpenLaws.{opens-nothing}
-use Rattle.openings.proofs.OpenHeadings.{opens-modify, opens-store, heading-coded}
-use borrow.Enum.Refused.{opened as unsealed}
+use Rattle.openings.proofs.OpenHeadings.{opens-modify, opens-store, opening-none, heading-coded}
 use Rattle.openings.proofs.opening.read_opened.Goals as goal
 
 pub returns-in-For : goal.returns-in-For
@@ -29,18 +18,12 @@ returns-in-Send c = λ e ready. rw c.in-Send.is (heading-coded (λ k. absurd-eq 
 
 pub returns-in-Store : goal.returns-in-Store
 unfolding environment_of
-returns-in-Store c = let octets : Octets c.args.request.now = λ p. omega (arith, c.type_inv.request p) in
-    λ e ready. rw c.in-Store.is (heading-coded (λ k. absurd-eq (cc))
-    (opens-store ready octets c.read_stream-declared.result (c.read_stream-declared.ensures ready.is-proper) c.update-in-Store.ensures e))
+returns-in-Store c = λ e ready. rw c.in-Store.is (heading-coded (λ k. absurd-eq (cc))
+    (opens-store ready c.args.beside.octets c.read_stream-declared.result (c.read_stream-declared.ensures ready.is-proper) c.update-in-Store.ensures e))
 
 pub returns-in-Label : goal.returns-in-Label
 returns-in-Label c = λ e ready. rw c.in-Label.is (heading-coded (λ k. absurd-eq (cc)) (c.read_label.ensures _ _ _ ready))
 
 pub returns-in_default : goal.returns-in_default
-returns-in_default c = let x = c.args.x in
-    let d = c.args.dictionary.now in
-    let arm : List ℕ = 0 ∷ 1 ∷ 2 ∷ 4 ∷ 6 ∷ 7 ∷ 11 ∷ 12 ∷ 13 ∷ [] in
-    let none = at_code (refused TooGreat x.at)
-    (λ k. opening_reader (environment_of d c.args.around.now) (scope_of d c.args.below.now) x.at k c.args.request.now x.after)
-    arm refl x.code (unsealed c.in_default.in_default-own.keys6) in
-    λ e ready. heading-coded (λ k. miss arm 3 tt (rw k at (unsealed c.in_default.in_default-own.keys6))) (opens-nothing ready.scope_whole (sym none))
+returns-in_default c = λ e ready. rw c.new.ensures (heading-coded c.in_default.not-For (opens-nothing ready.scope_whole
+    (opening-none _ _ _ _ _ c.args.x.code c.in_default.not-Modify c.in_default.not-Send c.in_default.not-Store c.in_default.not-Label)))

@@ -1,24 +1,28 @@
-use mathlib.Core.Path.{refl, sym, ◌∙◌}
+use Prim.Native.Nat.{◌+◌, ◌-◌}
+use mathlib.Core.Path.{◌≡◌, sym, ◌∙◌}
 use native.Mathlib.Omega.{arith}
+use Rattle.std.proofs.lemmas.Result.{err_from_is_err_and}
 use Rattle.openings.proofs.OpenLaws.{stream-opened, opens-none, opens-refused}
-use borrow.Author.Rules.{rules}
 use Rattle.openings.proofs.opening.read_streams.Goals as goal
 
-pub loop-left-init : goal.loop-left-init
-loop-left-init c = (refl, (λ p. omega (arith, c.type_inv.request p)), λ h. record { ready = h; all = λ o. o })
+pub loop-init : goal.loop-init
+loop-init c = ((λ p. omega (arith, c.type_inv.request p)), λ h. let e : c.args.n - 0 ≡ c.args.n = omega arith in rw e (record { ready = h; all = λ o. o }))
 
-pub loop-left-preserved : goal.loop-left-preserved
-loop-left-preserved c = (
-  search rules,
-  c.loop-left.invariant.1,
-  λ h. stream-opened (c.loop-left.invariant.2 h) c.loop-left.invariant.1 c.loop-left-test.true (λ d. sym c.in-Is.is ∙ c.read_stream.ensures d)
-      c.declare.ensures,
+pub loop-preserved : goal.loop-preserved
+loop-preserved c = (
+  c.loop.invariant.0,
+  λ h. let e : c.args.n - (c.loop.counter + 1) ≡ c.args.n - c.loop.counter - 1 = omega arith in
+      rw e (stream-opened (c.loop.invariant.1 h) c.loop.invariant.0 (omega (arith, c.loop-test.true))
+      (λ d. sym c.in_ok-x.was ∙ c.read_stream.ensures d) c.declare.ensures),
 )
 
-pub returns-in-Refused : goal.returns-in-Refused
-returns-in-Refused c = λ h. let o = c.loop-left.invariant.2 h in
-    o.all (opens-refused o.ready c.loop-left.contexts _ c.loop-left.left c.loop-left-test.true
-    (sym c.in-Refused.is ∙ c.read_stream.ensures o.ready.is-proper))
+pub returns-in_err-x : goal.returns-in_err-x
+returns-in_err-x c =
+    let p = err_from_is_err_and c.from_residual.result c.from_residual.ensures.1 in
+    rw (p.1, p.2) (λ h. let o = c.loop.invariant.1 h in
+    o.all (opens-refused o.ready c.loop.contexts _ (c.args.n - c.loop.counter) (omega (arith, c.loop-test.true))
+    (sym c.in_err-x.was ∙ c.read_stream.ensures o.ready.is-proper)))
 
 pub returns : goal.returns
-returns c = λ h. let o = c.loop-left.invariant.2 h in o.all (opens-none o.ready c.loop-left.contexts _ c.loop-left.left (omega (arith, c.loop-left-test.false)))
+returns c = λ h. let o = c.loop.invariant.1 h in
+    o.all (opens-none o.ready c.loop.contexts _ (c.args.n - c.loop.counter) (omega (arith, c.loop-test.false)))

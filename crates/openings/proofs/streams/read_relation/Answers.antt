@@ -1,17 +1,13 @@
-use mathlib.Core.Path.{◌∙◌}
-use Rattle.openings.proofs.StreamLaws.{by_name_lem, by_name-cut, by_number_lem, by-number-cut}
+use mathlib.Core.Path.{sym, ◌∙◌}
+use Rattle.grammar.specs.Reader.{name, word}
+use Rattle.grammar.proofs.StepLaws.{cursor-read, same-read}
+use Rattle.openings.proofs.StreamLaws.{by_name_lem, by_number_lem}
 use Rattle.openings.proofs.streams.read_relation.Goals as goal
 
-pub returns-in-Next : goal.returns-in-Next
-returns-in-Next c = λ is-proper. c.placed.ensures ∙ rw (c.relation_named.ensures, c.name_at.ensures, c.in-Relation.is)
-    (by_name_lem _ is-proper _ _ c.skip_name.ensures c.in-Next.is)
+pub returns-in_ok-next-in-Relation : goal.returns-in_ok-next-in-Relation
+returns-in_ok-next-in-Relation c = λ is-proper. c.placed.ensures ∙ rw (c.relation_named.ensures, c.name_at.ensures, c.in-Relation.is)
+    (by_name_lem _ is-proper _ _ (cursor-read (name _ _) (sym c.in_ok-next-in-Relation.was ∙ c.skip_name.ensures)).1)
 
-pub returns-in-Refused : goal.returns-in-Refused
-returns-in-Refused c = λ is-proper. rw c.in-Relation.is (by_name-cut _ is-proper _ _ c.skip_name.ensures c.in-Refused.is)
-
-pub returns-in-Is : goal.returns-in-Is
-returns-in-Is c = λ is-proper. c.placed-in-Is.ensures ∙ rw (c.relation_numbered.ensures, c.in-Rid.is)
-    (by_number_lem _ is-proper _ _ c.next_word.ensures c.in-Is.is)
-
-pub returns-in-Refused-next_word : goal.returns-in-Refused-next_word
-returns-in-Refused-next_word c = λ is-proper. rw c.in-Rid.is (by-number-cut _ is-proper _ _ c.next_word.ensures c.in-Refused-next_word.is)
+pub returns-in_ok-i-in-Rid : goal.returns-in_ok-i-in-Rid
+returns-in_ok-i-in-Rid c = λ is-proper. c.placed-in-Rid.ensures ∙ rw (c.relation_numbered.ensures, c.in-Rid.is)
+    (by_number_lem _ is-proper _ _ (same-read (word _ _) (sym c.in_ok-i-in-Rid.was ∙ c.next_word.ensures)))

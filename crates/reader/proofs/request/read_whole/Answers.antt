@@ -1,22 +1,24 @@
-use Rattle.reader.proofs.Whole.{begun-after, version-first, from-head, whole-refused}
-use Rattle.reader.specs.Request.{head_of}
-use Rattle.wire.specs.Versions.{version_of}
-use Rattle.openings.specs.Streams.{relations}
-use Rattle.grammar.proofs.StepLaws.{step-read, step-refused}
+use Rattle.std.proofs.Common.{◌≡◌, sym, ◌∙◌, rules, Err}
 use Rattle.grammar.specs.Reading.{start}
-use Rattle.grammar.specs.Internal.Steps.{no_kind}
-use mathlib.Core.Path.{refl, sym, ap, ◌∙◌}
+use Rattle.grammar.specs.Internal.Steps.{same}
+use Rattle.grammar.proofs.StepLaws.{same-read, answer-refused}
+use Rattle.openings.specs.Streams.{relations}
+use Rattle.reader.specs.Request.{head_of}
+use Rattle.reader.proofs.Whole.{begun-after, from-head, whole-refused}
 use Rattle.reader.proofs.request.read_whole.Goals as goal
 
+pub returns-in_err-version-clause-read : goal.returns-in_err-version-clause-read
+returns-in_err-version-clause-read c =
+    let e : c.from_residual.result ≡ Err c.in_err-version.field-0.0 = search rules in
+    let u = answer-refused same (head_of c.args.request.now start) (sym c.in_err-version.was ∙ c.head.ensures) in
+    rw e (whole-refused (from-head (relations c.args.dictionary.now) c.args.request.now u))
+
 pub body-requires : goal.body-requires
-body-requires c = let u = step-read no_kind (head_of c.args.request.now start) (sym c.in-Next.is ∙ c.head.ensures) in
-    begun-after _ _ _ (c.requires) u.0 c.in-Next.c u.1
+body-requires c =
+    let u = same-read (head_of c.args.request.now start) (sym c.in_ok-version.was ∙ c.head.ensures) in
+    begun-after _ _ _ c.requires c.in_ok-version.version c.in_ok-version.c u
 
-pub returns-in-Next : goal.returns-in-Next
-returns-in-Next c = let u = step-read no_kind (head_of c.args.request.now start) (sym c.in-Next.is ∙ c.head.ensures) in
-    let v = c.version_of.ensures ∙ ap version_of c.byte_at.ensures ∙ sym (version-first _ _ _ (c.requires) u.0 c.in-Next.c u.1) in
-    rw (from-head (relations c.args.dictionary.now) c.args.request.now u.1) (rw v at c.body.ensures)
-
-pub returns-in-Refused : goal.returns-in-Refused
-returns-in-Refused c = let u = step-refused no_kind (head_of c.args.request.now start) (sym c.in-Refused.is ∙ c.head.ensures) in
-    whole-refused _ _ (from-head (relations c.args.dictionary.now) c.args.request.now u) refl
+pub returns-clause-read : goal.returns-clause-read
+returns-clause-read c =
+    let u = same-read (head_of c.args.request.now start) (sym c.in_ok-version.was ∙ c.head.ensures) in
+    rw (from-head (relations c.args.dictionary.now) c.args.request.now u) c.body.ensures.read

@@ -1,7 +1,6 @@
 use Rattle.dictionary.proofs.Fields.{inside, further}
 use Rattle.records.proofs.Offsets.{count-end, count_next}
 use native.Mathlib.Omega.{arith}
-use Prim.Native.Nat.{◌-◌}
 use mathlib.Core.Path.{◌≡◌, sym, ap, ◌∙◌}
 use lib.ListN.{length}
 use mathlib.Core.Bool.{true, false}

@@ -5,9 +5,6 @@ use Rattle.dictionary.specs.Internal.Walk.{fields_from}
 use Rattle.records.specs.Internal.Answers.{all_held}
 use Rattle.records.proofs.lengths.packed_within.Given as goal
 
-abbrev pub invariant-loop-left : goal.invariant-loop-left
-invariant-loop-left l =
-    (l.sum ≤ l.limit) × (l.start + all_held l.d (take l.i (fields_from l.d l.from)) ≡ l.sum + all_held l.d (take l.left (fields_from l.d l.q)))
-
-abbrev pub decreases-loop-left : goal.decreases-loop-left
-decreases-loop-left l = l.left
+abbrev pub invariant-loop : goal.invariant-loop
+invariant-loop l =
+    (l.sum ≤ l.limit) × (l.start + all_held l.d (take l.i (fields_from l.d l.from)) ≡ l.sum + all_held l.d (take (l.i - l.counter) (fields_from l.d l.q)))

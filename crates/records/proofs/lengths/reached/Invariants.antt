@@ -1,11 +1,8 @@
-use Prim.Native.Nat.{◌≤◌}
+use Prim.Native.Nat.{◌≤◌, ◌-◌}
 use mathlib.Core.Path.{◌≡◌}
 use Rattle.records.specs.Internal.Locations.{reached_from}
 use Rattle.records.proofs.Locations.{rest}
 use Rattle.records.proofs.lengths.reached.Given as goal
 
-abbrev pub invariant-loop-left : goal.invariant-loop-left
-invariant-loop-left l = (l.sum ≤ 4096) × (reached_from l.d l.from l.i ≡ rest l.d l.q l.left l.sum)
-
-abbrev pub decreases-loop-left : goal.decreases-loop-left
-decreases-loop-left l = l.left
+abbrev pub invariant-loop : goal.invariant-loop
+invariant-loop l = (l.sum ≤ 4096) × (reached_from l.d l.from l.i ≡ rest l.d l.q (l.i - l.counter) l.sum)

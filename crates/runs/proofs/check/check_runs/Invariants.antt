@@ -6,6 +6,3 @@ use Rattle.runs.proofs.check.check_runs.Given as goal
 
 abbrev pub invariant-loop-row : goal.invariant-loop-row
 invariant-loop-row l = Checking l.dictionary l.runs l.rows l.from l.initial.bindings l.bindings l.row l.p
-
-abbrev pub decreases-loop-row : goal.decreases-loop-row
-decreases-loop-row l = l.rows - l.row

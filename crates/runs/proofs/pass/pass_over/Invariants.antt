@@ -1,9 +1,7 @@
--- `runs::pass::pass_over` meets its contract. What is still to come, from here on, is the whole. Assumes nothing.
+-- What is still to come, from here on, is the whole. Assumes nothing.
+use Prim.Native.Nat.{◌-◌}
 use Rattle.runs.proofs.PassLaws.{Passing}
 use Rattle.runs.proofs.pass.pass_over.Given as goal
 
-abbrev pub invariant-loop-left : goal.invariant-loop-left
-invariant-loop-left l = Passing l.request l.at l.count l.pass l.left
-
-abbrev pub decreases-loop-left : goal.decreases-loop-left
-decreases-loop-left l = l.left
+abbrev pub invariant-loop : goal.invariant-loop
+invariant-loop l = Passing l.request l.at l.count l.pass (l.end - l.counter)

@@ -1,20 +1,13 @@
-use Prim.Native.Nat.{◌-◌}
-use mathlib.Core.Path.{refl, sym, ◌∙◌}
-use native.Mathlib.Omega.{arith}
-use Rattle.store.proofs.Clear.{zero-next, zero-stop, zero-end}
+use Rattle.std.proofs.Common.{rules, ◌≡◌, ◌==◌, drop, sym, ◌∙◌}
+use Rattle.std.specs.List.{list_all}
+use Rattle.std.proofs.lemmas.Iterator.{YieldsList-from_slice}
+use Rattle.std.proofs.lemmas.Iterator.Adapters.{YieldsList-from_skip}
+use Rattle.std.proofs.lemmas.Iterator.Search.{all_from_yields_List}
+use Rattle.dictionary.proofs.Bytes.{all_is}
 use Rattle.store.proofs.bytes.is_clear.Goals as goal
 
-pub loop-i-init : goal.loop-i-init
-loop-i-init c = (omega arith, refl)
-
-pub returns-then-b-i-ne0 : goal.returns-then-b-i-ne0
-returns-then-b-i-ne0 c = sym (c.loop-i.invariant.1 ∙ zero-stop c.args.b.now c.loop-i.i c.loop-i-test.true c.if-b-i-ne0.true)
-
-pub loop-i-smaller : goal.loop-i-smaller
-loop-i-smaller c = omega (arith, c.loop-i-test.true)
-
-pub loop-i-preserved : goal.loop-i-preserved
-loop-i-preserved c = (omega (arith, c.loop-i.invariant.0), c.loop-i.invariant.1 ∙ zero-next c.args.b.now c.loop-i.i c.loop-i-test.true c.if-b-i-ne0.false)
-
 pub returns : goal.returns
-returns c = sym (c.loop-i.invariant.1 ∙ zero-end c.args.b.now c.loop-i.i c.loop-i-test.false)
+returns c =
+    let e : c.all.result ≡ list_all (λ x. x == 0) (drop c.args.from c.args.b.now) =
+    all_from_yields_List (λ x. x == 0) _ _ _ c.all.ensures.ran (YieldsList-from_skip c.args.from (YieldsList-from_slice c.args.b.now (rw c.skip.ensures.source c.iter.ensures.rest)) c.skip.ensures.count) (λ x b q k. search rules) in
+    e ∙ sym (all_is (λ x. x == 0) (drop c.args.from c.args.b.now))

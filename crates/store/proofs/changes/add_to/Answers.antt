@@ -10,10 +10,10 @@ use native.Mathlib.Omega.{arith}
 use Rattle.store.proofs.changes.add_to.Goals as goal
 
 pub returns-then-not-is_one : goal.returns-then-not-is_one
-returns-then-not-is_one c = is-refused c.args.b.now _ _ _ (add-wrong c.args.s c.args.b.now c.args.x.now (sym c.is_one.ensures ∙ not-true c.is_one.result c.if-not-is_one.true-raw))
+returns-then-not-is_one c = is-refused c.args.b.now _ _ _ _ c.refused.ensures (add-wrong c.args.s c.args.b.now c.args.x.now (sym c.is_one.ensures ∙ not-true c.is_one.result c.if-not-is_one.true-raw))
 
 pub returns-then-b-end : goal.returns-then-b-end
-returns-then-b-end c = is-refused c.args.b.now _ _ _ (add-full c.args.s c.args.b.now c.args.x.now (sym c.is_one.ensures ∙ not-false c.is_one.result c.if-not-is_one.false-raw) (omega (arith, c.if-b-end.true, c.requires.inside)))
+returns-then-b-end c = is-refused c.args.b.now _ _ _ _ c.refused-then-b-end.ensures (add-full c.args.s c.args.b.now c.args.x.now (sym c.is_one.ensures ∙ not-false c.is_one.result c.if-not-is_one.false-raw) (omega (arith, c.if-b-end.true, c.requires.inside)))
 
 pub write-ones-requires : goal.write-ones-requires
 write-ones-requires c = let long = one-long c.args.s.layout c.args.x.now (sym c.is_one.ensures ∙ not-false c.is_one.result c.if-not-is_one.false-raw) in

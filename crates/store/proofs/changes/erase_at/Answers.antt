@@ -6,7 +6,7 @@ use native.Mathlib.Omega.{arith}
 use Rattle.store.proofs.changes.erase_at.Goals as goal
 
 pub returns-then-s-k : goal.returns-then-s-k
-returns-then-s-k c = is-refused c.args.b.now _ _ _ (erase-none c.args.s c.args.k c.if-s-k.true)
+returns-then-s-k c = is-refused c.args.b.now _ _ _ _ c.refused.ensures (erase-none c.args.s c.args.k c.if-s-k.true)
 
 pub overflow_mul-at : goal.overflow_mul-at
 overflow_mul-at c = let there : c.args.k < c.args.s.count = omega (arith, c.if-s-k.false) in

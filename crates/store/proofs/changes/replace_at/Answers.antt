@@ -8,12 +8,12 @@ use native.Mathlib.Omega.{arith}
 use Rattle.store.proofs.changes.replace_at.Goals as goal
 
 pub returns-then-s-k : goal.returns-then-s-k
-returns-then-s-k c = is-refused c.args.b.now _ _ _ (replace-none c.args.s c.args.k c.args.x.now c.if-s-k.true)
+returns-then-s-k c = is-refused c.args.b.now _ _ _ _ c.refused.ensures (replace-none c.args.s c.args.k c.args.x.now c.if-s-k.true)
 
 pub returns-then-not-is_one : goal.returns-then-not-is_one
 returns-then-not-is_one c = let there : c.args.k < c.args.s.count = omega (arith, c.if-s-k.false) in
     let inside = place-before c.args.s c.args.k there in
-    is-refused c.args.b.now _ _ _ (replace-wrong c.args.s c.args.k c.args.x.now there (sym c.is_one.ensures ∙ not-true c.is_one.result c.if-not-is_one.true-raw))
+    is-refused c.args.b.now _ _ _ _ c.refused-then-not-is_one.ensures (replace-wrong c.args.s c.args.k c.args.x.now there (sym c.is_one.ensures ∙ not-true c.is_one.result c.if-not-is_one.true-raw))
 
 pub overflow_mul-at : goal.overflow_mul-at
 overflow_mul-at c = let there : c.args.k < c.args.s.count = omega (arith, c.if-s-k.false) in

@@ -1,20 +1,13 @@
-use Prim.Native.Nat.{◌-◌}
-use Rattle.store.proofs.Layouts.{none-marked, one-marked, unmarked}
-use Rattle.store.specs.Internal.Layouts.{marked_at}
-use mathlib.Core.Bool.{true}
-use mathlib.Core.Path.{◌≡◌, sym, ap, ◌∙◌}
-use native.Mathlib.Omega.{arith}
+use Rattle.std.proofs.Common.{rules, ◌≡◌, ◌∙◌, arith, refl}
+use Rattle.std.specs.List.{list_all, range_with_len}
+use Rattle.std.proofs.lemmas.Iterator.{YieldsList-from_range}
+use Rattle.std.proofs.lemmas.Iterator.Search.{all_from_yields_List}
+use Rattle.store.specs.Internal.Layouts.{marked_field}
+use Rattle.store.proofs.Layouts.{marked_is}
 use Rattle.store.proofs.layout.is_marked.Goals as goal
 
-pub loop-i-init : goal.loop-i-init
-loop-i-init c = (omega arith, none-marked c.args.table.now c.args.s.now c.args.p)
-
-pub returns-then-is_unmarked : goal.returns-then-is_unmarked
-returns-then-is_unmarked c = unmarked c.args.table.now c.args.s.now c.args.p c.loop-i.i c.args.n c.loop-i-test.true (sym c.is_unmarked.ensures ∙ c.if-is_unmarked.true)
-
-pub loop-i-preserved : goal.loop-i-preserved
-loop-i-preserved c = (omega (arith, c.loop-i-test.true), one-marked c.args.table.now c.args.s.now c.args.p c.loop-i.i c.loop-i.invariant.1 (sym c.is_unmarked.ensures ∙ c.if-is_unmarked.false))
-
 pub returns : goal.returns
-returns c = let e : c.loop-i.i ≡ c.args.n = omega (arith, c.loop-i.invariant.0, c.loop-i-test.false) in
-    sym (ap (marked_at c.args.table.now c.args.s.now c.args.p) (sym e) ∙ c.loop-i.invariant.1)
+returns c =
+    let e : c.all.result ≡ list_all (marked_field c.args.table.now c.args.s.now c.args.p) (range_with_len 0 c.args.n) =
+    all_from_yields_List (marked_field c.args.table.now c.args.s.now c.args.p) _ _ _ c.all.ensures.ran (YieldsList-from_range 0 c.args.n _ refl (omega arith)) (λ x b q k. search rules) in
+    e ∙ marked_is c.args.table.now c.args.s.now c.args.p c.args.n

@@ -1,4 +1,3 @@
--- `store::layout::lay_of` meets its contract. By the length of a record. Assumes nothing.
 use Rattle.dictionary.specs.Internal.Walk.{relation_at}
 use Rattle.records.proofs.Offsets.{found, above}
 use Rattle.records.specs.Record.{record_length}
@@ -9,16 +8,16 @@ use Rattle.store.proofs.layout.lay_of.Goals as goal
 
 pub lay_out-requires : goal.lay_out-requires
 lay_out-requires c = let r = relation_at c.args.d.now c.args.relation in
-    let k = found 4096 (record_length r) c.in-Is.n (sym c.in-Is.is ∙ c.record_length.ensures) in
+    let k = found 4096 (record_length r) c.in-Some.n (sym c.in-Some.is ∙ c.record_length.ensures) in
     omega (arith, k.0, k.1)
 
-pub returns-in-Is : goal.returns-in-Is
-returns-in-Is c = let r = relation_at c.args.d.now c.args.relation in
-    laid-short r c.args.table.now _ c.described.result c.in-Is.n
-    (found 4096 (record_length r) c.in-Is.n (sym c.in-Is.is ∙ c.record_length.ensures)) c.lay_out.ensures
+pub returns-in-Some : goal.returns-in-Some
+returns-in-Some c = let r = relation_at c.args.d.now c.args.relation in
+    laid-short r c.args.table.now _ c.described.result c.in-Some.n
+    (found 4096 (record_length r) c.in-Some.n (sym c.in-Some.is ∙ c.record_length.ensures)) c.lay_out.ensures
     c.described.ensures
 
-pub returns-in-Long : goal.returns-in-Long
-returns-in-Long c = let r = relation_at c.args.d.now c.args.relation in
-    laid-long r c.args.table.now c.args.table.now c.described-in-Long.result
-    (above 4096 (record_length r) (sym c.in-Long.is ∙ c.record_length.ensures)) refl c.described-in-Long.ensures
+pub returns-in-None : goal.returns-in-None
+returns-in-None c = let r = relation_at c.args.d.now c.args.relation in
+    laid-long r c.args.table.now c.args.table.now c.described-in-None.result
+    (above 4096 (record_length r) (sym c.in-None.is ∙ c.record_length.ensures)) refl c.described-in-None.ensures

@@ -1,8 +1,7 @@
-use Prim.Native.Nat.{◌-◌}
 use Rattle.dictionary.proofs.Fields.{inside, further}
 use Rattle.store.proofs.Layouts.{lay-begin, lay-inside, lay-next, lay-end, type_is}
 use Rattle.store.specs.Internal.Layouts.{reading_place}
-use lib.ListN.{length, length-set}
+use lib.ListN.{length-set}
 use mathlib.Core.Path.{refl, sym, ap, ◌∙◌}
 use native.Mathlib.Omega.{arith}
 use Rattle.store.proofs.layout.lay_out.Goals as goal

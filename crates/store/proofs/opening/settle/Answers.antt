@@ -1,6 +1,4 @@
--- `store::opening::settle` meets its contract. By its test. Assumes nothing.
 use Rattle.store.proofs.Starts.{not-settled, is-settled, product-most}
-use borrow.Author.Tests.{not-true, not-false}
 use mathlib.Core.Path.{sym, ◌∙◌}
 use native.Mathlib.Omega.{arith}
 use Rattle.store.proofs.opening.settle.Goals as goal
@@ -12,7 +10,7 @@ pub overflow_add-count : goal.overflow_add-count
 overflow_add-count c = omega (arith, product-most c.args.count c.args.l.size c.requires.0 c.requires.1)
 
 pub returns-then-not-is_closed : goal.returns-then-not-is_closed
-returns-then-not-is_closed c = not-settled c.args.b.now c.args.l c.args.count c.args.missing (sym c.is_closed.ensures ∙ not-true c.is_closed.result c.if-not-is_closed.true-raw)
+returns-then-not-is_closed c = c.refused.ensures ∙ not-settled c.args.b.now c.args.l c.args.count c.args.missing (sym c.is_closed.ensures ∙ c.if-not-is_closed.true)
 
 pub returns : goal.returns
-returns c = is-settled c.args.b.now c.args.l c.args.count c.args.missing (sym c.is_closed.ensures ∙ not-false c.is_closed.result c.if-not-is_closed.false-raw)
+returns c = is-settled c.args.b.now c.args.l c.args.count c.args.missing (sym c.is_closed.ensures ∙ c.if-not-is_closed.false)

@@ -1,22 +1,19 @@
--- `surroundings::images::described` meets its contract. By the class of the code. Assumes nothing.
+-- `surroundings::images::described` meets its contract. By the class of the code, if it is a byte. Assumes nothing.
 use Prim.Native.Nat.{◌%◌}
-use mathlib.Core.Path.{sym, ap, ◌∙◌}
-use Rattle.classes.specs.Classes.{descriptor_class_of}
-use Rattle.surroundings.proofs.ParameterLoops.{due-code, left-code, foreign-code, far-code}
+use mathlib.Core.Path.{ap, ◌∙◌}
+use Rattle.surroundings.specs.Tables.{parameter_is}
+use Rattle.surroundings.proofs.ParameterLoops.{far-code, due-code, undue-code}
 use Rattle.surroundings.proofs.images.described.Goals as goal
 
-pub returns-then-code-gt-GREATEST_BYTE : goal.returns-then-code-gt-GREATEST_BYTE
-returns-then-code-gt-GREATEST_BYTE c = far-code c.args.code (c.args.scale % 256) c.args.held c.args.p c.if-code-gt-GREATEST_BYTE.true
+pub returns-in_err-code : goal.returns-in_err-code
+returns-in_err-code c = ap parameter_is c.from_residual.ensures
+    ∙ far-code c.args.code (c.args.scale % 256) c.args.held c.args.p c.try_from.result c.try_from.ensures c.in_err-code.ensures.value
 
-pub returns-in-Due : goal.returns-in-Due
-returns-in-Due c = let class = sym c.descriptor_class-class.ensures ∙ ap descriptor_class_of c.in-Due.is in
-    due-code c.args.code (c.args.scale % 256) c.args.held c.args.p c.in-Due.t c.size_held.result class
-    c.size_held.ensures
+pub returns-in_err-t : goal.returns-in_err-t
+returns-in_err-t c = ap parameter_is c.from_residual-in_err-t.ensures
+    ∙ undue-code c.args.code (c.args.scale % 256) c.args.held c.args.p c.try_from.result c.try_from.ensures c.in_ok-code.code
+    c.in_ok-code.ensures.value c.of.result c.of.ensures c.in_err-t.ensures.value
 
-pub returns-in-LeftOut : goal.returns-in-LeftOut
-returns-in-LeftOut c = let class = sym c.descriptor_class-class.ensures ∙ ap descriptor_class_of c.in-LeftOut.is in
-    left-code c.args.code (c.args.scale % 256) c.args.held c.args.p class
-
-pub returns-in-Foreign : goal.returns-in-Foreign
-returns-in-Foreign c = let class = sym c.descriptor_class-class.ensures ∙ ap descriptor_class_of c.in-Foreign.is in
-    foreign-code c.args.code (c.args.scale % 256) c.args.held c.args.p class
+pub returns : goal.returns
+returns c = due-code c.args.code (c.args.scale % 256) c.args.held c.args.p c.try_from.result c.try_from.ensures c.in_ok-code.code
+    c.in_ok-code.ensures.value c.of.result c.of.ensures c.in_ok-t.t c.size_held.result c.in_ok-t.ensures.value c.size_held.ensures

@@ -1,13 +1,10 @@
--- `surroundings::images::parameter_of` meets its contract. What all the rows give is what those from here on give. Assumes nothing.
-use Prim.Native.Nat.{◌*◌, ◌-◌, ◌≤◌, min}
+-- What all the rows give is what those from here on give. Assumes nothing.
+use Prim.Native.Nat.{◌*◌, ◌-◌, ◌≤◌}
 use mathlib.Core.Path.{◌≡◌}
 use Rattle.surroundings.specs.Parameters.{parameter_from}
 use Rattle.surroundings.proofs.images.parameter_of.Given as goal
 
 abbrev pub invariant-loop-row : goal.invariant-loop-row
 invariant-loop-row l =
-    (parameter_from l.parameters l.message.0 l.index (min l.count 256) 0 0 ≡ parameter_from l.parameters l.message.0 l.index (l.rows - l.row) l.row l.p)
-    × (l.p ≤ l.row * 4294967295) × (l.row ≤ l.rows)
-
-abbrev pub decreases-loop-row : goal.decreases-loop-row
-decreases-loop-row l = l.rows - l.row
+    (parameter_from l.parameters l.message.0 l.index l.rows 0 0 ≡ parameter_from l.parameters l.message.0 l.index (l.rows - l.row) l.row l.p)
+    × (l.p ≤ l.row * 4294967295)

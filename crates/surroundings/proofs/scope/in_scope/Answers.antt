@@ -9,15 +9,15 @@ use Rattle.surroundings.proofs.scope.in_scope.Goals as goal
 use Rattle.surroundings.proofs.scope.in_scope.Goals.{then-row_holds, else-row_holds}
 
 pub loop-row-init : goal.loop-row-init
-loop-row-init c = fill_start c.args.dictionary.now c.args.contexts.now c.args.at c.smaller-rows.result c.args.numbers.now c.args.relations.now
+loop-row-init c = fill_start c.args.dictionary.now c.args.contexts.now c.args.at c.min-rows.result c.args.numbers.now c.args.relations.now
 
 pub loop-row-preserved : goal.loop-row-preserved
 loop-row-preserved c = let d = c.args.dictionary.now in
     let here =
-    fill-put c.args.dictionary.now c.args.contexts.now c.args.at c.smaller-rows.result c.args.numbers.now c.args.relations.now
+    fill-put c.args.dictionary.now c.args.contexts.now c.args.at c.min-rows.result c.args.numbers.now c.args.relations.now
     c.loop-row.numbers c.loop-row.relations c.loop-row.row c.loop-row.filled c.loop-row.invariant c.loop-row-test.true in
     let past =
-    fill-skip c.args.dictionary.now c.args.contexts.now c.args.at c.smaller-rows.result c.args.numbers.now c.args.relations.now
+    fill-skip c.args.dictionary.now c.args.contexts.now c.args.at c.min-rows.result c.args.numbers.now c.args.relations.now
     c.loop-row.numbers c.loop-row.relations c.loop-row.row c.loop-row.filled c.loop-row.invariant c.loop-row-test.true in
     elim c.if-row_holds.branch [
       | then-row_holds w ↦
@@ -29,10 +29,10 @@ loop-row-preserved c = let d = c.args.dictionary.now in
 
 pub returns : goal.returns
 returns c = let all =
-    fill_end c.args.dictionary.now c.args.contexts.now c.args.at c.smaller-rows.result c.args.numbers.now c.args.relations.now
+    fill_end c.args.dictionary.now c.args.contexts.now c.args.at c.min-rows.result c.args.numbers.now c.args.relations.now
     c.loop-row.numbers c.loop-row.relations c.loop-row.row c.loop-row.filled c.loop-row.invariant c.loop-row-test.false in
     subst
     (λ z.
     Laid (slots_from c.args.dictionary.now c.args.contexts.now c.args.at z 0) c.args.numbers.now c.args.relations.now
     c.loop-row.numbers c.loop-row.relations c.loop-row.filled)
-    c.smaller-rows.ensures all
+    c.min-rows.ensures all

@@ -6,6 +6,3 @@ use Rattle.surroundings.proofs.scope.in_scope.Given as goal
 abbrev pub invariant-loop-row : goal.invariant-loop-row
 invariant-loop-row l =
     Filling l.dictionary l.contexts l.at l.rows l.initial.numbers l.initial.relations l.numbers l.relations l.row l.filled
-
-abbrev pub decreases-loop-row : goal.decreases-loop-row
-decreases-loop-row l = l.rows - l.row

@@ -1,18 +1,12 @@
-use native.Mathlib.Omega.{arith}
-use borrow.Author.Tests.{leb-true, le-leb, lt-leb}
-use Rattle.wire.specs.Limits.{max_contexts}
+use mathlib.Core.Path.{refl, ◌∙◌}
+use Rattle.tables.proofs.Closed.{closed_next, closed_all}
 use Rattle.tables.proofs.contexts.close.Goals as goal
-use Rattle.tables.proofs.contexts.close.Goals.{else-row-opened-via-then-row-opened+else-opened-le-MAX_CONTEXTS, else-row-opened-via-else-row-opened}
 
-pub close_rows-requires : goal.close_rows-requires
-close_rows-requires c = omega (arith, c.if-row-opened.true, leb-true c.args.from.contexts max_contexts c.if-opened-le-MAX_CONTEXTS.true-raw)
+pub loop-i-init : goal.loop-i-init
+loop-i-init c = (c.if-opened-le-MAX_CONTEXTS.true, refl)
 
-pub returns-then-opened-le-MAX_CONTEXTS : goal.returns-then-opened-le-MAX_CONTEXTS
-returns-then-opened-le-MAX_CONTEXTS c = rw (c.close_rows.ensures, c.in-Next.is, le-leb c.args.row c.args.from.contexts c.if-row-opened.true, c.if-opened-le-MAX_CONTEXTS.true-raw)
+pub loop-i-preserved : goal.loop-i-preserved
+loop-i-preserved c = (c.loop-i.invariant.0, closed_next _ _ _ _ _ _ c.loop-i-test.true (rw (c.put-in-loop-i.ensures, c.put.ensures)) ∙ c.loop-i.invariant.1)
 
-pub returns-else-row-opened : goal.returns-else-row-opened
-returns-else-row-opened c =
-    elim c.else-row-opened.branch [
-      | else-row-opened-via-then-row-opened+else-opened-le-MAX_CONTEXTS w ↦ rw (c.in-Next.is, le-leb c.args.row c.args.from.contexts w.if-row-opened.true, w.if-opened-le-MAX_CONTEXTS.false-raw)
-      | else-row-opened-via-else-row-opened w ↦ rw (c.in-Next.is, lt-leb c.args.row c.args.from.contexts w.if-row-opened.false)
-    ]
+pub returns-after-loop-i : goal.returns-after-loop-i
+returns-after-loop-i c = rw c.in-Ok.is (closed_all _ _ _ _ _ _ _ c.loop-i.invariant.0 c.loop-i-test.false c.loop-i.invariant.1)

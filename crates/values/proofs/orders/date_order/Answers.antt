@@ -1,14 +1,27 @@
--- `values::orders::date_order` meets its contract. By the days' order, then the fractions'. Assumes nothing.
-use mathlib.Core.Path.{◌∙◌}
-use Rattle.values.proofs.Days.{by-day}
+-- `values::orders::date_order` meets its contract. Assumes nothing.
+use mathlib.Core.Path.{◌≡◌, refl, sym, ◌∙◌}
+use Rattle.std.specs.Ordering.{ordering_then}
+use Rattle.std.specs.declared.cmp.Ordering.{Ordering}
+use Rattle.std.specs.declared.cmp.Ordering.TheVariants.{Less, Equal, Greater}
+use Rattle.wire.specs.Orders.{where_equal, order_ℤ, order_ℕ}
+use Rattle.wire.proofs.Compared.{cmp-order_ℤ, cmp-order_ℕ}
+use Rattle.meaning.specs.Data.{date_order}
 use Rattle.values.proofs.orders.date_order.Goals as goal
 
-pub returns-in-Less : goal.returns-in-Less
-returns-in-Less c = by-day c.args.a c.args.b c.struct_told-1.given.0.1 c.struct_told-2-1.given.0.1 c.signed_order.ensures c.in-Less.is
+then_is : (o p : Ordering) → ordering_then o p ≡ where_equal o p
+then_is Less p = refl
+then_is Equal p = refl
+then_is Greater p = refl
 
-pub returns-in-Equal : goal.returns-in-Equal
-returns-in-Equal c = c.fraction_order.ensures
-    ∙ by-day c.args.a c.args.b c.struct_told-1.given.0.1 c.struct_told-2-1.given.0.1 c.signed_order.ensures c.in-Equal.is
-
-pub returns-in-Greater : goal.returns-in-Greater
-returns-in-Greater c = by-day c.args.a c.args.b c.struct_told-1.given.0.1 c.struct_told-2-1.given.0.1 c.signed_order.ensures c.in-Greater.is
+pub returns : goal.returns
+unfolding date_order
+returns c =
+    rw (
+      c.then.ensures,
+      c.cmp.ensures,
+      c.cmp-2.ensures,
+      cmp-order_ℤ,
+      cmp-order_ℕ,
+      date_order,
+    )
+    (then_is (order_ℤ c.args.a.day c.args.b.day) (order_ℕ c.args.a.fraction c.args.b.fraction))

@@ -1,6 +1,0 @@
-use mathlib.Core.Path.{ap, ◌∙◌}
-use Rattle.leaf_exports.specs.Exports.{length_of}
-use Rattle.leaf_exports.proofs.house.house_offset.Goals as goal
-
-pub returns : goal.returns
-returns c = c.length_of.ensures ∙ ap length_of c.field_offset.ensures

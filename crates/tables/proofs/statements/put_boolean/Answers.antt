@@ -1,9 +1,0 @@
-use borrow.Author.Tests.{le-leb, lt-leb}
-use Rattle.wire.specs.Limits.{max_statements}
-use Rattle.tables.proofs.statements.put_boolean.Goals as goal
-
-pub returns-then-row-le-MAX_STATEMENTS : goal.returns-then-row-le-MAX_STATEMENTS
-returns-then-row-le-MAX_STATEMENTS c = rw (le-leb c.args.row max_statements c.if-row-le-MAX_STATEMENTS.true, c.put.ensures)
-
-pub returns-else-row-le-MAX_STATEMENTS : goal.returns-else-row-le-MAX_STATEMENTS
-returns-else-row-le-MAX_STATEMENTS c = rw (lt-leb c.args.row max_statements c.if-row-le-MAX_STATEMENTS.false)
