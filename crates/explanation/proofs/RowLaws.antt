@@ -8,9 +8,6 @@ use lib.ListN.{length, get_or, take, drop, set, length-take, length-set, drop_of
 use lib.Seq.{sets, length-take-le, take-suc, drop-cons, drop-append-le, take-suc-set, get_or-set_other, take-take, take_at, drop_at}
 use borrow.Author.Tests.{lt-leb, le-leb}
 use Rattle.std.specs.Prelude.{Ok, Err}
-use Rattle.std.specs.List.{copy_within}
-use Rattle.std.proofs.lemmas.List.Edits.{take-paste}
-use Rattle.std.proofs.lemmas.List.{length-drop, drop-take}
 use Rattle.wire.specs.Options.{refused_at}
 use Rattle.wire.specs.declared.refused.Refused.{Refused}
 use Rattle.grammar.specs.declared.Refusal.{Refusal}
@@ -44,17 +41,59 @@ unpacked-rows (t ∷ ts) =
 
 -- ---- rows moved down
 
-pub moved_down : {to start end : ℕ} {t t' : List ℕ} → to ≤ start → start ≤ end → end ≤ length t → t' ≡ copy_within t start end to →
-    length t' ≡ length t → Moved to start end t t' (to + (end - start))
-moved_down {to} {start} {end} {t} down on within e same =
-    let left : end - start ≤ length (drop start t) = omega (arith, length-drop start t) in
-    let whole : start + (end - start) ≡ end = omega arith in
+-- so far: the rows from start to i stand before j, and those from i on are as they were
+pub record Moving (to start : ℕ) (t₀ : List ℕ) (i j : ℕ) (t : List ℕ) : Type 0 where
+  pub same : length t ≡ length t₀
+  pub step : j + start ≡ i + to
+  pub table : take j t ≡ take to t₀ ++ drop start (take i t₀)
+  pub rest : (k : ℕ) → i ≤ k → get_or t k 0 ≡ get_or t₀ k 0
+
+pub moving-starts : (to start : ℕ) (t : List ℕ) → Moving to start t start to t
+moving-starts to start t =
     record {
-      count = refl;
+      same = refl;
+      step = omega arith;
       table =
-          ap (take (to + (end - start))) e ∙ take-paste t to (drop start t) (end - start) (omega arith) left
-          ∙ ap (λ z. take to t ++ z) (sym (drop-take start (end - start) t) ∙ ap (λ k. drop start (take k t)) whole);
-      same = same;
+          sym (ap (λ z. take to t ++ z) (drop_of_length-le (take start t) {i = start} (omega (arith, length-take start t)))
+          ∙ append-nil (take to t));
+      rest = λ k h. refl;
+    }
+
+module _ {to start i j a : ℕ} {t₀ t t' : List ℕ} (down : to ≤ start) (from_start : start ≤ i) (inside : i < length t₀)
+    (m : Moving to start t₀ i j t) (read : a ≡ get_or t i 0) (put : t' ≡ set t j a) where
+  there : a ≡ get_or t₀ i 0
+  there = read ∙ m.rest i (omega arith)
+
+  one_more : drop start (take (i + 1) t₀) ≡ drop start (take i t₀) ++ (a ∷ [])
+  one_more =
+      let k : i + 1 ≡ suc i = omega arith in
+      let l : start ≤ length (take i t₀) = omega (arith, length-take-le i t₀ (omega (arith, inside)), from_start) in
+      ap (λ z. drop start (take z t₀)) k ∙ ap (drop start) (take-suc t₀ i 0 inside) ∙ drop-append-le start (take i t₀) (get_or t₀ i 0 ∷ []) l
+      ∙ ap (λ z. drop start (take i t₀) ++ (z ∷ [])) (sym there)
+
+  pub moving-on : Moving to start t₀ (i + 1) (j + 1) t'
+  moving-on =
+      let s = m.step in
+      let l : j < length t = omega (arith, s, m.same, down, inside) in
+      let k : j + 1 ≡ suc j = omega arith in
+      record {
+        same = ap length put ∙ length-set t j a ∙ m.same;
+        step = omega (arith, s);
+        table =
+            (λ x. take (k x) (put x)) ∙ take-suc-set t j a l ∙ ap (λ z. z ++ (a ∷ [])) m.table
+            ∙ append_assoc (take to t₀) (drop start (take i t₀)) (a ∷ []) ∙ ap (λ z. take to t₀ ++ z) (sym one_more);
+        rest =
+            λ k h. ap (λ z. get_or z k 0) put ∙ get_or-set_other t j k a 0 (λ e. omega (arith, e, s, h, down))
+            ∙ m.rest k (omega (arith, h));
+      }
+
+pub moving-ends : {to start i j end : ℕ} {t₀ t : List ℕ} → start ≤ end → i ≡ end → Moving to start t₀ i j t → Moved to start end t₀ t j
+moving-ends {to} {start} {i} {j} {end} {t₀} h e m =
+    let s = m.step in
+    record {
+      count = omega (arith, s, e, h);
+      table = m.table ∙ ap (λ z. take to t₀ ++ drop start (take z t₀)) e;
+      same = m.same;
     }
 
 -- ---- the rows that are needed

@@ -7,7 +7,7 @@ ghost use Rattle.explanation.specs.Internal.Noting.{packed as packedIn, Notes, M
 
 use meaning::Truth;
 use values::{Stop, Tested};
-use wire::table::put;
+use wire::table::{number_at, put};
 
 // How many rows there are: a condition of an accepted request has no more tests.
 pub(crate) const MAX_TESTS: usize = 10922;
@@ -71,14 +71,20 @@ pub(crate) fn note_test(
     })
 }
 
-// Kept: a table of numbers, as above; std does the copying.
+// Kept: a table of numbers, as above; std's copy_within calls memmove of the C library, and the archive calls memcpy and memset alone.
 // Moves the rows of a part down to a place before it, and says where they end then.
 fn move_down(noted: &mut [u32], to: usize, start: usize, end: usize) -> usize
     requires { (to ≤ start) × (start ≤ end) × (end ≤ length noted.old) }
     ensures { Moved to start end noted.old noted.new result }
 {
-    noted.copy_within(start..end, to);
-    to + (end - start)
+    let mut i = start;
+    let mut j = to;
+    while i < end {
+        put(noted, j, number_at(noted, i));
+        i += 1;
+        j += 1;
+    }
+    j
 }
 
 // Kept: a table of numbers, as above; each flag says whether a side settles the answer, which settles works out of a truth value.

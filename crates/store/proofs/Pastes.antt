@@ -6,13 +6,35 @@ use native.Mathlib.Nat.{zero-add, suc-add}
 use native.Mathlib.Numerals.{add-one}
 use native.Mathlib.Omega.{arith}
 use lib.ListN.{length, get_or, set, take, drop, replicate, length-append, length-drop, drop_of_length-le, length-set, get_or-append}
-use lib.Seq.{paste, take-length, get_or-append-add, length-take-le, take_all, set-append_left, take_at, drop_at, sets-eq}
+use lib.Seq.{paste, paste-suc, length_paste_head, take-length, get_or-append-add, get_or-drop, length-take-le, take_all, set-append_left, take_at, drop_at, sets-eq}
 use Rattle.std.proofs.lemmas.Slice.{put_mid-paste}
 use borrow.Rule.Slice.PartMut.{put_mid}
 use Rattle.wire.specs.Words.{word_bytes}
 use Rattle.store.specs.Internal.Changes.{over, cleared, moved, closed}
 
 -- ---- one turn
+
+pub paste-turn :
+    (d s : List ℕ) (at j v : ℕ) → at + j < length d → j < length s → v ≡ get_or s j 0 → set (paste d at s j) (at + j) v ≡ paste d at s (j + 1)
+paste-turn d s at j v h k e = rw (e, add-one j) (paste-suc d at s j 0 h k)
+
+-- a byte behind what was written is as before
+paste-later :
+    (d s : List ℕ) (at j i : ℕ) → at + j + i < length d → j ≤ length s → get_or (paste d at s j) (at + j + i) 0 ≡ get_or d (at + j + i) 0
+paste-later d s at j i h k =
+    let head : length (take at d ++ take j s) ≡ at + j = length_paste_head d at s j (omega arith) k in
+    ap (λ m. get_or (take at d ++ take j s ++ drop (at + j) d) (m + i) 0) (sym head) ∙
+    get_or-append-add (take at d ++ take j s) (drop (at + j) d) i 0 ∙ get_or-drop (at + j) d i 0
+
+-- the byte that a move reads
+pub moved-byte :
+    (d : List ℕ) (at n j : ℕ) → at + n + j < length d →
+    get_or (paste d at (drop (at + n) d) j) (at + n + j) 0 ≡ get_or (drop (at + n) d) j 0
+moved-byte d at n j h =
+    let e : at + n + j ≡ at + j + n = omega arith in
+    let k : j ≤ length (drop (at + n) d) = omega (arith, length-drop (at + n) d) in
+    ap (λ i. get_or (paste d at (drop (at + n) d) j) i 0) e ∙ paste-later d (drop (at + n) d) at j n (omega arith) k ∙
+    ap (λ i. get_or d i 0) (sym e) ∙ sym (get_or-drop (at + n) d j 0)
 
 -- ---- ends
 

@@ -37,12 +37,18 @@ pub(crate) fn copy(b: &mut [u8], at: usize, x: &[u8])
     b[at..at + x.len()].copy_from_slice(x);
 }
 
+// Kept: std's copy_within calls memmove of the C library, and the archive calls memcpy and memset alone.
 // Moves the bytes that stand n after a place, up to the end, to that place. The last n bytes stay.
 fn move_down(b: &mut [u8], at: usize, n: usize)
     requires { at + n ≤ length b.old }
     ensures { b.new ≡ moved b.old at n }
 {
-    b.copy_within(at + n.., at);
+    let rest = b.len() - n - at;
+    let mut i: usize = 0;
+    while i < rest {
+        b[at + i] = b[at + n + i];
+        i += 1;
+    }
 }
 
 // Takes n bytes out at a place: what follows is moved there, and the bytes freed at the end are zeros.
