@@ -71,7 +71,7 @@ pub(crate) fn note_test(
     })
 }
 
-// Kept: a table of numbers, as above; std's copy_within calls memmove of the C library, and the archive calls memcpy and memset alone.
+// Kept: a table of numbers, as above; std's copies of slices call memmove of the C library, and the archive calls memcpy and memset alone.
 // Moves the rows of a part down to a place before it, and says where they end then.
 fn move_down(noted: &mut [u32], to: usize, start: usize, end: usize) -> usize
     requires { (to ≤ start) × (start ≤ end) × (end ≤ length noted.old) }

@@ -5,7 +5,7 @@ ghost use Rattle.wire.specs.Words.{word_bytes};
 ghost use Rattle.store.specs.Internal.Changes.{over, cleared, moved, closed};
 
 // Sets the bytes from a place on to zero.
-// One call of std, under the equation that contracts cite; `copy` and `move_down` too.
+// One call of std, under the equation that contracts cite.
 pub(crate) fn clear(b: &mut [u8], from: usize)
     requires { from ≤ length b.old }
     ensures { b.new ≡ cleared b.old from }
@@ -29,15 +29,19 @@ pub(crate) fn put_word(b: &mut [u8], at: usize, n: u32)
     b[at + 1] = (n / 256) as u8;
 }
 
+// Kept, like `move_down`: std's copy_from_slice calls memmove of the C library, and the archive calls memcpy and memset alone.
 // Copies bytes into a buffer from a place on.
 pub(crate) fn copy(b: &mut [u8], at: usize, x: &[u8])
     requires { at + length x.now ≤ length b.old }
     ensures { b.new ≡ over b.old at x.now }
 {
-    b[at..at + x.len()].copy_from_slice(x);
+    let mut i: usize = 0;
+    while i < x.len() {
+        b[at + i] = x[i];
+        i += 1;
+    }
 }
 
-// Kept: std's copy_within calls memmove of the C library, and the archive calls memcpy and memset alone.
 // Moves the bytes that stand n after a place, up to the end, to that place. The last n bytes stay.
 fn move_down(b: &mut [u8], at: usize, n: usize)
     requires { at + n ≤ length b.old }
