@@ -1,4 +1,5 @@
 -- Laws that belong to no one function.
+pub mod Table
 pub mod Tens
 pub mod Bits
 pub mod Fitted

@@ -1,14 +1,17 @@
 -- Readings one after another, with the rows of both: each reader of the cycle cites these.
 use Prim.Native.Nat.{ℕ}
 use mathlib.Core.Path.{◌≡◌, refl, sym, ap, ◌∙◌, subst}
+use mathlib.Core.Bool.{Bool, true, false}
+use mathlib.Core.List.{List}
 use Rattle.std.specs.Prelude.{Result, Ok, Err}
 use Rattle.wire.specs.declared.refused.Refused.{Refused}
 use Rattle.grammar.specs.declared.Cursor.{Cursor}
 use Rattle.grammar.specs.declared.Refusal.{Refusal}
-use Rattle.grammar.specs.Reader.{Read, read, refused}
+use Rattle.grammar.specs.Reader.{Read, read, refused, on_read, need}
 use Rattle.grammar.specs.Internal.Steps.{answer_of, cursor_of}
 use Rattle.grammar.proofs.StepLaws.{absurd-eq}
-use Rattle.tables.specs.Tables.{Tables, nothing, laid, after, result_of, cursor_after, with_part, Wrote}
+use Rattle.tables.specs.Tables.{Tables, nothing, joined, laid, after, result_of, cursor_after, with_part, Wrote}
+use Rattle.tables.proofs.Laid.{Follows, laid-laid}
 
 -- by what was read
 pub by_read : {A : Type 0} (x : Read A) {G : Type 0} → ((a : A) (q : Cursor) → x ≡ read a q → G) →
@@ -116,3 +119,39 @@ pub on-part : {A B : Type 0} {x : Read A} {f : A → B} {c : Cursor} {rows : A �
     {r : Result (B × Cursor) (Refused Refusal)} {b : B} {q : Cursor} {G : Type 0} → Wrote x (with_part f) c rows t t' r → r ≡ Ok (b, q) →
     ((a : A) → x ≡ read a q → b ≡ f a → t' ≡ laid t c (rows a) → G) → G
 on-part {B} w e g = on-next w e (λ a q i h j. g a (rw (ap (λ (z : B × Cursor). z.1) h) i) (ap (λ (z : B × Cursor). z.0) h) j)
+
+-- ---- one reading after another
+
+-- what follows a reading of v, up to the cursor q: it writes rows of its own, and both make the rows of the whole
+pub record Continued {A C R : Type 0} (g : A → Cursor → Read C) (k : C → Cursor → R) (rows : C → Tables) (c : Cursor) (one : A → Tables)
+    (t₁ : Tables) (v : A) (q : Cursor) (t₂ : Tables) (r : Result R (Refused Refusal)) : Type 0 where
+  pub two : C → Tables
+  pub wrote : Wrote (g v q) k q two t₁ t₂ r
+  pub follows : Follows c (one v) q
+  pub both : (b : C) (q₁ : Cursor) → g v q ≡ read b q₁ → joined (one v) (two b) ≡ rows b
+
+module _ {A C R Q : Type 0} (g : A → Cursor → Read C) (k : C → Cursor → R) (rows : C → Tables) {x : Read A} {ka : A → Cursor → Q} {c : Cursor}
+    {one : A → Tables} {t t₁ : Tables} {a : Result Q (Refused Refusal)} (w : Wrote x ka c one t t₁ a) where
+  -- a refusal passes through
+  pub passed : {t₂ : Tables} {r : Result R (Refused Refusal)} {y : Refused Refusal} → a ≡ Err y → r ≡ Err y → Wrote (on_read x g) k c rows t t₂ r
+  passed e h = rw h (stop (rw (stopped w e)))
+
+  -- one reading, then another
+  pub and_then : {t₂ : Tables} {r : Result R (Refused Refusal)} {u : Q} → a ≡ Ok u →
+      ((v : A) (q : Cursor) → x ≡ read v q → u ≡ ka v q → Continued g k rows c one t₁ v q t₂ r) → Wrote (on_read x g) k c rows t t₂ r
+  and_then {t₂} {r} e next = on-next w e (λ v q h i j.
+      let n = next v q h i in
+      by_read (g v q)
+      (λ b q₁ y. record {
+        answer = n.wrote.answer ∙ rw h;
+        filled = rw (h, y) ((rw y at n.wrote.filled) ∙ ap (λ z. laid z q (n.two b)) j ∙
+            laid-laid t c q (one v) (n.two b) n.follows ∙ ap (laid t c) (n.both b q₁ y));
+      })
+      (λ m p y. record { answer = n.wrote.answer ∙ rw h; filled = rw (h, y) }))
+
+-- the last step makes a whole of what was read, after a test
+pub made : {C R : Type 0} (b : Bool) (v : C) (k : C → Cursor → R) (c : Cursor) (rows : C → Tables) (t : Tables) (n : Refusal) (p : ℕ)
+    (s : List ℕ) {r : Result R (Refused Refusal)} → r ≡ result_of k (on_read (need b n p s c) (λ u q. read v q)) → rows v ≡ nothing →
+    Wrote (on_read (need b n p s c) (λ u q. read v q)) k c rows t t r
+made true v k c rows t n p s e h = record { answer = e; filled = rw h }
+made false v k c rows t n p s e h = record { answer = e; filled = refl }
