@@ -76,29 +76,35 @@ pub fn read_value(
     let (k, first) = code_at::<ValueCode>(beside.request, c, levels)?;
     let below = levels - 1;
     match k {
-        ValueCode::Literal => read_literal(beside.request, version(beside.around), first),
-        ValueCode::Reference(code) => read_reference(
-            beside.request,
-            beside.dictionary,
-            beside.around,
-            scope,
-            Role::AsValue,
-            c.at,
-            code,
-            first,
-        ),
+        ValueCode::Literal => {
+            return read_literal(beside.request, version(beside.around), first);
+        }
+        ValueCode::Reference(code) => {
+            return read_reference(
+                beside.request,
+                beside.dictionary,
+                beside.around,
+                scope,
+                Role::AsValue,
+                c.at,
+                code,
+                first,
+            );
+        }
         ValueCode::Arithmetic(o) => {
             let (x, second) = read_value(beside, scope, contexts, first, below)?;
             let (y, after) = read_value(beside, scope, contexts, second, below)?;
-            arithmetic(version(beside.around), o, x, y, c.at, after)
+            return arithmetic(version(beside.around), o, x, y, c.at, after);
         }
         ValueCode::Negate => {
             let (x, after) = read_value(beside, scope, contexts, first, below)?;
-            negation(x, c.at, after)
+            return negation(x, c.at, after);
         }
         ValueCode::Statistic(s) => {
-            read_statistic(beside, scope, contexts, s, c.at, first, below)
+            return read_statistic(beside, scope, contexts, s, c.at, first, below);
         }
-        ValueCode::Count => counted(read_rse(beside, scope, contexts, COUNT, first, below)),
+        ValueCode::Count => {
+            return counted(read_rse(beside, scope, contexts, COUNT, first, below));
+        }
     }
 }

@@ -30,20 +30,20 @@ pub fn read_reference(
     match code {
         ReferenceCode::Field => {
             let (relation, first) = read_context(request, scope, role, c)?;
-            read_named(request, dictionary, relation, version(around), at, first)
+            return read_named(request, dictionary, relation, version(around), at, first);
         }
         ReferenceCode::Fid => {
             let (relation, first) = read_context(request, scope, role, c)?;
-            read_numbered(request, dictionary, relation, version(around), at, first)
+            return read_numbered(request, dictionary, relation, version(around), at, first);
         }
         ReferenceCode::Parameter => {
             let (x, first) = read_message(request, around, scope, role, c)?;
-            read_word(request, around, x, first)
+            return read_word(request, around, x, first);
         }
         ReferenceCode::Parameter2 => {
             let (x, first) = read_message(request, around, scope, role, c)?;
             let (fit, second) = read_word(request, around, x, first)?;
-            read_flag(request, around, x, fit, at, second)
+            return read_flag(request, around, x, fit, at, second);
         }
     }
 }

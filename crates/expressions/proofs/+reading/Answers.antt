@@ -315,9 +315,9 @@ values::read_value-returns-in_err-y-in-Arithmetic t c =
     c.read_value.ensures c.args.beside.octets c.in_ok-x-in-Arithmetic.was c.in-Arithmetic.is c.read_value-in-Arithmetic.ensures
     c.in_err-y-in-Arithmetic.was)
 
-pub values::read_value-returns-in_ok-y-in-Arithmetic : goal.values::read_value-returns-in_ok-y-in-Arithmetic
+pub values::read_value-returns-in-Arithmetic : goal.values::read_value-returns-in-Arithmetic
 unfolding environment_of
-values::read_value-returns-in_ok-y-in-Arithmetic t c = arithmetic-taken _ _ _ _ _ _
+values::read_value-returns-in-Arithmetic t c = arithmetic-taken _ _ _ _ _ _
     (same-read (leveled value_class _ _ _) (sym c.in_ok-k.was ∙ c.code_at.ensures)) c.read_value.ensures c.args.beside.octets
     c.in_ok-x-in-Arithmetic.was c.in-Arithmetic.is c.read_value-in-Arithmetic.ensures c.version-in-Arithmetic.ensures
     c.in_ok-y-in-Arithmetic.was c.arithmetic.ensures
@@ -334,8 +334,8 @@ values::read_value-returns-in_err-x-in-Negate t c =
     rw (p.1, p.2) (negate-stops _ _ _ _ _ _ (same-read (leveled value_class _ _ _) (sym c.in_ok-k.was ∙ c.code_at.ensures))
     c.read_value-in-Negate.ensures c.in-Negate.is c.in_err-x-in-Negate.was)
 
-pub values::read_value-returns-in_ok-x-in-Negate : goal.values::read_value-returns-in_ok-x-in-Negate
-values::read_value-returns-in_ok-x-in-Negate t c = negate-taken _ _ _ _ _ _
+pub values::read_value-returns-in-Negate : goal.values::read_value-returns-in-Negate
+values::read_value-returns-in-Negate t c = negate-taken _ _ _ _ _ _
     (same-read (leveled value_class _ _ _) (sym c.in_ok-k.was ∙ c.code_at.ensures)) c.read_value-in-Negate.ensures c.args.beside.octets
     c.in_ok-x-in-Negate.was c.in-Negate.is c.negation.ensures
 
