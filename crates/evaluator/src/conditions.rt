@@ -9,8 +9,9 @@ ghost use Rattle.meaning.specs.ValueEvaluated.{ValueEvaluates};
 
 use crate::answers::{answer_of, value_answer};
 use crate::prepared::{Given, prepare};
-use crate::walk::{Walk, noted};
+use crate::walk::{Walk, note};
 use grammar::Refusal;
+use inputs::noted::NOTED_TABLE;
 use meaning::{Evaluation, ValueEvaluation};
 use surroundings::bindings::{BINDING_ROW, BINDING_TABLE};
 use wire::blr;
@@ -33,7 +34,8 @@ pub(crate) fn evaluate_read(x: Given, places: &[u32], number: usize) -> Evaluati
     let mut bindings = [0u32; BINDING_TABLE];
     let n = prepare(x, at, &mut bindings)?;
     let slices = x.slices(&bindings[..n * BINDING_ROW]);
-    let fields = noted(slices, at);
+    let mut fields = [0u32; NOTED_TABLE];
+    note(slices, at, &mut fields);
     let walk = Walk {
         slices,
         fields: &fields,
@@ -70,7 +72,8 @@ pub(crate) fn evaluate_row(x: Given, statements: &[u32], row: usize) -> ValueEva
     let mut bindings = [0u32; BINDING_TABLE];
     let n = prepare(x, at, &mut bindings)?;
     let slices = x.slices(&bindings[..n * BINDING_ROW]);
-    let fields = noted(slices, at);
+    let mut fields = [0u32; NOTED_TABLE];
+    note(slices, at, &mut fields);
     let walk = Walk {
         slices,
         fields: &fields,

@@ -5,7 +5,8 @@ use crate::places::place_after;
 use crate::walk::Walk;
 use inputs::singles::{Two, two_at};
 
-// The two numbers that stand after the code at a place, where a level is left for them.
+// The two numbers that stand after the code at a place, where a level is left for them. In the frame of its callers, two numbers being copied.
+#[inline(always)]
 pub(crate) fn two_after(walk: &Walk, levels: usize, at: usize) -> Option<Two>
     ensures { TwoAfter (slices_in walk.now.slices) levels at result }
 {

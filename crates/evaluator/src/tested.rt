@@ -4,7 +4,8 @@ ghost use Rattle.values.specs.Values.{lent_in};
 ghost use Rattle.evaluator.specs.Slices.{slices_in, lent_of};
 ghost use Rattle.evaluator.specs.Outside.{TestedAt};
 
-use crate::walk::{Walk, noted};
+use crate::walk::{Walk, note};
+use inputs::noted::NOTED_TABLE;
 use surroundings::bindings::BINDING_TABLE;
 use values::{Lent, Stop, Tested};
 
@@ -48,7 +49,8 @@ pub fn tested_at(x: Slices, levels: usize, at: usize) -> Tested
     if RUN_BYTES < x.runs.len() {
         return Err(Stop::Stray);
     }
-    let fields = noted(x, at);
+    let mut fields = [0u32; NOTED_TABLE];
+    note(x, at, &mut fields);
     let walk = Walk {
         slices: x,
         fields: &fields,

@@ -21,7 +21,7 @@ use wire::codes::{BooleanCode, Quantifier};
 // The values of a boolean that tests values, whose code stands at a place: one, two or three, each with so many levels left.
 #[cycle(reading)]
 fn read_test(
-    beside: Beside,
+    beside: &Beside,
     scope: &[u16; SCOPE],
     contexts: &mut [u32],
     k: BooleanCode,
@@ -30,9 +30,9 @@ fn read_test(
     levels: usize,
 ) -> Read<Option<Kind>>
     requires { (tests_values k ≡ true) × (c.at ≡ at + 1) }
-    ensures { Ready beside.entry.request.now beside.entry.dictionary.now scope.now c levels →
-        TestRead levels (environment_of beside.entry.dictionary.now beside.entry.around.now)
-        (scope_of beside.entry.dictionary.now scope.now) at k beside.entry.request.now c
+    ensures { Ready beside.now.request.now beside.now.dictionary.now scope.now c levels →
+        TestRead levels (environment_of beside.now.dictionary.now beside.now.around.now)
+        (scope_of beside.now.dictionary.now scope.now) at k beside.now.request.now c
         contexts.old contexts.new result }
 {
     let (x, second) = read_value(beside, scope, contexts, c, levels)?;
@@ -63,15 +63,15 @@ fn quantifier_code(q: Quantifier) -> u8
 // A boolean, with so many levels left for it.
 #[cycle(reading)]
 pub fn read_boolean(
-    beside: Beside,
+    beside: &Beside,
     scope: &[u16; SCOPE],
     contexts: &mut [u32],
     c: Cursor,
     levels: usize,
 ) -> Passed
-    ensures { Ready beside.entry.request.now beside.entry.dictionary.now scope.now c levels →
-        BooleanRead levels (environment_of beside.entry.dictionary.now beside.entry.around.now)
-        (scope_of beside.entry.dictionary.now scope.now) beside.entry.request.now c contexts.old contexts.new result }
+    ensures { Ready beside.now.request.now beside.now.dictionary.now scope.now c levels →
+        BooleanRead levels (environment_of beside.now.dictionary.now beside.now.around.now)
+        (scope_of beside.now.dictionary.now scope.now) beside.now.request.now c contexts.old contexts.new result }
 {
     let (k, first) = code_at::<BooleanCode>(beside.request, c, levels)?;
     let below = levels - 1;

@@ -28,16 +28,16 @@ pub(crate) struct Stood {
 // The values of a sort, so many.
 #[cycle(reading)]
 fn read_keys(
-    beside: Beside,
+    beside: &Beside,
     scope: &[u16; SCOPE],
     contexts: &mut [u32],
     c: Cursor,
     levels: usize,
     left: usize,
 ) -> Passed
-    ensures { Ready beside.entry.request.now beside.entry.dictionary.now scope.now c levels →
-        KeysRead left levels (environment_of beside.entry.dictionary.now beside.entry.around.now)
-        (scope_of beside.entry.dictionary.now scope.now) beside.entry.request.now c
+    ensures { Ready beside.now.request.now beside.now.dictionary.now scope.now c levels →
+        KeysRead left levels (environment_of beside.now.dictionary.now beside.now.around.now)
+        (scope_of beside.now.dictionary.now scope.now) beside.now.request.now c
         contexts.old contexts.new result }
 {
     if left == 0 {
@@ -51,15 +51,15 @@ fn read_keys(
 // A sort after its code.
 #[cycle(reading)]
 fn read_sort(
-    beside: Beside,
+    beside: &Beside,
     scope: &[u16; SCOPE],
     contexts: &mut [u32],
     c: Cursor,
     levels: usize,
 ) -> Passed
-    ensures { Ready beside.entry.request.now beside.entry.dictionary.now scope.now c levels →
-        SortRead levels (environment_of beside.entry.dictionary.now beside.entry.around.now)
-        (scope_of beside.entry.dictionary.now scope.now) beside.entry.request.now c
+    ensures { Ready beside.now.request.now beside.now.dictionary.now scope.now c levels →
+        SortRead levels (environment_of beside.now.dictionary.now beside.now.around.now)
+        (scope_of beside.now.dictionary.now scope.now) beside.now.request.now c
         contexts.old contexts.new result }
 {
     let (n, first) = count_byte(beside.request, c)?;
@@ -69,16 +69,16 @@ fn read_sort(
 // The clauses of an rse and its end, beside what has stood before; what is told is the place of the boolean.
 #[cycle(reading)]
 fn read_more(
-    beside: Beside,
+    beside: &Beside,
     scope: &[u16; SCOPE],
     contexts: &mut [u32],
     c: Cursor,
     levels: usize,
     stood: Stood,
 ) -> Read<Option<usize>>
-    ensures { Ready beside.entry.request.now beside.entry.dictionary.now scope.now c levels →
-        MoreRead stood levels (environment_of beside.entry.dictionary.now beside.entry.around.now)
-        (scope_of beside.entry.dictionary.now scope.now) beside.entry.request.now c
+    ensures { Ready beside.now.request.now beside.now.dictionary.now scope.now c levels →
+        MoreRead stood levels (environment_of beside.now.dictionary.now beside.now.around.now)
+        (scope_of beside.now.dictionary.now scope.now) beside.now.request.now c
         contexts.old contexts.new result }
 {
     let (k, first) = clause_at(
@@ -109,15 +109,15 @@ fn read_more(
 // place of the boolean.
 #[cycle(reading)]
 pub fn read_clauses(
-    beside: Beside,
+    beside: &Beside,
     scope: &[u16; SCOPE],
     contexts: &mut [u32],
     c: Cursor,
     levels: usize,
 ) -> Read<Option<usize>>
-    ensures { Ready beside.entry.request.now beside.entry.dictionary.now scope.now c levels →
-        ClausesRead levels (environment_of beside.entry.dictionary.now beside.entry.around.now)
-        (scope_of beside.entry.dictionary.now scope.now) beside.entry.request.now c
+    ensures { Ready beside.now.request.now beside.now.dictionary.now scope.now c levels →
+        ClausesRead levels (environment_of beside.now.dictionary.now beside.now.around.now)
+        (scope_of beside.now.dictionary.now scope.now) beside.now.request.now c
         contexts.old contexts.new result }
 {
     let nothing = Stood {

@@ -15,16 +15,16 @@ use tables::contexts::close;
 // An rse of one stream after the code that opens it, with so many levels left for what stands in it: its context is in scope up to its end.
 #[cycle(reading)]
 pub(crate) fn read_rse(
-    beside: Beside,
+    beside: &Beside,
     scope: &[u16; SCOPE],
     contexts: &mut [u32],
     opener: u8,
     c: Cursor,
     levels: usize,
 ) -> Passed
-    ensures { Ready beside.entry.request.now beside.entry.dictionary.now scope.now c (levels + 1) →
-        RseRead levels (environment_of beside.entry.dictionary.now beside.entry.around.now)
-        (scope_of beside.entry.dictionary.now scope.now) opener beside.entry.request.now c
+    ensures { Ready beside.now.request.now beside.now.dictionary.now scope.now c (levels + 1) →
+        RseRead levels (environment_of beside.now.dictionary.now beside.now.around.now)
+        (scope_of beside.now.dictionary.now scope.now) opener beside.now.request.now c
         contexts.old contexts.new result }
 {
     let mut inside = *scope;

@@ -33,10 +33,12 @@ fn statistic_code(k: Statistic) -> u8
     }
 }
 
-// A statistic after its code at a place: an rse of one stream and a number, and its context is in scope in both.
+// A statistic after its code at a place: an rse of one stream and a number, and its context is in scope in both. In a frame of its own: its copy
+// of the scope would stand in that of each value.
+#[inline(never)]
 #[cycle(reading)]
 fn read_statistic(
-    beside: Beside,
+    beside: &Beside,
     scope: &[u16; SCOPE],
     contexts: &mut [u32],
     k: Statistic,
@@ -45,9 +47,9 @@ fn read_statistic(
     levels: usize,
 ) -> Read<Option<Kind>>
     requires { c.at ≡ at + 1 }
-    ensures { Ready beside.entry.request.now beside.entry.dictionary.now scope.now c (levels + 1) →
-        StatisticRead levels (environment_of beside.entry.dictionary.now beside.entry.around.now)
-        (scope_of beside.entry.dictionary.now scope.now) at k beside.entry.request.now c
+    ensures { Ready beside.now.request.now beside.now.dictionary.now scope.now c (levels + 1) →
+        StatisticRead levels (environment_of beside.now.dictionary.now beside.now.around.now)
+        (scope_of beside.now.dictionary.now scope.now) at k beside.now.request.now c
         contexts.old contexts.new result }
 {
     let mut inside = *scope;
@@ -62,15 +64,15 @@ fn read_statistic(
 // A value, with so many levels left for it.
 #[cycle(reading)]
 pub fn read_value(
-    beside: Beside,
+    beside: &Beside,
     scope: &[u16; SCOPE],
     contexts: &mut [u32],
     c: Cursor,
     levels: usize,
 ) -> Read<Option<Kind>>
-    ensures { Ready beside.entry.request.now beside.entry.dictionary.now scope.now c levels →
-        ValueRead levels (environment_of beside.entry.dictionary.now beside.entry.around.now)
-        (scope_of beside.entry.dictionary.now scope.now) beside.entry.request.now c
+    ensures { Ready beside.now.request.now beside.now.dictionary.now scope.now c levels →
+        ValueRead levels (environment_of beside.now.dictionary.now beside.now.around.now)
+        (scope_of beside.now.dictionary.now scope.now) beside.now.request.now c
         contexts.old contexts.new result }
 {
     let (k, first) = code_at::<ValueCode>(beside.request, c, levels)?;

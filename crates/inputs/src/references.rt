@@ -77,6 +77,8 @@ fn fetch(
 }
 
 // The reference whose code stands at a place of the request; past its end no code stands. Kept: a public function, which keeps its parameters.
+// In a frame of its own: it would stand in that of each value on the way down.
+#[inline(never)]
 pub fn reference(
     m: Lent<'_>,
     dictionary: &[u8],

@@ -90,17 +90,17 @@ fn read_streams(
 
 // The head of an rse: its code, the count and the streams, so many at most. A code opens them, and their contexts come into scope.
 pub fn read_head(
-    beside: Beside,
+    beside: &Beside,
     contexts: &mut [u32],
     below: &mut [u16; SCOPE],
     most: usize,
     opener: u8,
     c: Cursor,
 ) -> Passed
-    ensures { Prepared beside.entry.request.now beside.entry.dictionary.now below.old c →
-        OpensHead opener (rse_head most (relations beside.entry.dictionary.now) opener
-        (scope_of beside.entry.dictionary.now below.old) beside.entry.request.now c)
-        beside.entry.dictionary.now c contexts.old contexts.new below.old below.new result }
+    ensures { Prepared beside.now.request.now beside.now.dictionary.now below.old c →
+        OpensHead opener (rse_head most (relations beside.now.dictionary.now) opener
+        (scope_of beside.now.dictionary.now below.old) beside.now.request.now c)
+        beside.now.dictionary.now c contexts.old contexts.new below.old below.new result }
 {
     let first = due_code(beside.request, c, RSE, Refusal::NotDue)?;
     let (n, next) = stream_count(beside.request, most, first)?;
@@ -232,14 +232,14 @@ fn read_label(request: &[u8], below: &mut [u16; SCOPE], c: Cursor) -> Passed
 // What opens a scope, after the code of its statement: the head of a for's rse, or the heading of a modify, a send, a store or a label.
 // What it opens comes into the scope below.
 pub fn read_opened(
-    beside: Beside,
+    beside: &Beside,
     contexts: &mut [u32],
     below: &mut [u16; SCOPE],
     x: Coded,
 ) -> Passed
-    ensures { x.after.at ≡ x.at + 1 → Prepared beside.entry.request.now beside.entry.dictionary.now below.old x.after →
-        OpensCoded x.code (environment_of beside.entry.dictionary.now beside.entry.around.now) beside.entry.request.now
-        beside.entry.dictionary.now x.at x.after contexts.old contexts.new below.old
+    ensures { x.after.at ≡ x.at + 1 → Prepared beside.now.request.now beside.now.dictionary.now below.old x.after →
+        OpensCoded x.code (environment_of beside.now.dictionary.now beside.now.around.now) beside.now.request.now
+        beside.now.dictionary.now x.at x.after contexts.old contexts.new below.old
         below.new result }
 {
     let c = x.after;

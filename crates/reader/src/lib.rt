@@ -19,6 +19,7 @@ use wire::limits::MAX_STATEMENTS;
 use wire::refused::Refused;
 
 // What is judged before the request's first byte, and then the request; the tables hold zeros.
+#[inline(never)]
 fn read_cleared(
     request: &[u8],
     dictionary: &[u8],
@@ -53,7 +54,9 @@ fn read_cleared(
 }
 
 // Reads a request, fills the tables with its rows, and a fourth with the places of its conditions, which evaluation needs.
+// In the frame of its caller, here and below: tables that are made there are cleared once.
 // Kept, here and below: a public function, which keeps its parameters; the tables are those of C.
+#[inline(always)]
 pub fn read_noting(
     request: &[u8],
     dictionary: &[u8],
@@ -77,6 +80,7 @@ pub fn read_noting(
 }
 
 // Reads a request, and fills the tables with its rows; a refusal leaves zeros in them.
+#[inline(always)]
 pub fn read(
     request: &[u8],
     dictionary: &[u8],
@@ -88,12 +92,13 @@ pub fn read(
         contexts.old statements.new parameters.new contexts.new result }
 {
     let mut places = [0u32; MAX_STATEMENTS];
-    read_noting(
-        request,
-        dictionary,
+    statements.fill(0);
+    parameters.fill(0);
+    contexts.fill(0);
+    let mut rows = Rows {
         statements,
-        parameters,
         contexts,
-        &mut places,
-    )
+        conditions: &mut places,
+    };
+    read_cleared(request, dictionary, parameters, &mut rows)
 }

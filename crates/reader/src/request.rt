@@ -102,7 +102,7 @@ fn body(
         parent: 1,
     };
     put_boolean(rows.statements, 0, 0);
-    let last = read_statements(beside, &nothing, rows, first, outer)?;
+    let last = read_statements(&beside, &nothing, rows, first, outer)?;
     put_statement(rows.statements, 0, 1, BEGIN, 0, last.at);
     let after = end(request, last)?;
     Ok((row_count(&around), after))

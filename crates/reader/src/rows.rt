@@ -11,6 +11,7 @@ pub(crate) struct Rows<'a> {
 
 impl Rows<'_> {
     // Zeros in all of them. Kept: the library fills one slice at a time.
+    #[inline(always)]
     pub(crate) fn clear(&mut self)
         ensures kept { Kept self.old self.new }
         ensures statements { self.new.statements.now ≡ replicate (length self.old.statements.now) 0 }

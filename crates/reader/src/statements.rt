@@ -52,16 +52,16 @@ fn below(c: Cursor, level: Level) -> Level
 // Statements up to an end, so many at most.
 #[cycle(statements)]
 pub(crate) fn read_statements(
-    beside: Beside,
+    beside: &Beside,
     scope: &[u16; SCOPE],
     rows: &mut Rows,
     c: Cursor,
     level: Level,
 ) -> Passed
-    requires { (Given beside.request.now beside.dictionary.now scope.now c level.left) × (level.parent ≤ max_statements) }
+    requires { (Given beside.now.request.now beside.now.dictionary.now scope.now c level.left) × (level.parent ≤ max_statements) }
     ensures kept { Kept rows.old rows.new }
-    ensures read { StatementsRead level (environment_in beside.entry)
-        (scope_in beside.entry scope.now) beside.entry.request.now c
+    ensures read { StatementsRead level (environment_in beside.now)
+        (scope_in beside.now scope.now) beside.now.request.now c
         (tables_in rows.old) (tables_in rows.new) result }
 {
     let mut at = c;
@@ -77,16 +77,16 @@ pub(crate) fn read_statements(
 // A statement: its code, a level for it, what stands under the code, and its row.
 #[cycle(statements)]
 fn read_statement(
-    beside: Beside,
+    beside: &Beside,
     scope: &[u16; SCOPE],
     rows: &mut Rows,
     c: Cursor,
     level: Level,
 ) -> Passed
-    requires { (Given beside.request.now beside.dictionary.now scope.now c level.left) × (level.parent ≤ max_statements) }
+    requires { (Given beside.now.request.now beside.now.dictionary.now scope.now c level.left) × (level.parent ≤ max_statements) }
     ensures kept { Kept rows.old rows.new }
-    ensures read { StatementRead level (environment_in beside.entry)
-        (scope_in beside.entry scope.now) beside.entry.request.now c
+    ensures read { StatementRead level (environment_in beside.now)
+        (scope_in beside.now scope.now) beside.now.request.now c
         (tables_in rows.old) (tables_in rows.new) result }
 {
     let x = statement_at(beside.request, c, level.left)?;
@@ -99,16 +99,16 @@ fn read_statement(
 // A statement after its code, which is counted.
 #[cycle(statements)]
 fn read_coded(
-    beside: Beside,
+    beside: &Beside,
     scope: &[u16; SCOPE],
     rows: &mut Rows,
     x: Coded,
     level: Level,
 ) -> Passed
-    requires { Inside beside.request.now beside.dictionary.now scope.now x level.left }
+    requires { Inside beside.now.request.now beside.now.dictionary.now scope.now x level.left }
     ensures kept { Kept rows.old rows.new }
-    ensures read { CodedRead (level.left - 1) (environment_in beside.entry)
-        (scope_in beside.entry scope.now) beside.entry.request.now x
+    ensures read { CodedRead (level.left - 1) (environment_in beside.now)
+        (scope_in beside.now scope.now) beside.now.request.now x
         (tables_in rows.old) (tables_in rows.new) result }
 {
     let k = x.code;
@@ -131,15 +131,15 @@ fn read_coded(
 
 // An assignment: a value, and a target of its kind.
 fn read_assignment(
-    beside: Beside,
+    beside: &Beside,
     scope: &[u16; SCOPE],
     contexts: &mut [u32],
     x: Coded,
     levels: usize,
 ) -> Passed
-    requires { (Ready beside.request.now beside.dictionary.now scope.now x.after levels) × (x.after.at ≡ x.at + 1) }
-    ensures { AssignmentRead levels (environment_in beside.entry)
-        (scope_in beside.entry scope.now) beside.entry.request.now x
+    requires { (Ready beside.now.request.now beside.now.dictionary.now scope.now x.after levels) × (x.after.at ≡ x.at + 1) }
+    ensures { AssignmentRead levels (environment_in beside.now)
+        (scope_in beside.now scope.now) beside.now.request.now x
         contexts.old contexts.new result }
 {
     let (a, second) = read_value(beside, scope, contexts, x.after, levels)?;
@@ -158,16 +158,16 @@ fn read_assignment(
 // A heading, or the streams of a for with its clauses, whose boolean gets a number. What is read is where its scope begins; then stands
 // its statement.
 fn read_heading(
-    beside: Beside,
+    beside: &Beside,
     rows: &mut Rows,
     inside: &mut [u16; SCOPE],
     x: Coded,
     levels: usize,
 ) -> Read<Cursor>
-    requires { (Inside beside.request.now beside.dictionary.now inside.old x (levels + 1)) × (opens_scope x.code ≡ true) }
+    requires { (Inside beside.now.request.now beside.now.dictionary.now inside.old x (levels + 1)) × (opens_scope x.code ≡ true) }
     ensures kept { Kept rows.old rows.new }
-    ensures read { HeadingRead levels (environment_in beside.entry) beside.entry.request.now
-        beside.entry.dictionary.now x (tables_in rows.old) (tables_in rows.new) inside.old inside.new result }
+    ensures read { HeadingRead levels (environment_in beside.now) beside.now.request.now
+        beside.now.dictionary.now x (tables_in rows.old) (tables_in rows.new) inside.old inside.new result }
 {
     let k = x.code;
     let c = x.after;
@@ -189,16 +189,16 @@ fn read_heading(
 // A statement that opens a scope: a for, a modify, a store, a send or a label. The rows of its contexts get their scope at its end.
 #[cycle(statements)]
 fn read_opening(
-    beside: Beside,
+    beside: &Beside,
     scope: &[u16; SCOPE],
     rows: &mut Rows,
     x: Coded,
     level: Level,
 ) -> Passed
-    requires { (Below beside.request.now beside.dictionary.now scope.now x level) × (opens_scope x.code ≡ true) }
+    requires { (Below beside.now.request.now beside.now.dictionary.now scope.now x level) × (opens_scope x.code ≡ true) }
     ensures kept { Kept rows.old rows.new }
-    ensures read { CodedRead level.left (environment_in beside.entry)
-        (scope_in beside.entry scope.now) beside.entry.request.now x
+    ensures read { CodedRead level.left (environment_in beside.now)
+        (scope_in beside.now scope.now) beside.now.request.now x
         (tables_in rows.old) (tables_in rows.new) result }
 {
     let mut inside = *scope;
@@ -210,11 +210,17 @@ fn read_opening(
 
 // An if: its condition, a statement, and an end or a second statement.
 #[cycle(statements)]
-fn read_if(beside: Beside, scope: &[u16; SCOPE], rows: &mut Rows, c: Cursor, level: Level) -> Passed
-    requires { (Given beside.request.now beside.dictionary.now scope.now c level.left) × ((level.parent ≡ c.statements) × (c.conditions < c.statements)) }
+fn read_if(
+    beside: &Beside,
+    scope: &[u16; SCOPE],
+    rows: &mut Rows,
+    c: Cursor,
+    level: Level,
+) -> Passed
+    requires { (Given beside.now.request.now beside.now.dictionary.now scope.now c level.left) × ((level.parent ≡ c.statements) × (c.conditions < c.statements)) }
     ensures kept { Kept rows.old rows.new }
-    ensures read { (p : ℕ) → c.at ≡ p + 1 → IfRead level.left (environment_in beside.entry)
-        (scope_in beside.entry scope.now) beside.entry.request.now p c
+    ensures read { (p : ℕ) → c.at ≡ p + 1 → IfRead level.left (environment_in beside.now)
+        (scope_in beside.now scope.now) beside.now.request.now p c
         (tables_in rows.old) (tables_in rows.new) result }
 {
     let first = read_boolean(beside, scope, rows.contexts, c, level.left)?;
@@ -235,16 +241,16 @@ fn read_if(beside: Beside, scope: &[u16; SCOPE], rows: &mut Rows, c: Cursor, lev
 // The receives of a select up to its end, so many at most: each of another message.
 #[cycle(statements)]
 fn read_select(
-    beside: Beside,
+    beside: &Beside,
     scope: &[u16; SCOPE],
     rows: &mut Rows,
     c: Cursor,
     level: Level,
 ) -> Passed
-    requires { (Given beside.request.now beside.dictionary.now scope.now c level.left) × (level.parent ≤ max_statements) }
+    requires { (Given beside.now.request.now beside.now.dictionary.now scope.now c level.left) × (level.parent ≤ max_statements) }
     ensures kept { Kept rows.old rows.new }
-    ensures read { SelectRead level (environment_in beside.entry)
-        (scope_in beside.entry scope.now) beside.entry.request.now c
+    ensures read { SelectRead level (environment_in beside.now)
+        (scope_in beside.now scope.now) beside.now.request.now c
         (tables_in rows.old) (tables_in rows.new) result }
 {
     let mut seen = [false; MESSAGE_NUMBERS];

@@ -1,7 +1,7 @@
 // The place after so many values, booleans and clauses.
 ghost use Rattle.std.specs.Prelude.{◌≡◌, ◌+◌, ◌≤◌, ◌<◌, length};
 ghost use Rattle.wire.specs.Limits.{max_request_bytes};
-ghost use Rattle.runs.specs.Passes.{on, pass_at, passed, passed_by};
+ghost use Rattle.runs.specs.Passes.{on, pass_at, pass_by, passed, passed_by};
 
 use crate::forms::{Form, form_of, literal_length};
 use crate::stream::after_stream;
@@ -33,6 +33,26 @@ impl Pass {
         Pass { due: 0, ..self }
     }
 
+    // On over the code of a form at the place. In the frame of its caller: a scan has matched the form, and a call took half of its time.
+    #[inline(always)]
+    #[tactic(auto, unfolding(crate::specs::Passes::pass_by))]
+    pub(crate) fn over(self, request: &[u8], form: Form) -> Pass
+        requires { (length request.now ≤ max_request_bytes) × (0 < self.due) × (self.due ≤ 8589934592) × (self.place < length request.now) }
+        ensures { (result ≡ pass_by request.now self form) × (result.due ≤ self.due + 256) × (result.place ≤ 131080) }
+    {
+        let p = self.place;
+        match form {
+            Form::Plain(n, more) => self.on(p + n as usize, more as usize),
+            Form::Field => self.on(p + 3 + byte_on(request, p, 2) as usize, 0),
+            Form::Literal => self.on(p + 1 + literal_length(request, p + 1), 0),
+            Form::Sort => self.on(p + 2, byte_on(request, p, 1) as usize + 1),
+            Form::Open(more) => self.on(after_stream(request, p + 3), more as usize + 1),
+            Form::Such => self.on(p + 1, 2),
+            Form::Close => self.on(p + 1, 0),
+            Form::Other => self.halt(),
+        }
+    }
+
     // Kept: the length is asked of four functions; a struct with that fact would be made for one call of find_runs (no plainer).
     // On over the code at the place.
     #[tactic(auto, unfolding(crate::specs::Passes::passed, crate::specs::Passes::pass_by), using(crate::proofs::PassLaws::passed_ended))]
@@ -44,16 +64,7 @@ impl Pass {
         if request.len() <= p {
             return self.halt();
         }
-        match form_of(request[p]) {
-            Form::Plain(n, more) => self.on(p + n as usize, more as usize),
-            Form::Field => self.on(p + 3 + byte_on(request, p, 2) as usize, 0),
-            Form::Literal => self.on(p + 1 + literal_length(request, p + 1), 0),
-            Form::Sort => self.on(p + 2, byte_on(request, p, 1) as usize + 1),
-            Form::Open(more) => self.on(after_stream(request, p + 3), more as usize + 1),
-            Form::Such => self.on(p + 1, 2),
-            Form::Close => self.on(p + 1, 0),
-            Form::Other => self.halt(),
-        }
+        self.over(request, form_of(request[p]))
     }
 }
 

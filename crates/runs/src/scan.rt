@@ -134,9 +134,10 @@ fn step(request: &[u8], dictionary: &[u8], bindings: &mut [u32], scan: Scan) -> 
             ..scan
         };
     }
-    match form_of(request[p]) {
+    let form = form_of(request[p]);
+    match form {
         Form::Plain(_, _) | Form::Field | Form::Literal | Form::Other => Scan {
-            pass: scan.pass.over_code(request),
+            pass: scan.pass.over(request, form),
             ..scan
         },
         Form::Sort => {

@@ -15,6 +15,8 @@ pub(crate) enum Pair {
     Unfit,
 }
 
+// In the frame of its caller, here and below: a pair that is answered is copied through memory, and that of numbers is what most tests are of.
+#[inline(always)]
 #[tactic(auto, unfolding(meaning::specs::Data::kind))]
 fn kind_of(a: Value) -> Kind
     ensures { OfKind a result }
@@ -28,6 +30,7 @@ fn kind_of(a: Value) -> Kind
 }
 
 // Two values whose kinds are the same.
+#[inline(always)]
 fn of_one_kind(a: Value, b: Value) -> Pair
     ensures { OfOneKind a b result }
 {
@@ -51,6 +54,7 @@ fn of_one_kind(a: Value, b: Value) -> Pair
     }
 }
 
+#[inline(always)]
 #[tactic(auto, unfolding(meaning::specs::Data::pair))]
 pub(crate) fn paired(a: Value, b: Value) -> Pair
     ensures { Paired a b result }

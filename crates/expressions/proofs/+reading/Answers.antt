@@ -73,7 +73,7 @@ booleans::read_boolean-read_test-requires t c =
 pub booleans::read_boolean-returns-in_ok-second-in-Connect : goal.booleans::read_boolean-returns-in_ok-second-in-Connect
 booleans::read_boolean-returns-in_ok-second-in-Connect t c =
     connect-read _ _ _ _ _ _ (same-read (leveled boolean_class _ _ _) (sym c.in_ok-k.was ∙ c.code_at.ensures)) c.in-Connect.is
-    c.read_boolean.ensures c.args.beside.octets c.in_ok-second-in-Connect.was c.read_boolean-in-Connect.ensures
+    c.read_boolean.ensures c.args.beside.now.octets c.in_ok-second-in-Connect.was c.read_boolean-in-Connect.ensures
 
 pub booleans::read_boolean-returns-in-Not : goal.booleans::read_boolean-returns-in-Not
 booleans::read_boolean-returns-in-Not t c =
@@ -115,7 +115,7 @@ clauses::read_keys-returns-in_err-next t c =
 pub clauses::read_keys-returns : goal.clauses::read_keys-returns
 clauses::read_keys-returns t c = keys-read _ _ _ _ _ _ _ c.if-left-eq0.false
     (cursor-read (coded direction_class _ _) (sym c.in_ok-first.was ∙ c.direction_at.ensures)).1 c.read_value.ensures
-    c.args.beside.octets c.in_ok-next.was c.read_keys.ensures
+    c.args.beside.now.octets c.in_ok-next.was c.read_keys.ensures
 
 pub clauses::read_sort-returns-in_err-n : goal.clauses::read_sort-returns-in_err-n
 clauses::read_sort-returns-in_err-n t c =
@@ -129,19 +129,19 @@ clauses::read_sort-returns t c =
 pub rses::read_rse-returns-in_err-first : goal.rses::read_rse-returns-in_err-first
 rses::read_rse-returns-in_err-first t c =
     let p = err_from_is_err_and c.from_residual.result c.from_residual.ensures.1 in
-    rw (p.1, p.2) (rse-stopped _ _ _ (environment_of c.args.beside.dictionary.now c.args.beside.around.now)
-    (relations-known _ c.args.beside.around.now) c.args.levels c.args.opener _ c.read_head.ensures c.in_err-first.was)
+    rw (p.1, p.2) (rse-stopped _ _ _ (environment_of c.args.beside.now.dictionary.now c.args.beside.now.around.now)
+    (relations-known _ c.args.beside.now.around.now) c.args.levels c.args.opener _ c.read_head.ensures c.in_err-first.was)
 
 pub rses::read_rse-returns-in_err-end : goal.rses::read_rse-returns-in_err-end
 rses::read_rse-returns-in_err-end t c =
     let p = err_from_is_err_and c.from_residual-in_err-end.result c.from_residual-in_err-end.ensures.1 in
-    rw (p.1, p.2) (rse-clauses-stopped _ _ _ (environment_of c.args.beside.dictionary.now c.args.beside.around.now)
-    (relations-known _ c.args.beside.around.now) c.args.levels c.args.opener _ c.read_head.ensures c.args.beside.octets
+    rw (p.1, p.2) (rse-clauses-stopped _ _ _ (environment_of c.args.beside.now.dictionary.now c.args.beside.now.around.now)
+    (relations-known _ c.args.beside.now.around.now) c.args.levels c.args.opener _ c.read_head.ensures c.args.beside.now.octets
     c.in_ok-first.was c.read_clauses.ensures c.in_err-end.was)
 
 pub rses::read_rse-returns : goal.rses::read_rse-returns
-rses::read_rse-returns t c = rse-read _ _ _ (environment_of c.args.beside.dictionary.now c.args.beside.around.now)
-    (relations-known _ c.args.beside.around.now) c.args.levels c.args.opener _ c.read_head.ensures c.args.beside.octets
+rses::read_rse-returns t c = rse-read _ _ _ (environment_of c.args.beside.now.dictionary.now c.args.beside.now.around.now)
+    (relations-known _ c.args.beside.now.around.now) c.args.levels c.args.opener _ c.read_head.ensures c.args.beside.now.octets
     c.in_ok-first.was c.read_clauses.ensures c.in_ok-end.was c.close.ensures
 
 pub clauses::read_more-returns-in_err-k : goal.clauses::read_more-returns-in_err-k
@@ -182,12 +182,12 @@ clauses::read_more-read_more-requires-in-Sort t c =
 pub clauses::read_more-returns-in_ok-next-in-Boolean : goal.clauses::read_more-returns-in_ok-next-in-Boolean
 clauses::read_more-returns-in_ok-next-in-Boolean t c = such-read _ _ _ _ _ _ _ _ _ (rw c.is_some.ensures at
     (same-read (clause_coded _ _ _ _ _) (sym c.in_ok-k.was ∙ c.clause_at.ensures))) c.in-Boolean.is c.read_boolean.ensures
-    c.args.beside.octets c.in_ok-next-in-Boolean.was c.read_more.ensures
+    c.args.beside.now.octets c.in_ok-next-in-Boolean.was c.read_more.ensures
 
 pub clauses::read_more-returns-in_ok-next-in-Sort : goal.clauses::read_more-returns-in_ok-next-in-Sort
 clauses::read_more-returns-in_ok-next-in-Sort t c = sorted-read _ _ _ _ _ _ _ _ _ (rw c.is_some.ensures at
     (same-read (clause_coded _ _ _ _ _) (sym c.in_ok-k.was ∙ c.clause_at.ensures))) c.in-Sort.is c.read_sort.ensures
-    c.args.beside.octets c.in_ok-next-in-Sort.was c.read_more-in-Sort.ensures
+    c.args.beside.now.octets c.in_ok-next-in-Sort.was c.read_more-in-Sort.ensures
 
 pub clauses::read_more-returns-in-End : goal.clauses::read_more-returns-in-End
 clauses::read_more-returns-in-End t c = λ g. more-end _ _ _ _ _ _ _ _ (rw c.is_some.ensures at
@@ -196,15 +196,15 @@ clauses::read_more-returns-in-End t c = λ g. more-end _ _ _ _ _ _ _ _ (rw c.is_
 pub values::read_statistic-returns-in_err-first : goal.values::read_statistic-returns-in_err-first
 values::read_statistic-returns-in_err-first t c =
     let p = err_from_is_err_and c.from_residual.result c.from_residual.ensures.1 in
-    rw (p.1, p.2) (statistic-head-stopped _ _ _ (environment_of c.args.beside.dictionary.now c.args.beside.around.now)
-    (relations-known _ c.args.beside.around.now) c.args.levels c.args.at c.args.k _ c.statistic_code.ensures c.read_head.ensures c.in_err-first.was)
+    rw (p.1, p.2) (statistic-head-stopped _ _ _ (environment_of c.args.beside.now.dictionary.now c.args.beside.now.around.now)
+    (relations-known _ c.args.beside.now.around.now) c.args.levels c.args.at c.args.k _ c.statistic_code.ensures c.read_head.ensures c.in_err-first.was)
 
 pub values::read_statistic-returns-in_err-second : goal.values::read_statistic-returns-in_err-second
 values::read_statistic-returns-in_err-second t c =
     let p = err_from_is_err_and c.from_residual-in_err-second.result c.from_residual-in_err-second.ensures.1 in
-    rw (p.1, p.2) (statistic-clauses-stopped _ _ _ (environment_of c.args.beside.dictionary.now c.args.beside.around.now)
-    (relations-known _ c.args.beside.around.now) c.args.levels c.args.at c.args.k _ c.statistic_code.ensures c.read_head.ensures
-    c.args.beside.octets c.in_ok-first.was c.read_clauses.ensures c.in_err-second.was)
+    rw (p.1, p.2) (statistic-clauses-stopped _ _ _ (environment_of c.args.beside.now.dictionary.now c.args.beside.now.around.now)
+    (relations-known _ c.args.beside.now.around.now) c.args.levels c.args.at c.args.k _ c.statistic_code.ensures c.read_head.ensures
+    c.args.beside.now.octets c.in_ok-first.was c.read_clauses.ensures c.in_err-second.was)
 
 pub values::read_statistic-read_value-requires : goal.values::read_statistic-read_value-requires
 values::read_statistic-read_value-requires t c = search (rules, c.decreases)
@@ -212,25 +212,25 @@ values::read_statistic-read_value-requires t c = search (rules, c.decreases)
 pub values::read_statistic-returns-in_err-x : goal.values::read_statistic-returns-in_err-x
 values::read_statistic-returns-in_err-x t c =
     let p = err_from_is_err_and c.from_residual-in_err-x.result c.from_residual-in_err-x.ensures.1 in
-    rw (p.1, p.2) (statistic-number-stopped _ _ _ (environment_of c.args.beside.dictionary.now c.args.beside.around.now)
-    (relations-known _ c.args.beside.around.now) c.args.levels c.args.at c.args.k _ c.statistic_code.ensures c.read_head.ensures
-    c.args.beside.octets c.in_ok-first.was c.read_clauses.ensures c.in_ok-second.was c.read_value.ensures c.in_err-x.was)
+    rw (p.1, p.2) (statistic-number-stopped _ _ _ (environment_of c.args.beside.now.dictionary.now c.args.beside.now.around.now)
+    (relations-known _ c.args.beside.now.around.now) c.args.levels c.args.at c.args.k _ c.statistic_code.ensures c.read_head.ensures
+    c.args.beside.now.octets c.in_ok-first.was c.read_clauses.ensures c.in_ok-second.was c.read_value.ensures c.in_err-x.was)
 
 pub values::read_statistic-returns-in_err-number : goal.values::read_statistic-returns-in_err-number
 values::read_statistic-returns-in_err-number t c =
     let p = err_from_is_err_and c.from_residual-in_err-number.result c.from_residual-in_err-number.ensures.1 in
-    rw (p.1, p.2) (statistic-unfit _ _ _ (environment_of c.args.beside.dictionary.now c.args.beside.around.now)
-    (relations-known _ c.args.beside.around.now) c.args.levels c.args.at c.args.k _ c.statistic_code.ensures c.read_head.ensures
-    c.args.beside.octets c.in_ok-first.was c.read_clauses.ensures c.in_ok-second.was c.read_value.ensures c.requires c.in_ok-x.was
+    rw (p.1, p.2) (statistic-unfit _ _ _ (environment_of c.args.beside.now.dictionary.now c.args.beside.now.around.now)
+    (relations-known _ c.args.beside.now.around.now) c.args.levels c.args.at c.args.k _ c.statistic_code.ensures c.read_head.ensures
+    c.args.beside.now.octets c.in_ok-first.was c.read_clauses.ensures c.in_ok-second.was c.read_value.ensures c.requires c.in_ok-x.was
     c.negation.ensures c.in_err-number.was)
 
 pub values::read_statistic-shape_of-contexts : goal.values::read_statistic-shape_of-contexts
 values::read_statistic-shape_of-contexts t c = omega (arith, c.read_head.auto.contexts, c.read_clauses.auto.contexts, c.read_value.auto.contexts, c.close.auto.contexts)
 
 pub values::read_statistic-returns : goal.values::read_statistic-returns
-values::read_statistic-returns t c = statistic-read _ _ _ (environment_of c.args.beside.dictionary.now c.args.beside.around.now)
-    (relations-known _ c.args.beside.around.now) c.args.levels c.args.at c.args.k _ c.statistic_code.ensures c.read_head.ensures
-    c.args.beside.octets c.in_ok-first.was c.read_clauses.ensures c.in_ok-second.was c.read_value.ensures c.requires c.in_ok-x.was
+values::read_statistic-returns t c = statistic-read _ _ _ (environment_of c.args.beside.now.dictionary.now c.args.beside.now.around.now)
+    (relations-known _ c.args.beside.now.around.now) c.args.levels c.args.at c.args.k _ c.statistic_code.ensures c.read_head.ensures
+    c.args.beside.now.octets c.in_ok-first.was c.read_clauses.ensures c.in_ok-second.was c.read_value.ensures c.requires c.in_ok-x.was
     c.negation.ensures c.in_ok-number.was c.close.ensures
 
 pub booleans::read_test-returns-in_err-x : goal.booleans::read_test-returns-in_err-x
@@ -240,12 +240,12 @@ booleans::read_test-returns-in_err-x t c =
 
 pub booleans::read_test-returns-in-Missing : goal.booleans::read_test-returns-in-Missing
 booleans::read_test-returns-in-Missing t c =
-    missing-taken _ _ _ _ _ _ _ c.read_value.ensures c.args.beside.octets c.in_ok-x.was c.in-Missing.is c.requires.1
+    missing-taken _ _ _ _ _ _ _ c.read_value.ensures c.args.beside.now.octets c.in_ok-x.was c.in-Missing.is c.requires.1
 
 pub booleans::read_test-returns-in_err-y : goal.booleans::read_test-returns-in_err-y
 booleans::read_test-returns-in_err-y t c =
     let p = err_from_is_err_and c.from_residual-in_err-y.result c.from_residual-in_err-y.ensures.1 in
-    rw (p.1, p.2) (second-stops _ _ _ _ _ _ _ c.read_value.ensures c.args.beside.octets c.in_ok-x.was c.read_value-2.ensures _ c.requires.0
+    rw (p.1, p.2) (second-stops _ _ _ _ _ _ _ c.read_value.ensures c.args.beside.now.octets c.in_ok-x.was c.read_value-2.ensures _ c.requires.0
     c.in_default.not-Missing c.in_err-y.was)
 
 pub booleans::read_test-read_value-requires-in-Between : goal.booleans::read_test-read_value-requires-in-Between
@@ -254,20 +254,20 @@ booleans::read_test-read_value-requires-in-Between t c = search (rules, c.decrea
 pub booleans::read_test-returns-in_err-z-in-Between : goal.booleans::read_test-returns-in_err-z-in-Between
 booleans::read_test-returns-in_err-z-in-Between t c =
     let p = err_from_is_err_and c.from_residual-in_err-z-in-Between.result c.from_residual-in_err-z-in-Between.ensures.1 in
-    rw (p.1, p.2) (third-stops _ _ _ _ _ _ _ c.read_value.ensures c.args.beside.octets c.in_ok-x.was c.read_value-2.ensures c.in_ok-y.was
+    rw (p.1, p.2) (third-stops _ _ _ _ _ _ _ c.read_value.ensures c.args.beside.now.octets c.in_ok-x.was c.read_value-2.ensures c.in_ok-y.was
     c.in-Between.is c.read_value-in-Between.ensures c.in_err-z-in-Between.was)
 
 pub booleans::read_test-returns-in-Search : goal.booleans::read_test-returns-in-Search
-booleans::read_test-returns-in-Search t c = search-taken _ _ _ _ _ _ _ c.read_value.ensures c.args.beside.octets c.in_ok-x.was c.read_value-2.ensures
+booleans::read_test-returns-in-Search t c = search-taken _ _ _ _ _ _ _ c.read_value.ensures c.args.beside.now.octets c.in_ok-x.was c.read_value-2.ensures
     c.in_ok-y.was c.in-Search.is c.requires.1 c.both_text.ensures c.tested.ensures
 
 pub booleans::read_test-returns-in_ok-z-in-Between : goal.booleans::read_test-returns-in_ok-z-in-Between
-booleans::read_test-returns-in_ok-z-in-Between t c = between-taken _ _ _ _ _ _ _ c.read_value.ensures c.args.beside.octets c.in_ok-x.was
+booleans::read_test-returns-in_ok-z-in-Between t c = between-taken _ _ _ _ _ _ _ c.read_value.ensures c.args.beside.now.octets c.in_ok-x.was
     c.read_value-2.ensures c.in_ok-y.was c.in-Between.is c.read_value-in-Between.ensures c.in_ok-z-in-Between.was c.requires.1
     c.all_one_kind.ensures c.tested-in-Between.ensures
 
 pub booleans::read_test-returns-in_default-k : goal.booleans::read_test-returns-in_default-k
-booleans::read_test-returns-in_default-k t c = compare-taken _ _ _ _ _ _ _ c.read_value.ensures c.args.beside.octets c.in_ok-x.was c.read_value-2.ensures
+booleans::read_test-returns-in_default-k t c = compare-taken _ _ _ _ _ _ _ c.read_value.ensures c.args.beside.now.octets c.in_ok-x.was c.read_value-2.ensures
     c.in_ok-y.was _ c.requires.0 c.in_default.not-Missing c.in_default-k.not-Search c.in_default-k.not-Between c.requires.1
     c.one_kind.ensures c.tested-in_default-k.ensures
 
@@ -312,13 +312,13 @@ pub values::read_value-returns-in_err-y-in-Arithmetic : goal.values::read_value-
 values::read_value-returns-in_err-y-in-Arithmetic t c =
     let p = err_from_is_err_and c.from_residual-in_err-y-in-Arithmetic.result c.from_residual-in_err-y-in-Arithmetic.ensures.1 in
     rw (p.1, p.2) (other-stops _ _ _ _ _ _ (same-read (leveled value_class _ _ _) (sym c.in_ok-k.was ∙ c.code_at.ensures))
-    c.read_value.ensures c.args.beside.octets c.in_ok-x-in-Arithmetic.was c.in-Arithmetic.is c.read_value-in-Arithmetic.ensures
+    c.read_value.ensures c.args.beside.now.octets c.in_ok-x-in-Arithmetic.was c.in-Arithmetic.is c.read_value-in-Arithmetic.ensures
     c.in_err-y-in-Arithmetic.was)
 
 pub values::read_value-returns-in-Arithmetic : goal.values::read_value-returns-in-Arithmetic
 unfolding environment_of
 values::read_value-returns-in-Arithmetic t c = arithmetic-taken _ _ _ _ _ _
-    (same-read (leveled value_class _ _ _) (sym c.in_ok-k.was ∙ c.code_at.ensures)) c.read_value.ensures c.args.beside.octets
+    (same-read (leveled value_class _ _ _) (sym c.in_ok-k.was ∙ c.code_at.ensures)) c.read_value.ensures c.args.beside.now.octets
     c.in_ok-x-in-Arithmetic.was c.in-Arithmetic.is c.read_value-in-Arithmetic.ensures c.version-in-Arithmetic.ensures
     c.in_ok-y-in-Arithmetic.was c.arithmetic.ensures
 
@@ -336,7 +336,7 @@ values::read_value-returns-in_err-x-in-Negate t c =
 
 pub values::read_value-returns-in-Negate : goal.values::read_value-returns-in-Negate
 values::read_value-returns-in-Negate t c = negate-taken _ _ _ _ _ _
-    (same-read (leveled value_class _ _ _) (sym c.in_ok-k.was ∙ c.code_at.ensures)) c.read_value-in-Negate.ensures c.args.beside.octets
+    (same-read (leveled value_class _ _ _) (sym c.in_ok-k.was ∙ c.code_at.ensures)) c.read_value-in-Negate.ensures c.args.beside.now.octets
     c.in_ok-x-in-Negate.was c.in-Negate.is c.negation.ensures
 
 pub values::read_value-read_statistic-requires : goal.values::read_value-read_statistic-requires

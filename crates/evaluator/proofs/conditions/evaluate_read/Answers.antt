@@ -4,6 +4,7 @@ use lib.Seq.{length-take-le}
 use borrow.Author.Rules.{rules}
 use Rattle.std.specs.Prelude.{Err}
 use Rattle.wire.specs.Limits.{max_depth}
+use Rattle.inputs.proofs.NotedLaws.{none-noted}
 use Rattle.evaluator.specs.AfterReading.{settled}
 use Rattle.evaluator.specs.Slices.{Fits, booleans_of}
 use Rattle.evaluator.proofs.Outcomes.{no-condition, condition-ready}
@@ -37,7 +38,7 @@ slice_bounds-slices-end c =
 pub invariant_of-walk : goal.invariant_of-walk
 invariant_of-walk c =
     let k = fits-there (condition-ready c.requires.read _ _ _ _ c.number_at-at.ensures c.if-at-eq0.false c.prepare.ensures) _ c.in_ok-n.was in
-    record { fits = subst (λ g. Fits g.bindings g.runs) (sym c.slices-slices.ensures) (k c.requires.bytes); noted = c.noted-fields.ensures }
+    record { fits = subst (λ g. Fits g.bindings g.runs) (sym c.slices-slices.ensures) (k c.requires.bytes); noted = c.note.ensures (none-noted c.slices-slices.result.dictionary.now 256) }
 
 pub answer_of-requires : goal.answer_of-requires
 answer_of-requires c =

@@ -5,6 +5,7 @@ use borrow.Author.Rules.{rules}
 use Rattle.std.specs.Prelude.{Err}
 use Rattle.wire.specs.Limits.{max_depth}
 use Rattle.values.specs.Values.{valued}
+use Rattle.inputs.proofs.NotedLaws.{none-noted}
 use Rattle.evaluator.specs.Answers.{answer_in, settled_value}
 use Rattle.evaluator.specs.Slices.{Fits, values_of, lent_of}
 use Rattle.evaluator.proofs.Outcomes.{no_row, no_value, value-ready, place-told, no-place}
@@ -44,7 +45,7 @@ slice_bounds-slices-end c =
 pub invariant_of-walk : goal.invariant_of-walk
 invariant_of-walk c =
     let k = fits-there (value-ready c.requires.read _ _ _ _ (omega (arith, c.if-x-row.false)) _ (place-told _ _ (sym c.from_value.ensures ∙ c.in-Some.is)) c.prepare.ensures) _ c.in_ok-n.was in
-    record { fits = subst (λ g. Fits g.bindings g.runs) (sym c.slices-slices.ensures) (k c.requires.bytes); noted = c.noted-fields.ensures }
+    record { fits = subst (λ g. Fits g.bindings g.runs) (sym c.slices-slices.ensures) (k c.requires.bytes); noted = c.note.ensures (none-noted c.slices-slices.result.dictionary.now 256) }
 
 pub value_answer-requires : goal.value_answer-requires
 value_answer-requires c =

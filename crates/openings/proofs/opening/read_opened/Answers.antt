@@ -19,7 +19,7 @@ returns-in-Send c = λ e ready. rw c.in-Send.is (heading-coded (λ k. absurd-eq 
 pub returns-in-Store : goal.returns-in-Store
 unfolding environment_of
 returns-in-Store c = λ e ready. rw c.in-Store.is (heading-coded (λ k. absurd-eq (cc))
-    (opens-store ready c.args.beside.octets c.read_stream-declared.result (c.read_stream-declared.ensures ready.is-proper) c.update-in-Store.ensures e))
+    (opens-store ready c.args.beside.now.octets c.read_stream-declared.result (c.read_stream-declared.ensures ready.is-proper) c.update-in-Store.ensures e))
 
 pub returns-in-Label : goal.returns-in-Label
 returns-in-Label c = λ e ready. rw c.in-Label.is (heading-coded (λ k. absurd-eq (cc)) (c.read_label.ensures _ _ _ ready))

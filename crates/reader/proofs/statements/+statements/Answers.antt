@@ -16,7 +16,7 @@ read_coded-returns-in_err-first-in-Loop-clause-read t c =
     let e : c.from_residual.result ≡ Err c.in_err-first-in-Loop.field-0.0 = search rules in
     let p = plain-has c.args.x.code c.in-Loop.is in
     rw e (plain-stopped _ c.requires.given.octets _ _ (level_below c.args.x.after c.args.level) _ c.requires.here refl p.0 p.1
-    (c.read_plain.ensures c.args.beside.dictionary.now) c.in_err-first-in-Loop.was)
+    (c.read_plain.ensures c.args.beside.now.dictionary.now) c.in_err-first-in-Loop.was)
 
 pub read_coded-read_statement-requires : goal.read_coded-read_statement-requires
 read_coded-read_statement-requires t c =
@@ -24,9 +24,9 @@ read_coded-read_statement-requires t c =
     rw c.below-inner.ensures (
       omega (arith, c.decreases, c.requires.deep),
       (
-        plain-given _ c.requires.given.octets (environment_in c.args.beside) (scope_in c.args.beside c.args.scope.now)
+        plain-given _ c.requires.given.octets (environment_in c.args.beside.now) (scope_in c.args.beside.now c.args.scope.now)
             (level_below c.args.x.after c.args.level) _ c.requires.here refl p.0 p.1
-            (c.read_plain.ensures c.args.beside.dictionary.now) c.in_ok-first-in-Loop.was c.requires.given (omega arith),
+            (c.read_plain.ensures c.args.beside.now.dictionary.now) c.in_ok-first-in-Loop.was c.requires.given (omega arith),
         c.requires.given.statements_few,
       ),
     )
@@ -35,10 +35,10 @@ pub read_coded-returns-in-Assignment-clause-read : goal.read_coded-returns-in-As
 read_coded-returns-in-Assignment-clause-read t c = assignment-coded _ _ _ _ _ c.in-Assignment.is (rw c.below-inner.ensures at c.read_assignment.ensures)
 
 pub read_coded-returns-in-Erase-clause-read : goal.read_coded-returns-in-Erase-clause-read
-read_coded-returns-in-Erase-clause-read t c = erase-coded _ _ _ _ _ c.in-Erase.is (c.erase.ensures c.args.beside.dictionary.now)
+read_coded-returns-in-Erase-clause-read t c = erase-coded _ _ _ _ _ c.in-Erase.is (c.erase.ensures c.args.beside.now.dictionary.now)
 
 pub read_coded-returns-in-Leave-clause-read : goal.read_coded-returns-in-Leave-clause-read
-read_coded-returns-in-Leave-clause-read t c = leave-coded _ _ _ _ _ c.in-Leave.is (c.leave.ensures c.args.beside.dictionary.now)
+read_coded-returns-in-Leave-clause-read t c = leave-coded _ _ _ _ _ c.in-Leave.is (c.leave.ensures c.args.beside.now.dictionary.now)
 
 pub read_coded-returns-in-Begin-clause-read : goal.read_coded-returns-in-Begin-clause-read
 read_coded-returns-in-Begin-clause-read t c =
@@ -57,7 +57,7 @@ pub read_coded-returns-in_ok-first-in-Loop-clause-read : goal.read_coded-returns
 read_coded-returns-in_ok-first-in-Loop-clause-read t c =
     let p = plain-has c.args.x.code c.in-Loop.is in
     plain-wrote _ c.requires.given.octets _ _ (level_below c.args.x.after c.args.level) _ c.requires.here refl p.0 p.1
-    (c.read_plain.ensures c.args.beside.dictionary.now) c.in_ok-first-in-Loop.was (rw c.below-inner.ensures at c.read_statement.ensures.read)
+    (c.read_plain.ensures c.args.beside.now.dictionary.now) c.in_ok-first-in-Loop.was (rw c.below-inner.ensures at c.read_statement.ensures.read)
 
 pub read_if-returns-in_err-first-clause-read : goal.read_if-returns-in_err-first-clause-read
 read_if-returns-in_err-first-clause-read t c =
@@ -120,35 +120,35 @@ read_select-loop-init t c = record { kept = search rules; from = receives-start 
 pub read_select-returns-in_err-m-clause-read : goal.read_select-returns-in_err-m-clause-read
 read_select-returns-in_err-m-clause-read t c =
     let e : c.from_residual.result ≡ Err c.in_err-m.field-0.0 = search rules in
-    rw e (turn-refused c.loop.invariant.from (c.receive_at.ensures c.args.beside.dictionary.now) (omega (arith, c.loop-test.true)) c.in_err-m.was)
+    rw e (turn-refused c.loop.invariant.from (c.receive_at.ensures c.args.beside.now.dictionary.now) (omega (arith, c.loop-test.true)) c.in_err-m.was)
 
 pub read_select-below-requires : goal.read_select-below-requires
-read_select-below-requires t c = (turn-way c.loop.invariant.from (c.receive_at.ensures c.args.beside.dictionary.now) c.in_ok-m.was).deep
+read_select-below-requires t c = (turn-way c.loop.invariant.from (c.receive_at.ensures c.args.beside.now.dictionary.now) c.in_ok-m.was).deep
 
 pub read_select-read_statement-one-requires : goal.read_select-read_statement-one-requires
 read_select-read_statement-one-requires t c = rw c.below.ensures (
   omega (arith, c.decreases),
   (
-    turn-given c.loop.invariant.from (c.receive_at.ensures c.args.beside.dictionary.now) c.in_ok-m.was,
-    (turn-way c.loop.invariant.from (c.receive_at.ensures c.args.beside.dictionary.now) c.in_ok-m.was).few,
+    turn-given c.loop.invariant.from (c.receive_at.ensures c.args.beside.now.dictionary.now) c.in_ok-m.was,
+    (turn-way c.loop.invariant.from (c.receive_at.ensures c.args.beside.now.dictionary.now) c.in_ok-m.was).few,
   ),
 )
 
 pub read_select-returns-in_err-at-clause-read : goal.read_select-returns-in_err-at-clause-read
 read_select-returns-in_err-at-clause-read t c =
     let e : c.from_residual-in_err-at.result ≡ Err c.in_err-at.field-0.0 = search rules in
-    rw e (turn_stopped c.loop.invariant.from (c.receive_at.ensures c.args.beside.dictionary.now) c.in_ok-m.was (omega (arith, c.loop-test.true)) c.below.ensures
+    rw e (turn_stopped c.loop.invariant.from (c.receive_at.ensures c.args.beside.now.dictionary.now) c.in_ok-m.was (omega (arith, c.loop-test.true)) c.below.ensures
     c.put_boolean.ensures c.read_statement-one.ensures.read c.in_err-at.was)
 
 pub read_select-returns-in_err-after-clause-read : goal.read_select-returns-in_err-after-clause-read
 read_select-returns-in_err-after-clause-read t c =
     let e : c.from_residual-in_err-after.result ≡ Err c.in_err-after.field-0.0 = search rules in
-    rw e (turn-cut c.loop.invariant.from (c.receive_at.ensures c.args.beside.dictionary.now) c.in_ok-m.was (omega (arith, c.loop-test.true)) c.below.ensures
+    rw e (turn-cut c.loop.invariant.from (c.receive_at.ensures c.args.beside.now.dictionary.now) c.in_ok-m.was (omega (arith, c.loop-test.true)) c.below.ensures
     c.put_boolean.ensures c.read_statement-one.ensures.read c.requires.1 c.finish.ensures c.in_ok-at.was c.ending_at.ensures c.in_err-after.was)
 
 pub read_select-returns-in-Some-clause-read : goal.read_select-returns-in-Some-clause-read
 read_select-returns-in-Some-clause-read t c =
-    turn-done c.loop.invariant.from (c.receive_at.ensures c.args.beside.dictionary.now) c.in_ok-m.was (omega (arith, c.loop-test.true)) c.below.ensures
+    turn-done c.loop.invariant.from (c.receive_at.ensures c.args.beside.now.dictionary.now) c.in_ok-m.was (omega (arith, c.loop-test.true)) c.below.ensures
     c.put_boolean.ensures c.read_statement-one.ensures.read c.requires.1 c.finish.ensures c.in_ok-at.was c.ending_at.ensures
     (c.in_ok-after.was ∙ ap Ok c.in-Some.is)
 
@@ -157,7 +157,7 @@ read_select-loop-preserved t c =
     let one : max_statements - (c.loop.counter + 1) ≡ max_statements - c.loop.counter - 1 = omega arith in
     record {
       kept = search rules;
-      from = rw one (turn-goes c.loop.invariant.from (c.receive_at.ensures c.args.beside.dictionary.now) c.in_ok-m.was (omega (arith, c.loop-test.true))
+      from = rw one (turn-goes c.loop.invariant.from (c.receive_at.ensures c.args.beside.now.dictionary.now) c.in_ok-m.was (omega (arith, c.loop-test.true))
           c.below.ensures c.put_boolean.ensures c.read_statement-one.ensures.read c.requires.1 c.finish.ensures c.in_ok-at.was c.ending_at.ensures
           (search rules) (c.in_ok-after.was ∙ ap Ok c.in_default.is));
     }
