@@ -1,12 +1,13 @@
 // Whether a dictionary is proper, and if not the first entry at fault.
-ghost use Rattle.std.specs.Prelude.{◌≡◌, ℕ, Bool, ◌+◌, ◌≤◌, ◌<◌, length};
+ghost use Rattle.std.specs.Prelude.{◌≡◌, ℕ, Bool, ◌+◌, ◌≤◌, ◌<◌, ◌&&◌, eqb, length};
 ghost use Rattle.wire.specs.Lists.{any_of};
 ghost use Rattle.wire.specs.Options.{option_of};
 ghost use Rattle.dictionary.specs.Format.{fitting};
-ghost use Rattle.dictionary.specs.Dictionary.{whole_entry, dictionary};
+ghost use Rattle.dictionary.specs.Dictionary.{whole_entry, dictionary, kind_at, name_at};
+ghost use Rattle.wire.specs.Lists.{same_bytes};
 ghost use Rattle.wire.specs.Words.{byte_at, word_at};
 ghost use Rattle.wire.specs.Limits.{max_dictionary_bytes};
-ghost use Rattle.wire.specs.Entries.{field_type, field_name};
+ghost use Rattle.wire.specs.Entries.{field_type, field_name, field_entry_kind};
 ghost use Rattle.wire.specs.declared.codes.FieldType.TheVariants.{Plain};
 ghost use Rattle.wire.specs.declared.codes.DataType.TheVariants.{Number as IsNumber};
 ghost use Rattle.wire.specs.Classes.{field_class};
@@ -82,18 +83,16 @@ fn same_relation(d: &[u8], p: usize, q: usize) -> bool
             || same_bytes(name_at(d, q + RELATION_NAME), name_at(d, p + RELATION_NAME)))
 }
 
-// The entry at q is a field's with the name of the one at p.
-// Kept: as above.
-#[tactic(auto, unfolding(crate::specs::Internal::Walk::same_field))]
-fn same_field(d: &[u8], p: usize, q: usize) -> bool
-    requires { (p ≤ max_dictionary_bytes) × (q ≤ max_dictionary_bytes) }
-    ensures { result ≡ same_field d.now p q }
+// The entry at q is a field's with a name. Kept: as above, of a place and a name.
+fn same_field(d: &[u8], name: &[u8], q: usize) -> bool
+    requires { q ≤ max_dictionary_bytes }
+    ensures { result ≡ (eqb (kind_at d.now q) field_entry_kind && same_bytes (name_at d.now (q + field_name)) name.now) }
 {
-    same_bytes(name_at(d, q + FIELD_NAME), name_at(d, p + FIELD_NAME))
-        && word_at(d, q + ENTRY_KIND) == FIELD_ENTRY
+    same_bytes(name_at(d, q + FIELD_NAME), name) && word_at(d, q + ENTRY_KIND) == FIELD_ENTRY
 }
 
-// Whether an entry from a place on and before p has what must not repeat.
+// Whether an entry from a place on and before p has what must not repeat. In a frame of its own: laid into the check, the search takes longer.
+#[inline(never)]
 fn taken<F: Fn(usize) -> bool>(d: &[u8], from: usize, p: usize, same: F) -> bool
     requires short { (length d.now ≤ max_dictionary_bytes) × (p < length d.now) }
     requires callable { (q : ℕ) → q ≤ max_dictionary_bytes → F.pre same q }
@@ -124,17 +123,18 @@ fn relation_good(d: &[u8], p: usize, m: Met) -> bool
         && !taken(d, 0, p, |q| same_relation(d, p, q))
 }
 
-#[tactic(auto, unfolding(crate::specs::Internal::Walk::field_good))]
+#[tactic(auto, unfolding(crate::specs::Internal::Walk::field_good, crate::specs::Internal::Walk::same_field))]
 fn field_good(d: &[u8], p: usize, t: FieldType, m: Met) -> bool
     requires { (length d.now ≤ max_dictionary_bytes) × (p < length d.now) }
     ensures { result ≡ field_good d.now p t m }
 {
+    let name = name_at(d, p + FIELD_NAME);
     whole_entry(d, p, FIELD_NAME)
         && word_at(d, p + ENTRY_ID) as usize == m.fields
         && fits(t, byte_at(d, p + FIELD_SCALE), word_at(d, p + FIELD_SIZE))
-        && good_name(name_at(d, p + FIELD_NAME))
+        && good_name(name)
         && m.fields < MAX_FIELDS
-        && !taken(d, m.last, p, |q| same_field(d, p, q))
+        && !taken(d, m.last, p, |q| same_field(d, name, q))
 }
 
 #[tactic(auto, unfolding(crate::specs::Internal::Walk::relation_met))]
