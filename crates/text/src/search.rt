@@ -19,6 +19,8 @@ fn starting_any_case(a: &[u8], b: &[u8]) -> bool
     true
 }
 
+// In a frame of its own: laid into its callers, it takes a quarter more time.
+#[inline(never)]
 pub(crate) fn containing(a: &[u8], b: &[u8]) -> bool
     ensures { result ≡ tests.containing a.now b.now }
 {
