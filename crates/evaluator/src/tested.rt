@@ -12,12 +12,13 @@ use values::{Lent, Stop, Tested};
 // The bytes of 32 runs of 65,535 bytes: so many runs can have at most.
 pub const RUN_BYTES: usize = 2097120;
 
-// What a walk goes over: a request, a dictionary, the rows of the bindings and of the parameters, message images, records and runs.
+// What a walk goes over: the rows of the bindings, a request, a dictionary, the rows of the parameters, message images, records and runs.
+// The bindings come first, since a walk over a run makes these anew with its own: what stands before them would be copied twice.
 #[derive(Clone, Copy)]
 pub struct Slices<'a> {
+    pub bindings: &'a [u32],
     pub request: &'a [u8],
     pub dictionary: &'a [u8],
-    pub bindings: &'a [u32],
     pub parameters: &'a [u32],
     pub images: &'a [u8],
     pub records: &'a [u8],

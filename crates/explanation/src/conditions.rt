@@ -26,7 +26,7 @@ fn explain_in<const ROWS: usize>(x: Slices, at: usize, tests: &mut [u32]) -> Exp
     ensures { Lists (settled_in (walk_over (slices_in x.entry) at)) tests.old tests.new result }
 {
     let mut noted = [0u32; ROWS];
-    match explain_at(x, MAX_DEPTH, at, &mut noted, 0) {
+    match explain_at(&x, MAX_DEPTH, at, &mut noted, 0) {
         Ok(done) => list_rows(&noted[..done.rows], tests),
         Err(stop) => Err(refused_by(stop)),
     }

@@ -17,14 +17,14 @@ use wire::codes::{BooleanCode, Connective};
 // The boolean whose code stands at a place, with so many levels left, and n rows laid before.
 #[cycle(walk)]
 pub(crate) fn explain_at(
-    x: Slices,
+    x: &Slices,
     levels: usize,
     at: usize,
     noted: &mut [u32],
     n: usize,
 ) -> Result<Noted, Stop>
-    requires { Room (slices_in x) noted.old n }
-    ensures { Notes (explains (slices_in x.entry) (length noted.old) levels n at) n noted.old noted.new result }
+    requires { Room (slices_in x.now) noted.old n }
+    ensures { Notes (explains (slices_in x.now) (length noted.old) levels n at) n noted.old noted.new result }
 {
     if levels == 0 {
         return Err(Stop::Stray);
@@ -39,15 +39,15 @@ pub(crate) fn explain_at(
 // What stands under a code at a place before the end, with so many levels left for the boolean itself.
 #[cycle(walk)]
 fn explain_under(
-    x: Slices,
+    x: &Slices,
     levels: usize,
     at: usize,
     code: BooleanCode,
     noted: &mut [u32],
     n: usize,
 ) -> Result<Noted, Stop>
-    requires { Room (slices_in x) noted.old n × (0 < levels) × (at < length x.request.now) }
-    ensures { Notes (under (slices_in x.entry) (length noted.old) levels n at code) n noted.old noted.new result }
+    requires { Room (slices_in x.now) noted.old n × (0 < levels) × (at < length x.now.request.now) }
+    ensures { Notes (under (slices_in x.now) (length noted.old) levels n at code) n noted.old noted.new result }
 {
     match code {
         BooleanCode::Connect(c) => both_sides(x, levels - 1, at + 1, c, noted, n),
@@ -62,7 +62,7 @@ fn explain_under(
         | BooleanCode::Search(_)
         | BooleanCode::Between
         | BooleanCode::Missing
-        | BooleanCode::Quantify(_) => note_test(tested_at(x, levels, at), at, noted, n),
+        | BooleanCode::Quantify(_) => note_test(tested_at(*x, levels, at), at, noted, n),
     }
 }
 
@@ -70,15 +70,15 @@ fn explain_under(
 // Both sides of an and or an or, the first of which stands at a place: each is worked out, and the rows of those needed stay.
 #[cycle(walk)]
 fn both_sides(
-    x: Slices,
+    x: &Slices,
     levels: usize,
     at: usize,
     code: Connective,
     noted: &mut [u32],
     n: usize,
 ) -> Result<Noted, Stop>
-    requires { Room (slices_in x) noted.old n }
-    ensures { Notes (sides (slices_in x.entry) (length noted.old) levels code n at) n noted.old noted.new result }
+    requires { Room (slices_in x.now) noted.old n }
+    ensures { Notes (sides (slices_in x.now) (length noted.old) levels code n at) n noted.old noted.new result }
 {
     let first = explain_at(x, levels, at, noted, n)?;
     let second = explain_at(x, levels, first.end, noted, first.rows)?;

@@ -4,7 +4,10 @@ ghost use Rattle.std.specs.Prelude.{◌≡◌, ◌+◌};
 ghost use Rattle.grammar.specs.Bytes.{statistic_code};
 ghost use Rattle.references.specs.Promises.{environment_of};
 ghost use Rattle.scopes.specs.Scopes.{scope_of};
-ghost use Rattle.expressions.specs.Promises.{Ready, StatisticRead, ValueRead};
+ghost use Rattle.grammar.specs.Reader.{read};
+ghost use Rattle.wire.specs.Classes.{value_class};
+ghost use Rattle.wire.specs.declared.codes.ValueCode.TheVariants.{Arithmetic, Negate, Count};
+ghost use Rattle.expressions.specs.Promises.{Ready, StatisticRead, ValueRead, leveled};
 
 use crate::clauses::read_clauses;
 use crate::fits::{arithmetic, counted, negation};
@@ -19,7 +22,7 @@ use references::reference::read_reference;
 use scopes::scope::SCOPE;
 use tables::contexts::close;
 use wire::blr::{AVERAGE, COUNT, MAXIMUM, MINIMUM, TOTAL};
-use wire::codes::{Statistic, ValueCode};
+use wire::codes::{Operator, Statistic, ValueCode};
 
 // Kept: no `From` for u8, as quantifier_code of booleans.
 fn statistic_code(k: Statistic) -> u8
@@ -61,6 +64,72 @@ fn read_statistic(
     Ok((number, end))
 }
 
+// The two values of an operator that stands at a cursor, and what comes of them. In a frame of its own, as in the two below: what it works with
+// would stand in that of each value.
+#[inline(never)]
+#[cycle(reading)]
+fn read_arithmetic(
+    beside: &Beside,
+    scope: &[u16; SCOPE],
+    contexts: &mut [u32],
+    o: Operator,
+    c: Cursor,
+    first: Cursor,
+    levels: usize,
+) -> Read<Option<Kind>>
+    requires { leveled value_class levels beside.now.request.now c ≡ read (Arithmetic o) first }
+    ensures { Ready beside.now.request.now beside.now.dictionary.now scope.now c levels →
+        ValueRead levels (environment_of beside.now.dictionary.now beside.now.around.now)
+        (scope_of beside.now.dictionary.now scope.now) beside.now.request.now c
+        contexts.old contexts.new result }
+{
+    let below = levels - 1;
+    let (x, second) = read_value(beside, scope, contexts, first, below)?;
+    let (y, after) = read_value(beside, scope, contexts, second, below)?;
+    arithmetic(version(beside.around), o, x, y, c.at, after)
+}
+
+// The number of a negation that stands at a cursor.
+#[inline(never)]
+#[cycle(reading)]
+fn read_negation(
+    beside: &Beside,
+    scope: &[u16; SCOPE],
+    contexts: &mut [u32],
+    c: Cursor,
+    first: Cursor,
+    levels: usize,
+) -> Read<Option<Kind>>
+    requires { leveled value_class levels beside.now.request.now c ≡ read Negate first }
+    ensures { Ready beside.now.request.now beside.now.dictionary.now scope.now c levels →
+        ValueRead levels (environment_of beside.now.dictionary.now beside.now.around.now)
+        (scope_of beside.now.dictionary.now scope.now) beside.now.request.now c
+        contexts.old contexts.new result }
+{
+    let (x, after) = read_value(beside, scope, contexts, first, levels - 1)?;
+    negation(x, c.at, after)
+}
+
+// The rse of a count that stands at a cursor.
+#[inline(never)]
+#[cycle(reading)]
+fn read_count(
+    beside: &Beside,
+    scope: &[u16; SCOPE],
+    contexts: &mut [u32],
+    c: Cursor,
+    first: Cursor,
+    levels: usize,
+) -> Read<Option<Kind>>
+    requires { leveled value_class levels beside.now.request.now c ≡ read Count first }
+    ensures { Ready beside.now.request.now beside.now.dictionary.now scope.now c levels →
+        ValueRead levels (environment_of beside.now.dictionary.now beside.now.around.now)
+        (scope_of beside.now.dictionary.now scope.now) beside.now.request.now c
+        contexts.old contexts.new result }
+{
+    counted(read_rse(beside, scope, contexts, COUNT, first, levels - 1))
+}
+
 // A value, with so many levels left for it.
 #[cycle(reading)]
 pub fn read_value(
@@ -76,7 +145,6 @@ pub fn read_value(
         contexts.old contexts.new result }
 {
     let (k, first) = code_at::<ValueCode>(beside.request, c, levels)?;
-    let below = levels - 1;
     match k {
         ValueCode::Literal => {
             return read_literal(beside.request, version(beside.around), first);
@@ -94,19 +162,16 @@ pub fn read_value(
             );
         }
         ValueCode::Arithmetic(o) => {
-            let (x, second) = read_value(beside, scope, contexts, first, below)?;
-            let (y, after) = read_value(beside, scope, contexts, second, below)?;
-            return arithmetic(version(beside.around), o, x, y, c.at, after);
+            return read_arithmetic(beside, scope, contexts, o, c, first, levels);
         }
         ValueCode::Negate => {
-            let (x, after) = read_value(beside, scope, contexts, first, below)?;
-            return negation(x, c.at, after);
+            return read_negation(beside, scope, contexts, c, first, levels);
         }
         ValueCode::Statistic(s) => {
-            return read_statistic(beside, scope, contexts, s, c.at, first, below);
+            return read_statistic(beside, scope, contexts, s, c.at, first, levels - 1);
         }
         ValueCode::Count => {
-            return counted(read_rse(beside, scope, contexts, COUNT, first, below));
+            return read_count(beside, scope, contexts, c, first, levels);
         }
     }
 }

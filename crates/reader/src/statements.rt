@@ -129,7 +129,8 @@ fn read_coded(
     }
 }
 
-// An assignment: a value, and a target of its kind.
+// An assignment: a value, and a target of its kind. In a frame of its own: what it works with would stand in that of each statement.
+#[inline(never)]
 fn read_assignment(
     beside: &Beside,
     scope: &[u16; SCOPE],
@@ -156,7 +157,8 @@ fn read_assignment(
 }
 
 // A heading, or the streams of a for with its clauses, whose boolean gets a number. What is read is where its scope begins; then stands
-// its statement.
+// its statement. In a frame of its own, as above.
+#[inline(never)]
 fn read_heading(
     beside: &Beside,
     rows: &mut Rows,

@@ -33,7 +33,7 @@ impl Pass {
         Pass { due: 0, ..self }
     }
 
-    // On over the code of a form at the place. In the frame of its caller: a scan has matched the form, and a call took half of its time.
+    // On over the code of a form at the place. In the frame of its caller, which has matched the form already.
     #[inline(always)]
     #[tactic(auto, unfolding(crate::specs::Passes::pass_by))]
     pub(crate) fn over(self, request: &[u8], form: Form) -> Pass

@@ -1,4 +1,4 @@
-use mathlib.Core.Path.{sym, ◌∙◌}
+use mathlib.Core.Path.{refl, sym, ap, ◌∙◌}
 use native.Mathlib.Omega.{arith}
 use borrow.Author.Rules.{rules}
 use Rattle.std.proofs.lemmas.Result.{err_from_is_err_and}
@@ -17,7 +17,7 @@ use Rattle.expressions.proofs.+reading.Goals as goal
 use Prim.Native.Nat.{◌+◌, ◌-◌, ◌*◌, ◌<◌}
 use Rattle.references.specs.Promises.{environment_of}
 use Rattle.wire.specs.Classes.{value_class, boolean_class, direction_class}
-use Rattle.grammar.specs.Reader.{coded}
+use Rattle.grammar.specs.Reader.{coded, read}
 use Rattle.grammar.specs.Rses.{count_byte}
 use Rattle.grammar.specs.Internal.Steps.{same}
 use Rattle.grammar.proofs.StepLaws.{answer-refused, same-read, cursor-read, cursor-refused}
@@ -276,8 +276,8 @@ values::read_value-returns-in_err-k t c =
     let p = err_from_is_err_and c.from_residual.result c.from_residual.ensures.1 in
     rw (p.1, p.2) (λ g. value-refused _ _ _ _ _ (answer-refused same (leveled value_class _ _ _) (sym c.in_err-k.was ∙ c.code_at.ensures)))
 
-pub values::read_value-overflow_sub-below : goal.values::read_value-overflow_sub-below
-values::read_value-overflow_sub-below t c =
+pub values::read_value-overflow_sub-levels : goal.values::read_value-overflow_sub-levels
+values::read_value-overflow_sub-levels t c =
     let stands = leveled-stands value_class _ _ _ (same-read (leveled value_class _ _ _) (sym c.in_ok-k.was ∙ c.code_at.ensures)) in
     omega (arith, stands.some)
 
@@ -290,54 +290,23 @@ pub values::read_value-returns-in-Reference : goal.values::read_value-returns-in
 values::read_value-returns-in-Reference t c = λ g. reference-wrote _ _ _ _ _
     (same-read (leveled value_class _ _ _) (sym c.in_ok-k.was ∙ c.code_at.ensures)) c.in-Reference.is c.read_reference.ensures
 
-pub values::read_value-read_value-requires : goal.values::read_value-read_value-requires
-values::read_value-read_value-requires t c =
+pub values::read_value-read_arithmetic-requires : goal.values::read_value-read_arithmetic-requires
+values::read_value-read_arithmetic-requires t c =
     let stands = leveled-stands value_class _ _ _ (same-read (leveled value_class _ _ _) (sym c.in_ok-k.was ∙ c.code_at.ensures)) in
-    let falls : (c.args.levels - 1) * 1024 < t = omega (arith, c.decreases, stands.some) in
-    search (rules, falls)
-
-pub values::read_value-returns-in_err-x-in-Arithmetic : goal.values::read_value-returns-in_err-x-in-Arithmetic
-values::read_value-returns-in_err-x-in-Arithmetic t c =
-    let p = err_from_is_err_and c.from_residual-in_err-x-in-Arithmetic.result c.from_residual-in_err-x-in-Arithmetic.ensures.1 in
-    rw (p.1, p.2) (operand-stops _ _ _ _ _ _ (same-read (leveled value_class _ _ _) (sym c.in_ok-k.was ∙ c.code_at.ensures))
-    c.read_value.ensures c.in-Arithmetic.is c.in_err-x-in-Arithmetic.was)
-
-pub values::read_value-read_value-requires-in-Arithmetic : goal.values::read_value-read_value-requires-in-Arithmetic
-values::read_value-read_value-requires-in-Arithmetic t c =
-    let stands = leveled-stands value_class _ _ _ (same-read (leveled value_class _ _ _) (sym c.in_ok-k.was ∙ c.code_at.ensures)) in
-    let falls : (c.args.levels - 1) * 1024 < t = omega (arith, c.decreases, stands.some) in
-    search (rules, falls)
-
-pub values::read_value-returns-in_err-y-in-Arithmetic : goal.values::read_value-returns-in_err-y-in-Arithmetic
-values::read_value-returns-in_err-y-in-Arithmetic t c =
-    let p = err_from_is_err_and c.from_residual-in_err-y-in-Arithmetic.result c.from_residual-in_err-y-in-Arithmetic.ensures.1 in
-    rw (p.1, p.2) (other-stops _ _ _ _ _ _ (same-read (leveled value_class _ _ _) (sym c.in_ok-k.was ∙ c.code_at.ensures))
-    c.read_value.ensures c.args.beside.now.octets c.in_ok-x-in-Arithmetic.was c.in-Arithmetic.is c.read_value-in-Arithmetic.ensures
-    c.in_err-y-in-Arithmetic.was)
+    let falls : (c.args.levels - 1) * 1024 + 1 < t = omega (arith, c.decreases, stands.some) in
+    (falls, same-read (leveled value_class _ _ _) (sym c.in_ok-k.was ∙ c.code_at.ensures) ∙ ap (λ k. read k c.in_ok-k.first) c.in-Arithmetic.is)
 
 pub values::read_value-returns-in-Arithmetic : goal.values::read_value-returns-in-Arithmetic
-unfolding environment_of
-values::read_value-returns-in-Arithmetic t c = arithmetic-taken _ _ _ _ _ _
-    (same-read (leveled value_class _ _ _) (sym c.in_ok-k.was ∙ c.code_at.ensures)) c.read_value.ensures c.args.beside.now.octets
-    c.in_ok-x-in-Arithmetic.was c.in-Arithmetic.is c.read_value-in-Arithmetic.ensures c.version-in-Arithmetic.ensures
-    c.in_ok-y-in-Arithmetic.was c.arithmetic.ensures
+values::read_value-returns-in-Arithmetic t c = c.read_arithmetic.ensures
 
-pub values::read_value-read_value-requires-in-Negate : goal.values::read_value-read_value-requires-in-Negate
-values::read_value-read_value-requires-in-Negate t c =
+pub values::read_value-read_negation-requires : goal.values::read_value-read_negation-requires
+values::read_value-read_negation-requires t c =
     let stands = leveled-stands value_class _ _ _ (same-read (leveled value_class _ _ _) (sym c.in_ok-k.was ∙ c.code_at.ensures)) in
-    let falls : (c.args.levels - 1) * 1024 < t = omega (arith, c.decreases, stands.some) in
-    search (rules, falls)
-
-pub values::read_value-returns-in_err-x-in-Negate : goal.values::read_value-returns-in_err-x-in-Negate
-values::read_value-returns-in_err-x-in-Negate t c =
-    let p = err_from_is_err_and c.from_residual-in_err-x-in-Negate.result c.from_residual-in_err-x-in-Negate.ensures.1 in
-    rw (p.1, p.2) (negate-stops _ _ _ _ _ _ (same-read (leveled value_class _ _ _) (sym c.in_ok-k.was ∙ c.code_at.ensures))
-    c.read_value-in-Negate.ensures c.in-Negate.is c.in_err-x-in-Negate.was)
+    let falls : (c.args.levels - 1) * 1024 + 1 < t = omega (arith, c.decreases, stands.some) in
+    (falls, same-read (leveled value_class _ _ _) (sym c.in_ok-k.was ∙ c.code_at.ensures) ∙ ap (λ k. read k c.in_ok-k.first) c.in-Negate.is)
 
 pub values::read_value-returns-in-Negate : goal.values::read_value-returns-in-Negate
-values::read_value-returns-in-Negate t c = negate-taken _ _ _ _ _ _
-    (same-read (leveled value_class _ _ _) (sym c.in_ok-k.was ∙ c.code_at.ensures)) c.read_value-in-Negate.ensures c.args.beside.now.octets
-    c.in_ok-x-in-Negate.was c.in-Negate.is c.negation.ensures
+values::read_value-returns-in-Negate t c = c.read_negation.ensures
 
 pub values::read_value-read_statistic-requires : goal.values::read_value-read_statistic-requires
 values::read_value-read_statistic-requires t c =
@@ -349,12 +318,56 @@ pub values::read_value-returns-in-Statistic : goal.values::read_value-returns-in
 values::read_value-returns-in-Statistic t c = statistic-taken _ _ _ _ _ _
     (same-read (leveled value_class _ _ _) (sym c.in_ok-k.was ∙ c.code_at.ensures)) c.in-Statistic.is c.read_statistic.ensures
 
-pub values::read_value-read_rse-requires : goal.values::read_value-read_rse-requires
-values::read_value-read_rse-requires t c =
+pub values::read_value-read_count-requires : goal.values::read_value-read_count-requires
+values::read_value-read_count-requires t c =
     let stands = leveled-stands value_class _ _ _ (same-read (leveled value_class _ _ _) (sym c.in_ok-k.was ∙ c.code_at.ensures)) in
-    let falls : (c.args.levels - 1) * 1024 + 306 < t = omega (arith, c.decreases, stands.some) in
-    search (rules, falls)
+    let falls : (c.args.levels - 1) * 1024 + 307 < t = omega (arith, c.decreases, stands.some) in
+    (falls, same-read (leveled value_class _ _ _) (sym c.in_ok-k.was ∙ c.code_at.ensures) ∙ ap (λ k. read k c.in_ok-k.first) c.in-Count.is)
 
 pub values::read_value-returns-in-Count : goal.values::read_value-returns-in-Count
-values::read_value-returns-in-Count t c = count-taken _ _ _ _ _ _
-    (same-read (leveled value_class _ _ _) (sym c.in_ok-k.was ∙ c.code_at.ensures)) c.in-Count.is c.read_rse.ensures c.counted.ensures
+values::read_value-returns-in-Count t c = c.read_count.ensures
+
+-- ---- what stands under a value's code
+
+pub values::read_arithmetic-overflow_sub-below : goal.values::read_arithmetic-overflow_sub-below
+values::read_arithmetic-overflow_sub-below t c =
+    let stands = leveled-stands value_class _ _ _ c.requires in
+    omega (arith, stands.some)
+
+pub values::read_arithmetic-returns-in_err-x : goal.values::read_arithmetic-returns-in_err-x
+values::read_arithmetic-returns-in_err-x t c =
+    let p = err_from_is_err_and c.from_residual.result c.from_residual.ensures.1 in
+    rw (p.1, p.2) (operand-stops _ _ _ _ _ _ c.requires c.read_value.ensures refl c.in_err-x.was)
+
+pub values::read_arithmetic-returns-in_err-y : goal.values::read_arithmetic-returns-in_err-y
+values::read_arithmetic-returns-in_err-y t c =
+    let p = err_from_is_err_and c.from_residual-in_err-y.result c.from_residual-in_err-y.ensures.1 in
+    rw (p.1, p.2) (other-stops _ _ _ _ _ _ c.requires c.read_value.ensures c.args.beside.now.octets c.in_ok-x.was refl
+    c.read_value-2.ensures c.in_err-y.was)
+
+pub values::read_arithmetic-returns : goal.values::read_arithmetic-returns
+unfolding environment_of
+values::read_arithmetic-returns t c = arithmetic-taken _ _ _ _ _ _ c.requires c.read_value.ensures c.args.beside.now.octets
+    c.in_ok-x.was refl c.read_value-2.ensures c.version.ensures c.in_ok-y.was c.arithmetic.ensures
+
+pub values::read_negation-overflow_sub-levels : goal.values::read_negation-overflow_sub-levels
+values::read_negation-overflow_sub-levels t c =
+    let stands = leveled-stands value_class _ _ _ c.requires in
+    omega (arith, stands.some)
+
+pub values::read_negation-returns-in_err-x : goal.values::read_negation-returns-in_err-x
+values::read_negation-returns-in_err-x t c =
+    let p = err_from_is_err_and c.from_residual.result c.from_residual.ensures.1 in
+    rw (p.1, p.2) (negate-stops _ _ _ _ _ _ c.requires c.read_value.ensures refl c.in_err-x.was)
+
+pub values::read_negation-returns : goal.values::read_negation-returns
+values::read_negation-returns t c = negate-taken _ _ _ _ _ _ c.requires c.read_value.ensures c.args.beside.now.octets
+    c.in_ok-x.was refl c.negation.ensures
+
+pub values::read_count-overflow_sub-levels : goal.values::read_count-overflow_sub-levels
+values::read_count-overflow_sub-levels t c =
+    let stands = leveled-stands value_class _ _ _ c.requires in
+    omega (arith, stands.some)
+
+pub values::read_count-returns : goal.values::read_count-returns
+values::read_count-returns t c = count-taken _ _ _ _ _ _ c.requires refl c.read_rse.ensures c.counted.ensures

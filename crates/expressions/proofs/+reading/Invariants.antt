@@ -1,4 +1,4 @@
-use Prim.Native.Nat.{◌+◌, ◌*◌}
+use Prim.Native.Nat.{◌+◌, ◌-◌, ◌*◌}
 use Rattle.expressions.proofs.+reading.Given as goal
 
 abbrev pub decreases-booleans::read_boolean : goal.decreases-booleans::read_boolean
@@ -24,6 +24,15 @@ decreases-rses::read_rse l = l.levels * 1024 + 306
 
 abbrev pub decreases-values::read_statistic : goal.decreases-values::read_statistic
 decreases-values::read_statistic l = l.levels * 1024 + 306
+
+abbrev pub decreases-values::read_arithmetic : goal.decreases-values::read_arithmetic
+decreases-values::read_arithmetic l = (l.levels - 1) * 1024 + 1
+
+abbrev pub decreases-values::read_count : goal.decreases-values::read_count
+decreases-values::read_count l = (l.levels - 1) * 1024 + 307
+
+abbrev pub decreases-values::read_negation : goal.decreases-values::read_negation
+decreases-values::read_negation l = (l.levels - 1) * 1024 + 1
 
 abbrev pub decreases-values::read_value : goal.decreases-values::read_value
 decreases-values::read_value l = l.levels * 1024

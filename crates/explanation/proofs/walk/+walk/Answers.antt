@@ -26,7 +26,7 @@ both_sides-explain_at-requires-2 t c =
 
 pub both_sides-returns-in_err-second : goal.both_sides-returns-in_err-second
 both_sides-returns-in_err-second t c =
-    let g = slices_in c.args.x in
+    let g = slices_in c.args.x.now in
     let end : c.from_residual-in_err-second.result ≡ Err c.in_err-second.field-0.0 = search rules in
     rw end
     (second-stops c.args.code (λ rows m q. explains g rows c.args.levels m q) c.requires.rows c.in_ok-first.ensures _ c.in_err-second.ensures)
@@ -41,30 +41,30 @@ both_sides-keep_needed-rows-requires t c =
 
 pub both_sides-returns : goal.both_sides-returns
 both_sides-returns t c =
-    let g = slices_in c.args.x in
+    let g = slices_in c.args.x.now in
     sides-noted c.args.code (λ rows m q. explains g rows c.args.levels m q) c.requires.rows
     c.in_ok-first.ensures c.in_ok-second.ensures
     c.settles.ensures c.settles-2.ensures c.keep_needed-rows.ensures c.connection.ensures
 
 pub explain_at-returns-then-levels-eq0 : goal.explain_at-returns-then-levels-eq0
 explain_at-returns-then-levels-eq0 t c =
-    no-level-noted (slices_in c.args.x) (length c.args.noted.now) c.args.levels c.args.n c.args.at c.args.noted.now c.if-levels-eq0.true
+    no-level-noted (slices_in c.args.x.now) (length c.args.noted.now) c.args.levels c.args.n c.args.at c.args.noted.now c.if-levels-eq0.true
 
 pub explain_at-explain_under-requires : goal.explain_at-explain_under-requires
 explain_at-explain_under-requires t c =
     let inside =
-    due-inside (slices_in c.args.x) (length c.args.noted.now) c.args.levels c.args.n c.args.at c.args.noted.now c.if-levels-eq0.false
+    due-inside (slices_in c.args.x.now) (length c.args.noted.now) c.args.levels c.args.n c.args.at c.args.noted.now c.if-levels-eq0.false
     c.byte_at.ensures (sym c.in-Ok.is ∙ c.of.ensures) in
     (omega (arith, c.decreases), (c.requires, omega (arith, c.if-levels-eq0.false), inside))
 
 pub explain_at-returns-in-Ok : goal.explain_at-returns-in-Ok
 explain_at-returns-in-Ok t c =
-    due-noted (slices_in c.args.x) (length c.args.noted.now) c.args.levels c.args.n c.args.at c.args.noted.now c.if-levels-eq0.false
+    due-noted (slices_in c.args.x.now) (length c.args.noted.now) c.args.levels c.args.n c.args.at c.args.noted.now c.if-levels-eq0.false
     c.byte_at.ensures (sym c.in-Ok.is ∙ c.of.ensures) c.explain_under.ensures
 
 pub explain_at-returns-in-Err : goal.explain_at-returns-in-Err
 explain_at-returns-in-Err t c =
-    undue-noted (slices_in c.args.x) (length c.args.noted.now) c.args.levels c.args.n c.args.at c.args.noted.now c.if-levels-eq0.false
+    undue-noted (slices_in c.args.x.now) (length c.args.noted.now) c.args.levels c.args.n c.args.at c.args.noted.now c.if-levels-eq0.false
     c.byte_at.ensures (sym c.in-Err.is ∙ c.of.ensures)
 
 pub explain_under-both_sides-requires : goal.explain_under-both_sides-requires
@@ -96,7 +96,7 @@ explain_under-returns-in_ok-inner-in-Not t c = rw c.in-Not.is (turned-noted c.in
 
 pub explain_under-returns-in-Compare : goal.explain_under-returns-in-Compare
 explain_under-returns-in-Compare t c =
-    let g = slices_in c.args.x in
+    let g = slices_in c.args.x.now in
     let walk = c.tested_at.result in
     single-noted g (length c.args.noted.now) c.args.levels c.args.n c.args.at c.args.code walk c.in-Compare.is
     (tested-there g c.args.levels c.args.at walk c.requires.0.fits c.tested_at.ensures) c.note_test.ensures
